@@ -1,11 +1,12 @@
 //! How the times of `PROGRAM IMAGE run` grow with the number of pieces, beside the same done in plain Rust:
 //! `growth ROUNDS PROGRAM PLAIN PIECES ..`. Build it by `rustc -O`.
 //!
-//! For each number PIECES there are images `ordered-PIECES.img`, `scattered-PIECES.img` and `broken-PIECES.img` of one file and
-//! `pair-PIECES.img` of two, as `bench/image.rs` makes them; `fresh.img` is a fresh image. What a kind of work takes is what the least run
-//! takes that does it, less the least run of the same half that does all the rest. Times are those on a processor, the kernel's for a run
-//! among them, and in the last line those by the clock. A line has for each number and each half the microseconds in all and the nanoseconds of each piece, and
-//! the ratio; and for each half how many times as long a piece takes at the last number as at the first.
+//! For each number PIECES there are images `ordered-PIECES.img`, `scattered-PIECES.img` and `broken-PIECES.img` of one
+//! file and `pair-PIECES.img` of two, as `bench/image.rs` makes them; `fresh.img` is a fresh image. What a kind of work
+//! takes is what the least run takes that does it, less the least run of the same half that does all the rest. Times
+//! are those on a processor, the kernel's for a run among them, and in the last line those by the clock. A line has for
+//! each number and each half the microseconds in all and the nanoseconds of each piece, and the ratio; and for each
+//! half how many times as long a piece takes at the last number as at the first.
 use draws::{Draws, shuffled};
 use runs::{Run, compare, make};
 use std::fs;
@@ -115,8 +116,8 @@ fn clones(count: u64) -> String {
         .collect()
 }
 
-/// Lines of all kinds, some of which are refused. The files are so few and so small that they lie in one leaf, however a tree is cut, and
-/// that no line wants slots.
+/// Lines of all kinds, some of which are refused. The files are so few and so small that they lie in one leaf, however
+/// a tree is cut, and that no line wants slots.
 fn mixed() -> String {
     let mut draws = Draws(1);
     let mut lines = String::new();

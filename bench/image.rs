@@ -1,9 +1,10 @@
 //! Writes an image of some pieces: `image PATH ordered|scattered|broken [PIECES FILES]`. Build it by `rustc -O`.
 //!
-//! Each piece is a sector of an extent of its own, and in each of the files they follow each other without holes. In the form `ordered`
-//! the extents follow each other as the pieces do; in the form `scattered` they are shuffled. Without the numbers there is one
-//! file, as full as `write` can leave an image. Nodes are as full as they can be, and data sectors aren't written. The image is sound; in the form `broken` it is
-//! the ordered one, but for the checksum of its last leaf of files.
+//! Each piece is a sector of an extent of its own, and in each of the files they follow each other without holes. In
+//! the form `ordered` the extents follow each other as the pieces do; in the form `scattered` they are shuffled.
+//! Without the numbers there is one file, as full as `write` can leave an image. Nodes are as full as they can be, and
+//! data sectors aren't written. The image is sound; in the form `broken` it is the ordered one, but for the checksum of
+//! its last leaf of files.
 use draws::shuffled;
 use format::{DATA_BEGIN, EXTENT_RECORD, INODE, NODE, NODE_RECORD, OTHER_ITEMS, PIECE, Part, Piece, ROOM, SECTOR, Sizes};
 use format::{commit, counter_item, inode_item, limit_item, piece_item, slot_at, status_item};
@@ -26,9 +27,9 @@ const GENERATION: u64 = 2;
 /// The first file.
 const INO: u64 = 257;
 
-/// Whether one more write behind each other finds its slots, in whose commit only four slots are held before: the tree has two levels,
-/// and its nodes, full, have taken slots; 270 + 8·ceil(W/ROOM) + 40 is at most what is free, W being what the items of the other
-/// trees take that the last commit has or one now would have.
+/// Whether one more write behind each other finds its slots, in whose commit only four slots are held before: the tree
+/// has two levels, and its nodes, full, have taken slots; 270 + 8·ceil(W/ROOM) + 40 is at most what is free, W being
+/// what the items of the other trees take that the last commit has or one now would have.
 const fn is_served(pieces: usize) -> bool {
     let nodes = (INODE + PIECE * pieces).div_ceil(ROOM) + 1;
     let weight = OTHER_ITEMS + NODE_RECORD * (nodes + 1) + EXTENT_RECORD * pieces;

@@ -1,11 +1,11 @@
-//! How long `PROGRAM IMAGE run` takes to open an image, and `PROGRAM IMAGE check` to judge it, beside the checksums of the image's nodes alone:
-//! `open ROUNDS PROGRAM FRESH FULL ..`. Build it by `rustc -O`.
+//! How long `PROGRAM IMAGE run` takes to open an image, and `PROGRAM IMAGE check` to judge it, beside the checksums of
+//! the image's nodes alone: `open ROUNDS PROGRAM FRESH FULL ..`. Build it by `rustc -O`.
 //!
-//! FRESH is a fresh image of the same sizes as each FULL. Its nodes fill the first slots, and the first slot without a node ends
-//! them. Of an image it prints, each as the fastest of ROUNDS in microseconds: the checksums of its nodes, which lie in memory;
-//! these with the reading of the nodes from the file; the program's whole run over the image on an empty input, less that
-//! over FRESH; and the same of `check`. The two ratios are to the first. Last it prints the most memory that each of the two held, less
-//! what it held over FRESH.
+//! FRESH is a fresh image of the same sizes as each FULL. Its nodes fill the first slots, and the first slot without a
+//! node ends them. Of an image it prints, each as the fastest of ROUNDS in microseconds: the checksums of its nodes,
+//! which lie in memory; these with the reading of the nodes from the file; the program's whole run over the image on an
+//! empty input, less that over FRESH; and the same of `check`. The two ratios are to the first. Last it prints the most
+//! memory that each of the two held, less what it held over FRESH.
 use format::{NODE, SLOTS_BEGIN, has_checksum};
 use std::fs::File;
 use std::io;

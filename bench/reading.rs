@@ -1,4 +1,5 @@
-//! What an image of one subvolume says, in plain Rust. Of all rules it looks at checksums alone. It shares no code with the program.
+//! What an image of one subvolume says, in plain Rust. Of all rules it looks at checksums alone. It shares no code with
+//! the program.
 use crate::format::{NODE, PLACES, Piece, Sizes, has_checksum};
 use crate::quota::{Quota, level};
 use std::collections::{BTreeMap, BTreeSet};

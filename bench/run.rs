@@ -1,8 +1,8 @@
 //! How fast `PROGRAM IMAGE run` answers scripts of `write` and `commit`, beside the same done in plain Rust:
 //! `run ROUNDS PROGRAM PLAIN`. Build it by `rustc -O`.
 //!
-//! Each image is made anew by the program. Of a script it prints the fastest of ROUNDS by each half, less the time that this half takes
-//! over an empty script, and both must answer the same.
+//! Each image is made anew by the program. Of a script it prints the fastest of ROUNDS by each half, less the time that
+//! this half takes over an empty script, and both must answer the same.
 use runs::{Run, make};
 use std::fs;
 use std::io;

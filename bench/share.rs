@@ -1,10 +1,11 @@
 //! What lines take where many snapshots share one tree: `share ROUNDS PROGRAM SNAPSHOTS ..`. Build it by `rustc -O`.
 //!
-//! For each number SNAPSHOTS an image is made: one file of 10,000 pieces, each a sector of an extent of its own, in nodes of 4096
-//! bytes, and so many snapshots of its subvolume. A line or two are then run over a copy of it. What a line takes is the least run that
-//! does it, less the least run over the same image with no line; so is what it reads, which are the calls of the kernel that read.
-//! Beside that stand the same lines in plain Rust, which keeps the pieces of each subvolume in a map of its own, in memory alone, and
-//! counts them at a commit; and, of opening, the checksums of all nodes.
+//! For each number SNAPSHOTS an image is made: one file of 10,000 pieces, each a sector of an extent of its own, in
+//! nodes of 4096 bytes, and so many snapshots of its subvolume. A line or two are then run over a copy of it. What a
+//! line takes is the least run that does it, less the least run over the same image with no line; so is what it reads,
+//! which are the calls of the kernel that read. Beside that stand the same lines in plain Rust, which keeps the pieces
+//! of each subvolume in a map of its own, in memory alone, and counts them at a commit; and, of opening, the checksums
+//! of all nodes.
 use format::{has_checksum, SLOTS_BEGIN};
 use std::collections::{BTreeMap, HashMap};
 use std::fs::{self, File};
@@ -51,7 +52,8 @@ impl Took {
     }
 }
 
-/// Runs the program on some lines, and gives its replies. The kernel keeps a process's figures until its parent waits for it.
+/// Runs the program on some lines, and gives its replies. The kernel keeps a process's figures until its parent waits
+/// for it.
 fn run(program: &str, image: &str, words: &[&str], lines: &str) -> io::Result<(Took, String)> {
     let start = Instant::now();
     let mut child = Command::new(program)

@@ -1,5 +1,5 @@
-//! A map from keys to bodies in plain Rust, a `BTreeMap`, edited and read as crates/bench_tree does with a tree of nodes.
-//! Build it by `rustc -O`.
+//! A map from keys to bodies in plain Rust, a `BTreeMap`, edited and read as crates/bench_tree does with a tree of
+//! nodes. Build it by `rustc -O`.
 use std::collections::BTreeMap;
 use std::time::Instant;
 
@@ -68,7 +68,8 @@ fn work_all(map: &mut Map, numbers: &[u64], work: Work) -> u64 {
     sum
 }
 
-/// Does one after the other. Of each it prints the name, what was found and what the map holds then, and the microseconds.
+/// Does one after the other. Of each it prints the name, what was found and what the map holds then, and the
+/// microseconds.
 fn time_each(map: &mut Map, order: &str, numbers: &[u64], works: &[(&str, Work)]) {
     for (what, work) in works {
         let start = Instant::now();

@@ -1,5 +1,5 @@
-//! How long edits and look-ups of a tree take. With the word `time` and a path it prints times, over a file of that path as the disk, and
-//! else what a few items give, over a disk in memory.
+//! How long edits and look-ups of a tree take. With the word `time` and a path it prints times, over a file of that
+//! path as the disk, and else what a few items give, over a disk in memory.
 #![tactic(auto)]
 
 ghost use Rattle.std.specs.Prelude.{◌≡◌, ◌<◌};
@@ -90,7 +90,8 @@ fn measure_both<D: Disk + Drop, L: Ledger>(
     measure(rt, Report::new("drawn", is_timed), setting, &numbers)
 }
 
-/// Prints what 20,000 items give, five times, and 200,000, each with its microseconds, and then how long nodes take to be read.
+/// Prints what 20,000 items give, five times, and 200,000, each with its microseconds, and then how long nodes take to
+/// be read.
 fn time<D: Disk + Drop, L: Ledger>(
     rt: &(impl Clock + Print),
     alloc: Global,

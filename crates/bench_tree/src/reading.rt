@@ -16,8 +16,9 @@ use std::time::Instant;
 /// Bytes of a node.
 const NODE: usize = 16384;
 
-/// Prints how many microseconds it takes to load the nodes at these addresses, of which none is in memory, and how many to read their
-/// bytes from the disk, to take the checksums of these, and to decode them. A checksum is taken there too.
+/// Prints how many microseconds it takes to load the nodes at these addresses, of which none is in memory, and how many
+/// to read their bytes from the disk, to take the checksums of these, and to decode them. A checksum is taken there
+/// too.
 pub(crate) fn time_reads<D: Disk + Drop, L: Ledger>(
     rt: &(impl Clock + Print),
     alloc: Global,

@@ -78,7 +78,8 @@ pub(crate) fn fill<D: Disk + Drop, L: Ledger>(
     Ok(setting)
 }
 
-/// Does one work after the other. Of each it prints the name, what was found and what the tree has then, and the microseconds.
+/// Does one work after the other. Of each it prints the name, what was found and what the tree has then, and the
+/// microseconds.
 fn time_each<D: Disk + Drop, L: Ledger>(
     rt: &(impl Clock + Print),
     report: Report,

@@ -1,4 +1,5 @@
-//! Runs the cases that lie in the files of the folder where it runs: it prints what came in place of what was wanted, and how many hold.
+//! Runs the cases that lie in the files of the folder where it runs: it prints what came in place of what was wanted,
+//! and how many hold.
 #![tactic(auto)]
 
 use anyhow::{Context, Result, anyhow};

@@ -18,4 +18,5 @@ LendsNode blocks address lent = Lends the_row node.the_row blocks lent (λ node.
 -- so where one is lent; else they stay as they were
 abbrev pub LendsFresh : MutBor Held → ℕ → Option (MutBor Node) → Fml
 LendsFresh blocks address lent =
-    LendsSo the_row node.the_row blocks lent (λ left node. OnSome lent (left ≡ with_fresh blocks.now address node)) (λ left. left ≡ blocks.now)
+    LendsSo the_row node.the_row blocks lent (λ left node. OnSome lent (left ≡ with_fresh blocks.now address node))
+    (λ left. left ≡ blocks.now)

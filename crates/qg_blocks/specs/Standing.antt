@@ -22,4 +22,5 @@ has_slot sizes bytes address = is_slot sizes address && nat_le (address + sizes.
 -- what stands at an address of an image: a node, or the first rule that is broken there
 unfoldable pub standing : Sizes → List ℕ → ℕ → Result Node Rule
 standing sizes image address =
-    if has_slot sizes (length image) address then ruled (node_read address (range address sizes.nodesize image)) else Err Slot
+    if has_slot sizes (length image) address then ruled (node_read address (range address sizes.nodesize image)) else
+    Err Slot

@@ -61,18 +61,21 @@ told draft history address = told_or (fresh_at draft address) draft.sizes histor
 
 -- where the disk tells, this node stands at an address
 abbrev pub StandsThere : Sizes → Option (List Event) → ℕ → Node → Type 0
-StandsThere sizes history address node = (events : List Event) → history ≡ Some events → standing sizes (content events) address ≡ Ok node
+StandsThere sizes history address node = (events : List Event) → history ≡ Some events
+    → standing sizes (content events) address ≡ Ok node
 
 -- a node that has a text of so many bytes, and names an address as its own
 pub record IsNodeAt (nodesize address : ℕ) (node : Node) : Type 0 where
   pub sound : IsNode nodesize node
   pub placed : (header_of node).address ≡ address
 
--- each clean node stands at its address, where the disk tells. Over any disk it has a text and names its address, and no node is
--- fresh there
+-- each clean node stands at its address, where the disk tells. Over any disk it has a text and names its address, and
+-- no node is fresh there
 pub record IsBacked (held : Held) (history : Option (List Event)) : Type 0 where
-  pub stands : (address : ℕ) (node : Node) → Contains held.clean (address, node) → StandsThere held.draft.sizes history address node
-  pub kept : (address : ℕ) (node : Node) → Contains held.clean (address, node) → IsNodeAt held.draft.sizes.nodesize address node
+  pub stands : (address : ℕ) (node : Node) → Contains held.clean (address, node)
+      → StandsThere held.draft.sizes history address node
+  pub kept : (address : ℕ) (node : Node) → Contains held.clean (address, node)
+      → IsNodeAt held.draft.sizes.nodesize address node
   pub apart : (address : ℕ) (node : Node) → Contains held.clean (address, node) → fresh_at held.draft address ≡ None
 
 -- the map from address to node stays as it is, and so does the room for clean nodes, which are those of the disk
@@ -81,16 +84,18 @@ pub record StaysBacked (before after : Held) (history : Option (List Event)) : T
   pub bound : after.bound ≡ before.bound
   pub backed : IsBacked after history
 
--- a node is in memory at an address: the one that is told, where one is; and one that is not fresh has a text and names the address
+-- a node is in memory at an address: the one that is told, where one is; and one that is not fresh has a text and names
+-- the address
 pub record IsAtHand (memory : Held) (draft : Draft) (history : Option (List Event)) (address : ℕ) : Type 0 where
   pub held : IsSome (held_at memory address)
   pub told : (node : Node) → told draft history address ≡ Some node → held_at memory address ≡ Some node
-  pub kept : (node : Node) → fresh_at draft address ≡ None → held_at memory address ≡ Some node → IsNodeAt draft.sizes.nodesize address node
+  pub kept : (node : Node) → fresh_at draft address ≡ None → held_at memory address ≡ Some node
+      → IsNodeAt draft.sizes.nodesize address node
 
 -- ---- answers
 
--- a call that reads at an address finds a node there, or answers the first rule that is broken there; unless memory was refused or the
--- disk failed
+-- a call that reads at an address finds a node there, or answers the first rule that is broken there; unless memory was
+-- refused or the disk failed
 abbrev pub Answers : {A : Type 0} → Result A BlockFault → ℕ → Result Node Rule → Type 0
 Answers (Ok x) address wanted = IsOk wanted
 Answers (Err (Image rule at)) address wanted = (at ≡ address) × (wanted ≡ Err rule)

@@ -18,14 +18,17 @@ pub record ArePlaced (draft : Draft) (bytes : ℕ) : Type 0 where
 
 -- each fresh node stands at its address, where the disk tells. Over any disk it has a text and names its address
 pub record AreWritten (draft : Draft) (history : Option (List Event)) : Type 0 where
-  pub stands : (address : ℕ) (node : Node) → fresh_at draft address ≡ Some node → StandsThere draft.sizes history address node
-  pub kept : (address : ℕ) (node : Node) → fresh_at draft address ≡ Some node → IsNodeAt draft.sizes.nodesize address node
+  pub stands : (address : ℕ) (node : Node) → fresh_at draft address ≡ Some node
+      → StandsThere draft.sizes history address node
+  pub kept : (address : ℕ) (node : Node) → fresh_at draft address ≡ Some node
+      → IsNodeAt draft.sizes.nodesize address node
 
 -- where a disk tells afterwards it told before, and at these addresses stands what stood there
 abbrev pub Keeps : Sizes → Option (List Event) → Option (List Event) → (ℕ → Type 0) → Type 0
 Keeps sizes before after Q =
     (later : List Event) → after ≡ Some later
-    → (events : List Event) × (before ≡ Some events) × ((at : ℕ) → Q at → standing sizes (content later) at ≡ standing sizes (content events) at)
+    → (events : List Event) × (before ≡ Some events)
+    × ((at : ℕ) → Q at → standing sizes (content later) at ≡ standing sizes (content events) at)
 
 -- a node was written at an address, and in no other slot anything
 pub record HasWritten (sizes : Sizes) (before after : Option (List Event)) (address : ℕ) (node : Node) : Type 0 where
@@ -34,5 +37,6 @@ pub record HasWritten (sizes : Sizes) (before after : Option (List Event)) (addr
 
 -- the fresh nodes at the addresses of which Q tells were written, in any order, and in slots nothing but fresh nodes
 pub record HasFlushed (draft : Draft) (before after : Option (List Event)) (Q : ℕ → Type 0) : Type 0 where
-  pub here : (address : ℕ) (node : Node) → Q address → fresh_at draft address ≡ Some node → StandsThere draft.sizes after address node
+  pub here : (address : ℕ) (node : Node) → Q address → fresh_at draft address ≡ Some node
+      → StandsThere draft.sizes after address node
   pub others : Keeps draft.sizes before after (λ at. fresh_at draft at ≡ None)

@@ -1,5 +1,6 @@
 // The nodes of an image, by address.
-ghost use Rattle.std.specs.Prelude.{◌≡◌, ◌+◌, ◌<◌, ◌≤◌, ◌≢◌, true, false, ℕ, [], length, List, Option, Some, None, IfOk, IsOk, OnOk, OnErr, IsSome, IsTrue, is_some, nat_eq, if◌then◌else◌, ◌==◌};
+ghost use Rattle.std.specs.Prelude.{◌≡◌, ◌+◌, ◌<◌, ◌≤◌, ◌≢◌, true, false, ℕ, [], length, List, Option, Some, None};
+ghost use Rattle.std.specs.Prelude.{IfOk, IsOk, OnOk, OnErr, IsSome, IsTrue, is_some, nat_eq, if◌then◌else◌, ◌==◌};
 ghost use Rattle.std.specs.Borrow.{sem};
 ghost use Rattle.std.specs.Option.{option_copied_mut};
 ghost use Rattle.std.specs.Ordering.{nat_cmp};
@@ -14,7 +15,8 @@ ghost use Rattle.qg_super.specs.Places.{is_served};
 ghost use Rattle.lru.specs.LruCache.{lru_cache, promoted, put_entries};
 ghost use Rattle.qg_blocks.specs.Held.{most_clean, nothing_fresh, slots_of};
 ghost use Rattle.qg_blocks.specs.Standing.{standing};
-ghost use Rattle.qg_blocks.specs.Told.{Answers, BreaksNone, Finds, IsAtHand, IsBacked, IsNodeAt, StandsThere, StaysBacked, clean_at, first_of, found, fresh_at, held_at, told};
+ghost use Rattle.qg_blocks.specs.Told.{Answers, BreaksNone, Finds, IsAtHand, IsBacked, IsNodeAt, StandsThere};
+ghost use Rattle.qg_blocks.specs.Told.{StaysBacked, clean_at, first_of, found, fresh_at, held_at, told};
 ghost use Rattle.qg_blocks.specs.Writing.{AreWritten};
 
 use crate::reading::read_at;
@@ -32,8 +34,8 @@ use std::sync::ledger::Ledger;
 /// How many clean nodes are kept at most.
 const MOST_CLEAN: usize = 256;
 
-/// The nodes of an image by address (this project's own). Fresh ones, made or copied since the last commit, are all in memory. Of the
-/// others, the clean ones, those used last are; any other is read from the disk when it is asked for.
+/// The nodes of an image by address (this project's own). Fresh ones, made or copied since the last commit, are all in
+/// memory. Of the others, the clean ones, those used last are; any other is read from the disk when it is asked for.
 #[derive(Drop)]
 pub struct Blocks {
     shelf: Shelf,
@@ -61,13 +63,16 @@ impl Model for Blocks {
       bound = b.shelf.clean.cap;
     } };
 
-    ghost invariant = { λ b. IsTrue (is_served b.shelf.sizes) × (length b.shelf.buffer.items ≡ b.shelf.sizes.nodesize) × (b.shelf.clean.cap ≤ most_clean) };
+    ghost invariant = { λ b. IsTrue (is_served b.shelf.sizes) × (length b.shelf.buffer.items ≡ b.shelf.sizes.nodesize)
+        × (b.shelf.clean.cap ≤ most_clean) };
 }
 
 impl Shelf {
     fn peek(&self, address: Address) -> &Node
-        requires { IsSome (first_of (lookup (is_at (nat_cmp address)) self.now.fresh.entries) (lookup (nat_eq address) self.now.clean.entries)) }
-        ensures { first_of (lookup (is_at (nat_cmp address)) self.now.fresh.entries) (lookup (nat_eq address) self.now.clean.entries) ≡ Some result.now }
+        requires { IsSome (first_of (lookup (is_at (nat_cmp address)) self.now.fresh.entries)
+            (lookup (nat_eq address) self.now.clean.entries)) }
+        ensures { first_of (lookup (is_at (nat_cmp address)) self.now.fresh.entries)
+            (lookup (nat_eq address) self.now.clean.entries) ≡ Some result.now }
     {
         match self.fresh.get(&address.value()) {
             Some(node) => node,
@@ -166,10 +171,11 @@ impl Blocks {
         Ok(addresses)
     }
 
-    /// Sees to it that the node at an address is in memory, and is the last used one where it is not fresh. `peek` then lends it. Each
-    /// call is one step.
+    /// Sees to it that the node at an address is in memory, and is the last used one where it is not fresh. `peek` then
+    /// lends it. Each call is one step.
     ///
-    /// It may put out the clean node that was not used for longest. An address that has no slot inside the disk breaks rule `slot`.
+    /// It may put out the clean node that was not used for longest. An address that has no slot inside the disk breaks
+    /// rule `slot`.
     pub fn load<D: Disk, L: Ledger>(
         &mut self,
         disk: &mut D,
@@ -181,13 +187,15 @@ impl Blocks {
         // What is then in memory.
         ensures stays { StaysBacked self.old self.new (D.history disk.new) }
         ensures lent { OnOk result (IsAtHand self.new self.old.draft (D.history disk.old) address) }
-        ensures again { IsSome (held_at self.old address) → IsOk result × (held_at self.new address ≡ held_at self.old address) }
+        ensures again { IsSome (held_at self.old address)
+            → IsOk result × (held_at self.new address ≡ held_at self.old address) }
         ensures err { OnErr result (self.new ≡ self.old) }
 
         // Answers have their causes, and the disk is as it was.
         ensures answers { (events : List Event) → D.history disk.old ≡ Some events
             → Answers result address (found self.old.draft (content events) address) }
-        ensures sound { (node : NodeValue) → told self.old.draft (D.history disk.old) address ≡ Some node → BreaksNone result }
+        ensures sound { (node : NodeValue) → told self.old.draft (D.history disk.old) address ≡ Some node
+            → BreaksNone result }
         ensures cause { HasCause BlockFault.Disk (D.faults disk.old) (D.faults disk.new) result }
         ensures disk { (D.history disk.new ≡ D.history disk.old) × (D.size disk.new ≡ D.size disk.old) }
         ensures reads { reads.new ≡ reads.old + 1 }
@@ -249,12 +257,17 @@ impl Blocks {
 
     // Puts a node among the clean ones. It may take the place of another.
     fn keep(&mut self, address: Address, node: Node) -> Result<(), NoMemory>
-        ensures ok { OnOk result (self.new ≡ record self.old { clean = put_entries nat_eq (lru_cache self.old.clean self.old.bound) address node }) }
+        ensures ok { OnOk result
+            (self.new ≡ record self.old {
+              clean = put_entries nat_eq (lru_cache self.old.clean self.old.bound) address
+                  node;
+            }) }
         ensures err { OnErr result (self.new ≡ self.old) }
         ensures draft { self.new.draft ≡ self.old.draft }
         ensures bound { self.new.bound ≡ self.old.bound }
         ensures backed { (history : Option (List Event)) → fresh_at self.old.draft address ≡ None
-            → IsNodeAt self.old.draft.sizes.nodesize address node → StandsThere self.old.draft.sizes history address node
+            → IsNodeAt self.old.draft.sizes.nodesize address node
+            → StandsThere self.old.draft.sizes history address node
             → IsBacked self.old history → IsBacked self.new history }
     {
         self.shelf.clean.put(address.value(), node)?;
@@ -309,7 +322,8 @@ impl Blocks {
 
     /// Forgets what is in memory at an address.
     pub fn forget(&mut self, address: Address)
-        ensures draft { self.new.draft ≡ record self.old.draft { fresh = remove_entry (is_at (nat_cmp address)) self.old.draft.fresh } }
+        ensures draft { self.new.draft
+            ≡ record self.old.draft { fresh = remove_entry (is_at (nat_cmp address)) self.old.draft.fresh } }
         ensures gone { held_at self.new address ≡ None }
         ensures told { (history : Option (List Event)) (at : ℕ) → at ≢ address
             → told self.new.draft history at ≡ told self.old.draft history at }
@@ -322,7 +336,8 @@ impl Blocks {
         self.shelf.clean.pop(&address.value());
     }
 
-    /// The fresh nodes were written to a disk, and are clean from now on. As many of them stay in memory as the bound lets, and memory.
+    /// The fresh nodes were written to a disk, and are clean from now on. As many of them stay in memory as the bound
+    /// lets, and memory.
     pub fn written<D: Disk>(&mut self, disk: &D)
         requires backed { IsBacked self.old (D.history disk.now) }
         requires written { AreWritten self.old.draft (D.history disk.now) }
@@ -341,8 +356,10 @@ impl Blocks {
         ensures last { result ≡ false → self.new.draft.fresh ≡ [] }
         ensures sizes { self.new.draft.sizes ≡ self.old.draft.sizes }
         ensures bound { self.new.bound ≡ self.old.bound }
-        ensures backed { (history : Option (List Event)) → IsBacked self.old history → AreWritten self.old.draft history → IsBacked self.new history }
-        ensures written { (history : Option (List Event)) → AreWritten self.old.draft history → AreWritten self.new.draft history }
+        ensures backed { (history : Option (List Event)) → IsBacked self.old history → AreWritten self.old.draft history
+            → IsBacked self.new history }
+        ensures written { (history : Option (List Event)) → AreWritten self.old.draft history
+            → AreWritten self.new.draft history }
     {
         match self.shelf.fresh.pop_first() {
             Some((address, node)) => {

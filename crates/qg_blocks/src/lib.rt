@@ -1,4 +1,5 @@
-//! The nodes of an image by address: those made since the last commit, a bounded cache of others, and the rest on the disk.
+//! The nodes of an image by address: those made since the last commit, a bounded cache of others, and the rest on the
+//! disk.
 #![tactic(auto)]
 
 mod blocks;

@@ -22,7 +22,8 @@ pub struct Flip {
     pub bytes: Vec<u8>,
 }
 
-/// Which calls of a run are to fail (this project's own). The first call that the run makes of an object has the number 1.
+/// Which calls of a run are to fail (this project's own). The first call that the run makes of an object has the number
+/// 1.
 #[derive(Debug, Drop)]
 pub struct Plan {
     /// Calls of the disk.
@@ -46,7 +47,8 @@ pub struct Wanted {
     pub status: u8,
     /// How many calls of the disk are made, where it matters.
     pub count: Option<Number>,
-    /// The texts of those calls, in order, where they matter. Those that read are left out unless one of them is wanted.
+    /// The texts of those calls, in order, where they matter. Those that read are left out unless one of them is
+    /// wanted.
     pub calls: Option<Vec<String>>,
 }
 

@@ -1,4 +1,5 @@
-//! Files of cases: the lines of a file say which words a program is called with, over which disk, source and sink, and what is wanted.
+//! Files of cases: the lines of a file say which words a program is called with, over which disk, source and sink, and
+//! what is wanted.
 //!
 //! `case_names` and `case_text` find the files, and `read_case` reads a file's lines.
 #![tactic(auto)]

@@ -196,8 +196,8 @@ fn count_commits(calls: &[Call]) -> u64 {
     moment.begun
 }
 
-/// Judges the crashes behind each call of a disk but those that read, of its calls behind the first `before`. Where there
-/// is not a state for the beginning and for each commit, that is told and nothing else.
+/// Judges the crashes behind each call of a disk but those that read, of its calls behind the first `before`. Where
+/// there is not a state for the beginning and for each commit, that is told and nothing else.
 pub(crate) fn judge_crashes<P: Program>(
     alloc: Global,
     program: &P,

@@ -8,8 +8,8 @@ use qg_disk::{Disk, DiskFault, MemDisk};
 use std::alloc::Global;
 use std::marker::Model;
 
-/// A disk in memory that tells nothing of what it holds (this project's own): from one of its calls on, some bytes are read
-/// as others. There may be none.
+/// A disk in memory that tells nothing of what it holds (this project's own): from one of its calls on, some bytes are
+/// read as others. There may be none.
 #[derive(Drop)]
 pub struct CaseDisk {
     disk: MemDisk,

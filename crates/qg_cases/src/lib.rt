@@ -1,6 +1,7 @@
 //! Cases of a program as data: what a file of cases says is done and judged.
 //!
-//! `judge_case` does what a file's lines say and reports what came in place of what was wanted. The program itself is behind `Program`.
+//! `judge_case` does what a file's lines say and reports what came in place of what was wanted. The program itself is
+//! behind `Program`.
 #![tactic(auto)]
 
 mod calls;

@@ -22,7 +22,8 @@ is_less Greater h = absurd cc
 less_trans : (a b c : Key) → IsLess a b → IsLess b c → IsLess a c
 less_trans a b c h k = ap is_lt (key_cmp_total.trans a b c (is_less (key_cmp a b) h) (is_less (key_cmp b c) k))
 
-lower : (low before : Key) (keys : List Key) → IsLess low before → ascends_from before keys ≡ true → ascends_from low keys ≡ true
+lower : (low before : Key) (keys : List Key) → IsLess low before → ascends_from before keys ≡ true
+    → ascends_from low keys ≡ true
 unfolding ascends_from
 lower low before [] h k = refl
 lower low before (key ∷ keys) h k =

@@ -15,7 +15,8 @@ pub record FilesRead (parts : List FilePart) (files : List (ℕ × File)) : Type
   pub is : files ≡ files_in parts
 
 -- the files of items that the tree may hold
-pub files_of_held : (generation : ℕ) (items : List Item) (parts : List FilePart) (files : List (ℕ × File)) → list_all (is_item_of Files generation) items ≡ true → file_parts items ≡ parts → FilesRead parts files
+pub files_of_held : (generation : ℕ) (items : List Item) (parts : List FilePart) (files : List (ℕ × File))
+    → list_all (is_item_of Files generation) items ≡ true → file_parts items ≡ parts → FilesRead parts files
     → files_of generation items ≡ Some files
 unfolding files_of is_item_of
 files_of_held generation items parts files held are read =

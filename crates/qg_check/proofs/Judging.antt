@@ -1,5 +1,6 @@
 -- What the trees of an image say together, where its extents keep their rule.
-use Rattle.std.proofs.Common.{◌≡◌, ℕ, Bool, true, false, List, [], ◌∷◌, map, Option, Some, None, refl, sym, ap, subst, ◌∙◌, inl, inr}
+use Rattle.std.proofs.Common.{◌≡◌, ℕ, Bool, true, false, List, [], ◌∷◌, map, Option, Some, None, refl, sym, ap, subst}
+use Rattle.std.proofs.Common.{◌∙◌, inl, inr}
 use Rattle.std.specs.Prelude.{IsTrue, ◌==◌, ◌||◌}
 use Rattle.std.specs.List.{Contains, find, flat_map}
 use Rattle.std.specs.Option.{option_map}
@@ -43,29 +44,36 @@ use Rattle.qg_check.proofs.Owing.{entry-there, owing-image}
 use Rattle.qg_check.proofs.Subvolumes.{each_walked, present_name}
 
 -- where neither rule on references is broken, nothing disagrees
-refs_kept : (refs home : Option ℕ) → first_failure (option_map (Broken rule.Refs) refs ∷ option_map (Broken rule.Home) home ∷ []) ≡ None → refs ≡ None
+refs_kept : (refs home : Option ℕ)
+    → first_failure (option_map (Broken rule.Refs) refs ∷ option_map (Broken rule.Home) home ∷ []) ≡ None → refs ≡ None
 refs_kept None home none = refl
 refs_kept (Some address) home none = absurd cc
 
-no_disagreement : (super : Super) (image : List ℕ) (layout : Layout) → references_failure super image layout ≡ None → disagreement layout (extent_parts super image) ≡ None
+no_disagreement : (super : Super) (image : List ℕ) (layout : Layout) → references_failure super image layout ≡ None
+    → disagreement layout (extent_parts super image) ≡ None
 unfolding references_failure
-no_disagreement super image layout none = refs_kept (disagreement layout (extent_parts super image)) (homeless layout) none
+no_disagreement super image layout none = refs_kept (disagreement layout (extent_parts super image))
+    (homeless layout) none
 
-home_kept : (refs home : Option ℕ) → first_failure (option_map (Broken rule.Refs) refs ∷ option_map (Broken rule.Home) home ∷ []) ≡ None → home ≡ None
+home_kept : (refs home : Option ℕ)
+    → first_failure (option_map (Broken rule.Refs) refs ∷ option_map (Broken rule.Home) home ∷ []) ≡ None → home ≡ None
 home_kept refs None none = refl
 home_kept None (Some address) none = absurd cc
 home_kept (Some address) (Some other) none = absurd cc
 
 -- and each node that is not full is reached by its owner
-pub all_at_home : (super : Super) (image : List ℕ) (layout : Layout) → references_failure super image layout ≡ None → homeless layout ≡ None
+pub all_at_home : (super : Super) (image : List ℕ) (layout : Layout) → references_failure super image layout ≡ None
+    → homeless layout ≡ None
 unfolding references_failure
 all_at_home super image layout none = home_kept (disagreement layout (extent_parts super image)) (homeless layout) none
 
-among_has : (elements : List Element) (element : Element) → Contains elements element → is_among element.address elements ≡ true
+among_has : (elements : List Element) (element : Element) → Contains elements element
+    → is_among element.address elements ≡ true
 among_has [] element has = absurd (none_contained element has)
 among_has (first ∷ elements) element has = elim (contains_cases first elements element has) [
   | inl is ↦ rw (eq-eqb first.address element.address (ap (λ (e : Element). e.address) is)) refl
-  | inr later ↦ either (first.address == element.address) (is_among element.address elements) (among_has elements element later)
+  | inr later ↦ either (first.address == element.address) (is_among element.address elements)
+      (among_has elements element later)
 ]
   where
     either : (b c : Bool) → c ≡ true → (b || c) ≡ true
@@ -79,17 +87,21 @@ nodesize_in super image = refl
 -- these are the extents that the nodes name of which this was gathered
 abbrev pub AreNamedBy : NodesRead → List Element → Type 0
 AreNamedBy read extents =
-    (nodes : List Node) → AreOfNodes read nodes → extents ≡ extent_set (flat_map (λ node. map extent_of (pieces_of node)) nodes)
+    (nodes : List Node) → AreOfNodes read nodes
+    → extents ≡ extent_set (flat_map (λ node. map extent_of (pieces_of node)) nodes)
 
 -- they are those of the image's state
-pub extents-read : (super : Super) (bytes : List ℕ) (read : Read) (are : AreRead super bytes read) (extents : List Element) → AreNamedBy read.nodes extents
+pub extents-read : (super : Super) (bytes : List ℕ) (read : Read) (are : AreRead super bytes read)
+    (extents : List Element) → AreNamedBy read.nodes extents
     → extent_set (present_extents (state_in super bytes)) ≡ extents
 extents-read super bytes read are extents named =
-    extent_set_of_same (present_extents (state_in super bytes)) (flat_map (λ node. map extent_of (pieces_of node)) are.subvolumes.found.nodes)
+    extent_set_of_same (present_extents (state_in super bytes))
+    (flat_map (λ node. map extent_of (pieces_of node)) are.subvolumes.found.nodes)
     (present_name super bytes read.trees.subvolumes read.nodes are.subvolumes are.trees.named.all)
     ∙ sym (named are.subvolumes.found.nodes are.subvolumes.found.kept)
 
-module _ (super : Super) (bytes : List ℕ) (read : Read) (are : AreRead super bytes read) (served : IsTrue (is_served (sizes_of super))) (extents : List Element)
+module _ (super : Super) (bytes : List ℕ) (read : Read) (are : AreRead super bytes read)
+    (served : IsTrue (is_served (sizes_of super))) (extents : List Element)
     (named : AreNamedBy read.nodes extents) (space : space_failure (sizes_of super) extents ≡ None) where
   pub parts-read : read.extents.parts ≡ extent_parts super bytes
   unfolding extent_parts
@@ -105,7 +117,8 @@ module _ (super : Super) (bytes : List ℕ) (read : Read) (are : AreRead super b
     subvolumes = are.trees.named.all;
     sound = each_walked super bytes read.trees.subvolumes read.nodes are.subvolumes;
     gathered = are.subvolumes.found;
-    named = subst (λ (list : List Element). HaveSame list (flat_map (λ node. map extent_of (pieces_of node)) are.subvolumes.found.nodes)) (sym named_are)
+    named = subst (λ (list : List Element). HaveSame list
+        (flat_map (λ node. map extent_of (pieces_of node)) are.subvolumes.found.nodes)) (sym named_are)
         (extent_set_same (flat_map (λ node. map extent_of (pieces_of node)) are.subvolumes.found.nodes));
     space = space;
     told = parts-read;
@@ -115,13 +128,17 @@ module _ (super : Super) (bytes : List ℕ) (read : Read) (are : AreRead super b
   no_node : (run : Element) → Contains (layout_extents (layout_of (state_in super bytes))) run → (placed : Placed)
       → value_at run.address (layout_of (state_in super bytes)).nodes ≡ Some placed → ⊥
   no_node run has placed is =
-      let entry = entry-there super bytes read.trees.subvolumes read.nodes extents read.extents.parts gathered-read (run.address, placed)
+      let entry = entry-there super bytes read.trees.subvolumes read.nodes extents read.extents.parts gathered-read
+      (run.address, placed)
       (entry_of_value run.address placed (layout_of (state_in super bytes)).nodes is) in
-      let apart = no_extent super bytes read.trees.subvolumes read.nodes extents read.extents.parts gathered-read placed.node entry.0 in
-      let there = subst (λ (a : ℕ). is_among a (layout_extents (layout_of (state_in super bytes))) ≡ false) entry.1 apart in
+      let apart = no_extent super bytes read.trees.subvolumes read.nodes extents read.extents.parts gathered-read
+      placed.node entry.0 in
+      let there = subst (λ (a : ℕ). is_among a (layout_extents (layout_of (state_in super bytes))) ≡ false) entry.1
+      apart in
       true≢false (sym (among_has (layout_extents (layout_of (state_in super bytes))) run has) ∙ there)
 
-  that_one : (run other : Element) → Contains (layout_extents (layout_of (state_in super bytes))) run → Contains (layout_extents (layout_of (state_in super bytes))) other
+  that_one : (run other : Element) → Contains (layout_extents (layout_of (state_in super bytes))) run
+      → Contains (layout_extents (layout_of (state_in super bytes))) other
       → other.address ≡ run.address → other ≡ run
   that_one run other has has' same =
       let there = named_there super bytes read.trees.subvolumes read.nodes extents read.extents.parts gathered-read in
@@ -138,11 +155,13 @@ module _ (super : Super) (bytes : List ℕ) (read : Read) (are : AreRead super b
           | inl none' ↦ absurd (at_none (layout_extents layout) run.address run none' has refl)
           | inr found ↦
               let its = at_is (layout_extents layout) run.address found.0 found.1 in
-              what_is layout run.address found.0 none found.1 ∙ ap (λ (e : Element). Data e.bytes) (that_one run found.0 has its.0 its.1)
+              what_is layout run.address found.0 none found.1
+              ∙ ap (λ (e : Element). Data e.bytes) (that_one run found.0 has its.0 its.1)
         ]
       ]
     where
-      what_is : (layout : Layout) (at : ℕ) (extent : Element) → value_at at layout.nodes ≡ None → find (λ extent. extent.address == at) (layout_extents layout) ≡ Some extent
+      what_is : (layout : Layout) (at : ℕ) (extent : Element) → value_at at layout.nodes ≡ None
+          → find (λ extent. extent.address == at) (layout_extents layout) ≡ Some extent
           → what_at layout at ≡ Data extent.bytes
       what_is layout at extent none is = rw none (rw is refl)
 
@@ -152,11 +171,13 @@ module _ (super : Super) (bytes : List ℕ) (read : Read) (are : AreRead super b
     agrees =
         agrees-everywhere (layout_of (state_in super bytes)) read.extents.parts
         (owing-image super bytes read.trees.subvolumes read.nodes extents read.extents.parts gathered-read)
-        (subst (λ parts. disagreement (layout_of (state_in super bytes)) parts ≡ None) (sym parts-read) (no_disagreement super bytes (layout_of (state_in super bytes)) none))
+        (subst (λ parts. disagreement (layout_of (state_in super bytes)) parts ≡ None) (sym parts-read)
+        (no_disagreement super bytes (layout_of (state_in super bytes)) none))
 
     -- exactly what is owed is recorded
     pub agrees-recorded : Agrees (layout_of (state_in super bytes)) (extent_parts super bytes)
-    agrees-recorded = subst (λ (parts : List ExtentPart). Agrees (layout_of (state_in super bytes)) parts) parts-read agrees
+    agrees-recorded = subst (λ (parts : List ExtentPart). Agrees (layout_of (state_in super bytes)) parts) parts-read
+        agrees
 
     -- the extent tree's items tell a book
     pub book-told : AreFew read.extents.parts → records_failure read.extents.parts ≡ None
@@ -165,8 +186,10 @@ module _ (super : Super) (bytes : List ℕ) (read : Read) (are : AreRead super b
         (owing-image super bytes read.trees.subvolumes read.nodes extents read.extents.parts gathered-read) few
 
     -- which says what the layout owes
-    pub book-owed : (book : Book) → IsTold super.nodesize read.extents.parts book → IsBookOf (layout_of (state_in super bytes)) book
+    pub book-owed : (book : Book) → IsTold super.nodesize read.extents.parts book
+        → IsBookOf (layout_of (state_in super bytes)) book
     book-owed book told =
         book-of (layout_of (state_in super bytes)) read.extents.parts book agrees
         (subst (λ (n : ℕ). IsTold n read.extents.parts book) (nodesize_in super bytes) told)
-        (owing-image super bytes read.trees.subvolumes read.nodes extents read.extents.parts gathered-read) extent_begins
+        (owing-image super bytes read.trees.subvolumes read.nodes extents read.extents.parts gathered-read)
+        extent_begins

@@ -31,14 +31,17 @@ top_number n is = let P : ℕ → Type 0 = λ m. is_subvolume_number m ≡ true 
 -- the top-level one is among them
 pub top_there : (roots : List (ℕ × RootItem)) → has_key 5 roots ≡ true → has_key 5 (subvolume_roots roots) ≡ true
 top_there [] there = absurd cc
-top_there (entry ∷ roots) there = cases (entry.0 == 5) (is_subvolume_number entry.0) refl refl (top_there roots) there where
-  cases : (top sub : Bool) → (entry.0 == 5) ≡ top → is_subvolume_number entry.0 ≡ sub
-      → (has_key 5 roots ≡ true → has_key 5 (subvolume_roots roots) ≡ true) → is_some (cond top (Some entry.1) (value_at 5 roots)) ≡ true
-      → has_key 5 (cond sub (entry ∷ subvolume_roots roots) (subvolume_roots roots)) ≡ true
-  cases true true is kind behind found = ap (λ (b : Bool). is_some (cond b (Some entry.1) (value_at 5 (subvolume_roots roots)))) is
-  cases true false is kind behind found =
-      let same : true ≡ false = sym (top_number entry.0 (eqb-true entry.0 5 is)) ∙ kind in
-      absurd cc
-  cases false true is kind behind found =
-      ap (λ (b : Bool). is_some (cond b (Some entry.1) (value_at 5 (subvolume_roots roots)))) is ∙ behind found
-  cases false false is kind behind found = behind found
+top_there (entry ∷ roots) there = cases (entry.0 == 5) (is_subvolume_number entry.0) refl refl
+    (top_there roots) there where
+      cases : (top sub : Bool) → (entry.0 == 5) ≡ top → is_subvolume_number entry.0 ≡ sub
+          → (has_key 5 roots ≡ true → has_key 5 (subvolume_roots roots) ≡ true)
+          → is_some (cond top (Some entry.1) (value_at 5 roots)) ≡ true
+          → has_key 5 (cond sub (entry ∷ subvolume_roots roots) (subvolume_roots roots)) ≡ true
+      cases true true is kind behind found =
+          ap (λ (b : Bool). is_some (cond b (Some entry.1) (value_at 5 (subvolume_roots roots)))) is
+      cases true false is kind behind found =
+          let same : true ≡ false = sym (top_number entry.0 (eqb-true entry.0 5 is)) ∙ kind in
+          absurd cc
+      cases false true is kind behind found =
+          ap (λ (b : Bool). is_some (cond b (Some entry.1) (value_at 5 (subvolume_roots roots)))) is ∙ behind found
+      cases false false is kind behind found = behind found

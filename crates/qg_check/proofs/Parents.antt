@@ -25,7 +25,8 @@ abbrev IsLed : (ℕ → Option Node) → Option Node → List Node → Node → 
 IsLed found here nodes node = (here ≡ Some node) ⊎ HasParent found nodes node
 
 -- below one of some pointers a node stands
-record HasBranch (under : Pointer → Option (List Node)) (pointers : List Pointer) (nodes : List Node) (node : Node) : Type 0 where
+record HasBranch (under : Pointer → Option (List Node)) (pointers : List Pointer) (nodes : List Node)
+    (node : Node) : Type 0 where
   pointer : Pointer
   own : Contains pointers pointer
   branch : List Node
@@ -33,11 +34,14 @@ record HasBranch (under : Pointer → Option (List Node)) (pointers : List Point
   has : Contains branch node
   all : (other : Node) → Contains branch other → Contains nodes other
 
-branch_of : (under : Pointer → Option (List Node)) (pointers : List Pointer) (nodes : List Node) (node : Node) → joined under pointers ≡ Some nodes
+branch_of : (under : Pointer → Option (List Node)) (pointers : List Pointer) (nodes : List Node) (node : Node)
+    → joined under pointers ≡ Some nodes
     → Contains nodes node → HasBranch under pointers nodes node
-branch_of under [] nodes node are has = absurd (none_contained node (subst (λ list. Contains list node) (sym (same_Some [] nodes are)) has))
+branch_of under [] nodes node are has =
+    absurd (none_contained node (subst (λ list. Contains list node) (sym (same_Some [] nodes are)) has))
 branch_of under (pointer ∷ pointers) nodes node are has =
-    option_and_then_some (λ first. option_and_then (λ rest. Some (first ++ rest)) (joined under pointers)) (under pointer) nodes are (λ first is both.
+    option_and_then_some (λ first. option_and_then (λ rest. Some (first ++ rest)) (joined under pointers))
+    (under pointer) nodes are (λ first is both.
     option_and_then_some (λ rest. Some (first ++ rest)) (joined under pointers) nodes both (λ rest is' all.
     let whole : first ++ rest ≡ nodes = same_Some (first ++ rest) nodes all in
     elim (Contains-append_cases first rest node (subst (λ list. Contains list node) (sym whole) has)) [
@@ -57,22 +61,26 @@ branch_of under (pointer ∷ pointers) nodes node are has =
             branch = later.branch;
             is = later.is;
             has = later.has;
-            all = λ other has'. subst (λ list. Contains list other) whole (Contains-append_right first rest other (later.all other has'));
+            all = λ other has'. subst (λ list. Contains list other) whole
+                (Contains-append_right first rest other (later.all other has'));
           }
     ]))
 
 leaf_led : (found : ℕ → Option Node) (here : Option Node) (nodes : List Node) (node : Node)
-    → option_and_then (λ node. option_and_then (λ items. Some (node ∷ [])) (leaf_items node)) here ≡ Some nodes → Contains nodes node → IsLed found here nodes node
+    → option_and_then (λ node. option_and_then (λ items. Some (node ∷ [])) (leaf_items node)) here ≡ Some nodes
+    → Contains nodes node → IsLed found here nodes node
 leaf_led found None nodes node are has = absurd cc
 leaf_led found (Some (Leaf header items)) nodes node are has =
-    elim (contains_cases (Leaf header items) [] node (subst (λ list. Contains list node) (sym (same_Some (Leaf header items ∷ []) nodes are)) has)) [
+    elim (contains_cases (Leaf header items) [] node
+    (subst (λ list. Contains list node) (sym (same_Some (Leaf header items ∷ []) nodes are)) has)) [
       | inl is ↦ inl (ap Some is)
       | inr none ↦ absurd (none_contained node none)
     ]
 leaf_led found (Some (Inner header pointers)) nodes node are has = absurd cc
 
 -- below a pointer of the inner node
-module _ (found : ℕ → Option Node) (inner : Node) (pointer : Pointer) (own : Contains (own_pointers inner) pointer) (branch nodes : List Node)
+module _ (found : ℕ → Option Node) (inner : Node) (pointer : Pointer) (own : Contains (own_pointers inner) pointer)
+    (branch nodes : List Node)
     (has : Contains nodes inner) (all : (other : Node) → Contains branch other → Contains nodes other) where
   led_there : (node : Node) → IsLed found (found pointer.child) branch node → HasParent found nodes node
   led_there node (inl is) = record { parent = inner; has = has; pointer = pointer; own = own; leads = is }
@@ -85,9 +93,11 @@ module _ (found : ℕ → Option Node) (inner : Node) (pointer : Pointer) (own :
   }
 
 inner_led : (found : ℕ → Option Node) (under : Pointer → Option (List Node))
-    → ((pointer : Pointer) (nodes : List Node) (node : Node) → under pointer ≡ Some nodes → Contains nodes node → IsLed found (found pointer.child) nodes node)
+    → ((pointer : Pointer) (nodes : List Node) (node : Node) → under pointer ≡ Some nodes → Contains nodes node
+    → IsLed found (found pointer.child) nodes node)
     → (here : Option Node) (nodes : List Node) (node : Node)
-    → option_and_then (λ node. option_and_then (λ below. Some (node ∷ below)) (option_and_then (joined under) (inner_pointers node))) here ≡ Some nodes
+    → option_and_then (λ node. option_and_then (λ below. Some (node ∷ below))
+    (option_and_then (joined under) (inner_pointers node))) here ≡ Some nodes
     → Contains nodes node → IsLed found here nodes node
 inner_led found under each None nodes node are has = absurd cc
 inner_led found under each (Some (Leaf header items)) nodes node are has = absurd cc
@@ -99,15 +109,19 @@ inner_led found under each (Some (Inner header pointers)) nodes node are has =
       | inl is ↦ inl (ap Some is)
       | inr later ↦
           let one = branch_of under pointers below node stand later in
-          inr (led_there found inner one.pointer one.own one.branch nodes (subst (λ list. Contains list inner) whole (contains_here inner below))
-          (λ other has'. subst (λ list. Contains list other) whole (contains_later inner below other (one.all other has'))) node
+          inr (led_there found inner one.pointer one.own one.branch nodes
+          (subst (λ list. Contains list inner) whole (contains_here inner below))
+          (λ other has'. subst (λ list. Contains list other) whole
+          (contains_later inner below other (one.all other has'))) node
           (each one.pointer one.branch node one.is one.has))
     ])
 
 -- each node below an address is the one there, or has a parent
-pub led-below : (found : ℕ → Option Node) (level address : ℕ) (nodes : List Node) (node : Node) → nodes_below found level address ≡ Some nodes
+pub led-below : (found : ℕ → Option Node) (level address : ℕ) (nodes : List Node) (node : Node)
+    → nodes_below found level address ≡ Some nodes
     → Contains nodes node → (found address ≡ Some node) ⊎ HasParent found nodes node
 led-below found zero address nodes node are has = leaf_led found (found address) nodes node are has
 led-below found (suc level) address nodes node are has =
-    inner_led found (λ pointer. nodes_below found level pointer.child) (λ pointer nodes' other is has'. led-below found level pointer.child nodes' other is has')
+    inner_led found (λ pointer. nodes_below found level pointer.child)
+    (λ pointer nodes' other is has'. led-below found level pointer.child nodes' other is has')
     (found address) nodes node are has

@@ -1,5 +1,6 @@
 -- What the items of the extent tree tell, whatever the disk tells.
-use Rattle.std.proofs.Common.{◌≡◌, ℕ, ◌≤◌, Bool, true, false, List, [], ◌∷◌, map, length, get_or, refl, sym, ap, subst, ◌∙◌, arith}
+use Rattle.std.proofs.Common.{◌≡◌, ℕ, ◌≤◌, Bool, true, false, List, [], ◌∷◌, map, length, get_or, refl, sym, ap, subst}
+use Rattle.std.proofs.Common.{◌∙◌, arith}
 use Rattle.std.specs.Prelude.{All, Option, Some, None, ◌==◌, ◌&&◌, nat_le}
 use Rattle.std.specs.List.{AllByRecursion, Contains, filter, list_all}
 use Rattle.std.specs.List.Sorted.{IsNonDecreasingBy}
@@ -9,7 +10,8 @@ use Rattle.std.proofs.lemmas.List.Elements.{All-contains, recursion_from_All}
 use Rattle.std.proofs.lemmas.List.Sums.{AllPass-from_list_all}
 use Rattle.std.proofs.lemmas.Option.{same_Some}
 use Rattle.qg_node.specs.declared.item.Item.{Item}
-use Rattle.qg_items.specs.declared.kind.TheConstants.{EXTENT_ITEM, METADATA_ITEM, TREE_BLOCK_REF, EXTENT_DATA_REF, SHARED_BLOCK_REF, SHARED_DATA_REF}
+use Rattle.qg_items.specs.declared.kind.TheConstants.{EXTENT_ITEM, METADATA_ITEM, TREE_BLOCK_REF, EXTENT_DATA_REF}
+use Rattle.qg_items.specs.declared.kind.TheConstants.{SHARED_BLOCK_REF, SHARED_DATA_REF}
 use Rattle.qg_items.specs.declared.extent.Reference.TheVariants.{KeyedBlock, SharedBlock, KeyedData, SharedData}
 use Rattle.qg_items.specs.ItemReading.{extent_read, data_ref_read, shared_data_ref_read}
 use Rattle.qg_image.specs.declared.part.ExtentPart.{ExtentPart}
@@ -59,7 +61,8 @@ such_orelse : (first later : Option ExtentPart) → IsSuch first → IsSuch late
 such_orelse None later is is' = is'
 such_orelse (Some part) later is is' = is
 
-such_map : {A : Type 0} (f : A → ExtentPart) (given : Option A) → ((x : A) → CountsOne (f x)) → IsSuch (option_map f given)
+such_map : {A : Type 0} (f : A → ExtentPart) (given : Option A) → ((x : A) → CountsOne (f x))
+    → IsSuch (option_map f given)
 such_map f None is = such_none
 such_map f (Some x) is = such_some (f x) (is x)
 
@@ -74,35 +77,53 @@ counts_one item =
     let node_record : Option ExtentPart = option_map (NodeRecord n number) (extent_read item.body) in
     let tree : Option ExtentPart = Some (Referenced n (KeyedBlock number) 1) in
     let parent : Option ExtentPart = Some (Referenced n (SharedBlock number) 1) in
-    let file : Option ExtentPart = option_map (λ keyed. Referenced n (KeyedData keyed.root keyed.objectid keyed.offset) keyed.count) (data_ref_read item.body) in
-    let leaf : Option ExtentPart = option_map (λ shared. Referenced n (SharedData number) shared.count) (shared_data_ref_read item.body) in
+    let file : Option ExtentPart =
+    option_map (λ keyed. Referenced n (KeyedData keyed.root keyed.objectid keyed.offset) keyed.count)
+    (data_ref_read item.body) in
+    let leaf : Option ExtentPart = option_map (λ shared. Referenced n (SharedData number) shared.count)
+    (shared_data_ref_read item.body) in
     let sixth : Option ExtentPart = when (kind == SHARED_DATA_REF) leaf in
     let fifth : Option ExtentPart = when (kind == EXTENT_DATA_REF) file orelse sixth in
     let fourth : Option ExtentPart = when ((kind == SHARED_BLOCK_REF) && empty) parent orelse fifth in
     let third : Option ExtentPart = when ((kind == TREE_BLOCK_REF) && empty) tree orelse fourth in
     let second : Option ExtentPart = when (kind == METADATA_ITEM) node_record orelse third in
     let first : IsSuch data_record = such_map (DataRecord n number) (extent_read item.body) (λ x. tt) in
-    let sixth_is : IsSuch sixth = such_when (kind == SHARED_DATA_REF) leaf (such_map (λ shared. Referenced n (SharedData number) shared.count) (shared_data_ref_read item.body) (λ x. tt)) in
-    let file_is : IsSuch file = such_map (λ keyed. Referenced n (KeyedData keyed.root keyed.objectid keyed.offset) keyed.count) (data_ref_read item.body) (λ x. tt) in
-    let fifth_is : IsSuch fifth = such_orelse (when (kind == EXTENT_DATA_REF) file) sixth (such_when (kind == EXTENT_DATA_REF) file file_is) sixth_is in
+    let sixth_is : IsSuch sixth =
+    such_when (kind == SHARED_DATA_REF) leaf (such_map (λ shared. Referenced n (SharedData number) shared.count)
+    (shared_data_ref_read item.body) (λ x. tt)) in
+    let file_is : IsSuch file =
+    such_map (λ keyed. Referenced n (KeyedData keyed.root keyed.objectid keyed.offset) keyed.count)
+    (data_ref_read item.body) (λ x. tt) in
+    let fifth_is : IsSuch fifth = such_orelse (when (kind == EXTENT_DATA_REF) file) sixth
+    (such_when (kind == EXTENT_DATA_REF) file file_is) sixth_is in
     let fourth_is : IsSuch fourth = such_orelse (when ((kind == SHARED_BLOCK_REF) && empty) parent) fifth
-    (such_when ((kind == SHARED_BLOCK_REF) && empty) parent (such_some (Referenced n (SharedBlock number) 1) refl)) fifth_is in
+    (such_when ((kind == SHARED_BLOCK_REF) && empty) parent (such_some (Referenced n (SharedBlock number) 1) refl))
+    fifth_is in
     let third_is : IsSuch third = such_orelse (when ((kind == TREE_BLOCK_REF) && empty) tree) fourth
-    (such_when ((kind == TREE_BLOCK_REF) && empty) tree (such_some (Referenced n (KeyedBlock number) 1) refl)) fourth_is in
+    (such_when ((kind == TREE_BLOCK_REF) && empty) tree (such_some (Referenced n (KeyedBlock number) 1) refl))
+    fourth_is in
     let second_is : IsSuch second = such_orelse (when (kind == METADATA_ITEM) node_record) third
-    (such_when (kind == METADATA_ITEM) node_record (such_map (NodeRecord n number) (extent_read item.body) (λ x. tt))) third_is in
-    such_orelse (when (kind == EXTENT_ITEM) data_record) second (such_when (kind == EXTENT_ITEM) data_record first) second_is
+    (such_when (kind == METADATA_ITEM) node_record (such_map (NodeRecord n number) (extent_read item.body) (λ x. tt)))
+    third_is in
+    such_orelse (when (kind == EXTENT_ITEM) data_record) second (such_when (kind == EXTENT_ITEM) data_record first)
+    second_is
 
 -- no reference is told more often than it may be there
-few_first : (part : ExtentPart) (parts : List ExtentPart) → CountsOne part → CountFits part → AreFew parts → AreFew (part ∷ parts)
+few_first : (part : ExtentPart) (parts : List ExtentPart) → CountsOne part → CountFits part → AreFew parts
+    → AreFew (part ∷ parts)
 few_first (DataRecord address bytes extent) parts one fits few = few
 few_first (NodeRecord address level extent) parts one fits few = few
-few_first (Referenced address (KeyedBlock root) count) parts one fits few = and_from (nat_le count 1) _ (le-leb count 1 (omega (arith, one))) few
-few_first (Referenced address (SharedBlock parent) count) parts one fits few = and_from (nat_le count 1) _ (le-leb count 1 (omega (arith, one))) few
-few_first (Referenced address (KeyedData root ino offset) count) parts one fits few = and_from (nat_le count 4294967295) _ (le-leb count 4294967295 (omega (arith, fits))) few
-few_first (Referenced address (SharedData parent) count) parts one fits few = and_from (nat_le count 4294967295) _ (le-leb count 4294967295 (omega (arith, fits))) few
+few_first (Referenced address (KeyedBlock root) count) parts one fits few =
+    and_from (nat_le count 1) _ (le-leb count 1 (omega (arith, one))) few
+few_first (Referenced address (SharedBlock parent) count) parts one fits few =
+    and_from (nat_le count 1) _ (le-leb count 1 (omega (arith, one))) few
+few_first (Referenced address (KeyedData root ino offset) count) parts one fits few =
+    and_from (nat_le count 4294967295) _ (le-leb count 4294967295 (omega (arith, fits))) few
+few_first (Referenced address (SharedData parent) count) parts one fits few =
+    and_from (nat_le count 4294967295) _ (le-leb count 4294967295 (omega (arith, fits))) few
 
-few_all : (items : List Item) (parts : List ExtentPart) → map extent_part items ≡ map (λ part. Some part) parts → AllByRecursion CountFits parts → AreFew parts
+few_all : (items : List Item) (parts : List ExtentPart) → map extent_part items ≡ map (λ part. Some part) parts
+    → AllByRecursion CountFits parts → AreFew parts
 few_all [] [] said fit = refl
 few_all [] (part ∷ parts) said fit = absurd cc
 few_all (item ∷ items) [] said fit = absurd cc
@@ -128,7 +149,8 @@ abbrev generation_in : Option What → ℕ
 generation_in None = 0
 generation_in (Some what) = what.generation
 
-part_by : (generation : ℕ) (nodesize : ℕ) (part : ExtentPart) (what : What) → are_by generation (extent_part_stamps part) ≡ true → what_told nodesize part ≡ Some what
+part_by : (generation : ℕ) (nodesize : ℕ) (part : ExtentPart) (what : What)
+    → are_by generation (extent_part_stamps part) ≡ true → what_told nodesize part ≡ Some what
     → what.generation ≤ generation
 part_by generation nodesize (DataRecord address bytes extent) what by is =
     let same : extent.generation ≡ what.generation = ap generation_in is in
@@ -145,19 +167,22 @@ only_has [] part is = absurd cc
 only_has (x ∷ []) part is = subst (λ p. Contains (x ∷ []) p) (same_Some x part is) (contains_here x [])
 only_has (x ∷ y ∷ xs) part is = absurd cc
 
-given_some : (nodesize : ℕ) (found : Option ExtentPart) (what : What) → option_and_then (what_told nodesize) found ≡ Some what
+given_some : (nodesize : ℕ) (found : Option ExtentPart) (what : What)
+    → option_and_then (what_told nodesize) found ≡ Some what
     → (part : ExtentPart) × (found ≡ Some part) × (what_told nodesize part ≡ Some what)
 given_some nodesize None what is = absurd cc
 given_some nodesize (Some part) what is = (part, refl, is)
 
 -- what a book knows was told by no later generation
-pub known_by : (generation nodesize : ℕ) (parts : List ExtentPart) (table : List (ℕ × Kept)) → list_all (λ part. are_by generation (extent_part_stamps part)) parts ≡ true
+pub known_by : (generation nodesize : ℕ) (parts : List ExtentPart) (table : List (ℕ × Kept))
+    → list_all (λ part. are_by generation (extent_part_stamps part)) parts ≡ true
     → IsTold nodesize parts (book_of table) → IsTable table → All (λ entry. entry.1.what.generation ≤ generation) table
 known_by generation nodesize parts table by told is i d inside =
     let entry = get_or table i d in
     let kept = entry-found table i d is.ascend inside in
     let what : what_in (book_of table entry.0) ≡ Some entry.1.what = ap what_in kept in
-    let part = given_some nodesize (the_record (parts_at parts entry.0)) entry.1.what (sym (told.what entry.0) ∙ what) in
+    let part = given_some nodesize (the_record (parts_at parts entry.0)) entry.1.what (sym (told.what entry.0)
+    ∙ what) in
     let there = only_has (filter is_record (parts_at parts entry.0)) part.0 part.1 in
     let here = (kept_contains is_record (parts_at parts entry.0) part.0 there).0 in
     let has = (kept_contains (λ part. part_address part == entry.0) parts part.0 here).0 in

@@ -15,7 +15,8 @@ use Rattle.qg_image.specs.ImageState.{roots_in, tree_items, items_of_root, quota
 use Rattle.qg_walk.specs.IsWalk.{IsWalk}
 
 -- the parts are what is said, and nothing was left out
-pub filter_map_said : {P : Type 0} (meaning : Item → Option P) (items : List Item) (parts : List P) → map meaning items ≡ map (λ part. Some part) parts → filter_map meaning items ≡ parts
+pub filter_map_said : {P : Type 0} (meaning : Item → Option P) (items : List Item) (parts : List P)
+    → map meaning items ≡ map (λ part. Some part) parts → filter_map meaning items ≡ parts
 filter_map_said meaning [] [] h = refl
 filter_map_said meaning [] (part ∷ parts) h = absurd cc
 filter_map_said meaning (item ∷ items) [] h = absurd cc
@@ -25,18 +26,25 @@ filter_map_said {P} meaning (item ∷ items) (part ∷ parts) h =
     rw first (ap (λ (all : List P). part ∷ all) (filter_map_said meaning items parts rest))
 
 -- so a walk of the root tree finds the trees that it names
-pub roots_read : {N : Type 0} {keeps : N → List Node → Type 0} (super : Super) (image : List ℕ) (parts : List (ℕ × RootItem)) (nodes : N)
-    → IsWalk Roots root_part keeps super image (root_expected None None) super.root parts nodes → roots_in super image ≡ parts
+pub roots_read : {N : Type 0} {keeps : N → List Node → Type 0} (super : Super) (image : List ℕ)
+    (parts : List (ℕ × RootItem)) (nodes : N)
+    → IsWalk Roots root_part keeps super image (root_expected None None) super.root parts nodes
+    → roots_in super image ≡ parts
 unfolding roots_in
-roots_read super image parts nodes walk = filter_map_said root_part (tree_items Roots super image (root_expected None None) super.root) parts walk.said
+roots_read super image parts nodes walk =
+    filter_map_said root_part (tree_items Roots super image (root_expected None None) super.root) parts walk.said
 
 -- and one of another tree what its items say
-pub tree_read : {P N : Type 0} {keeps : N → List Node → Type 0} (tree : Tree) (meaning : Item → Option P) (super : Super) (image : List ℕ) (root : RootItem) (parts : List P) (nodes : N)
-    → IsWalk tree meaning keeps super image (root_told root) root.bytenr parts nodes → filter_map meaning (items_of_root tree super image root) ≡ parts
-tree_read tree meaning super image root parts nodes walk = filter_map_said meaning (tree_items tree super image (root_told root) root.bytenr) parts walk.said
+pub tree_read : {P N : Type 0} {keeps : N → List Node → Type 0} (tree : Tree) (meaning : Item
+    → Option P) (super : Super) (image : List ℕ) (root : RootItem) (parts : List P) (nodes : N)
+    → IsWalk tree meaning keeps super image (root_told root) root.bytenr parts nodes
+    → filter_map meaning (items_of_root tree super image root) ≡ parts
+tree_read tree meaning super image root parts nodes walk =
+    filter_map_said meaning (tree_items tree super image (root_told root) root.bytenr) parts walk.said
 
 -- the quota tree's, where the root tree names it
-pub quota_parts_of : (super : Super) (image : List ℕ) (root : RootItem) → value_at 8 (roots_in super image) ≡ Some root → quota_parts super image ≡ filter_map quota_part (items_of_root Quotas super image root)
+pub quota_parts_of : (super : Super) (image : List ℕ) (root : RootItem) → value_at 8 (roots_in super image) ≡ Some root
+    → quota_parts super image ≡ filter_map quota_part (items_of_root Quotas super image root)
 unfolding quota_parts
 quota_parts_of super image root there = rw there refl
 

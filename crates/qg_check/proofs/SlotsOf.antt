@@ -24,11 +24,14 @@ passes p (y ∷ ys) x all has =
       | inr later ↦ passes p ys x parts.1 later
     ]
 
-pub same_slots : (sizes : Sizes) (slots given : List ℕ) → HaveSame slots given → list_all (is_slot sizes) given ≡ true → All (λ slot. IsTrue (is_slot sizes slot)) slots
-same_slots sizes slots given same all = λ k d below. passes (is_slot sizes) given (get_or slots k d) all (same.into (get_or slots k d) (Contains-get_or slots k d below))
+pub same_slots : (sizes : Sizes) (slots given : List ℕ) → HaveSame slots given → list_all (is_slot sizes) given ≡ true
+    → All (λ slot. IsTrue (is_slot sizes slot)) slots
+same_slots sizes slots given same all = λ k d below. passes (is_slot sizes) given (get_or slots k d) all
+    (same.into (get_or slots k d) (Contains-get_or slots k d below))
 
 -- where nodes lie that lie in slots
-pub slots_of_addresses : (sizes : Sizes) (addresses : List ℕ) → AreInSlots sizes AreAddressesOf addresses → list_all (is_slot sizes) addresses ≡ true
+pub slots_of_addresses : (sizes : Sizes) (addresses : List ℕ) → AreInSlots sizes AreAddressesOf addresses
+    → list_all (is_slot sizes) addresses ≡ true
 slots_of_addresses sizes addresses in_slots = rw (in_slots.kept, list_all-map) in_slots.slots
 
 -- so they do where this was gathered of nodes that lie in slots
@@ -36,4 +39,8 @@ pub slots_of_gathered : (sizes : Sizes) (read : NodesRead) → AreInSlots sizes 
     → list_all (is_slot sizes) (map (λ node. node.linked.address) read.nodes.items) ≡ true
 slots_of_gathered sizes read in_slots =
     slots_of_addresses sizes (map number_read read.nodes.items)
-    (record { nodes = in_slots.nodes; kept = lie_as_told read.nodes.items in_slots.nodes in_slots.kept; slots = in_slots.slots })
+    (record {
+      nodes = in_slots.nodes;
+      kept = lie_as_told read.nodes.items in_slots.nodes in_slots.kept;
+      slots = in_slots.slots;
+    })

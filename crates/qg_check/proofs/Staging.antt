@@ -10,27 +10,32 @@ use Rattle.qg_walk.specs.declared.fault.OpenFault.TheVariants as opening
 use Rattle.qg_walk.specs.Fault.{TellsFailure, FailsAs, failure_of}
 
 -- the failure of the first part is told
-pub tells_first : (fault : OpenFault) (first : Option Failure) (rest : List (Option Failure)) → TellsFailure fault first → TellsFailure fault (first_failure (first ∷ rest))
+pub tells_first : (fault : OpenFault) (first : Option Failure) (rest : List (Option Failure)) → TellsFailure fault first
+    → TellsFailure fault (first_failure (first ∷ rest))
 tells_first fault first rest h = IfSome_then (failure_of fault) h (λ told is. rw is refl)
 
 -- a part that has none is passed over
-pub pass_first : (first : Option Failure) (rest : List (Option Failure)) → first ≡ None → first_failure (first ∷ rest) ≡ first_failure rest
+pub pass_first : (first : Option Failure) (rest : List (Option Failure)) → first ≡ None
+    → first_failure (first ∷ rest) ≡ first_failure rest
 pass_first first rest none = rw none refl
 
 pub tells_same : (fault : OpenFault) {a b : Option Failure} → a ≡ b → TellsFailure fault b → TellsFailure fault a
 tells_same fault same h = subst (TellsFailure fault) (sym same) h
 
 -- a call that hands on a fault fails as it tells
-pub fails_handed : {T : Type 0} (result : Result T OpenFault) (fault : OpenFault) (failure : Option Failure) → IsErrAnd result (λ given. given ≡ fault) → TellsFailure fault failure → FailsAs result failure
+pub fails_handed : {T : Type 0} (result : Result T OpenFault) (fault : OpenFault) (failure : Option Failure)
+    → IsErrAnd result (λ given. given ≡ fault) → TellsFailure fault failure → FailsAs result failure
 fails_handed (Ok value) fault failure is told = absurd is
 fails_handed (Err given) fault failure is told = subst (λ (f : OpenFault). TellsFailure f failure) (sym is) told
 
-pub fails_same : {T : Type 0} (result : Result T OpenFault) {a b : Option Failure} → a ≡ b → FailsAs result b → FailsAs result a
+pub fails_same : {T : Type 0} (result : Result T OpenFault) {a b : Option Failure} → a ≡ b → FailsAs result b
+    → FailsAs result a
 fails_same (Ok value) same h = same ∙ h
 fails_same (Err fault) same h = tells_same fault same h
 
 -- it tells what that fault tells
-pub tells_handed : {T : Type 0} (result : Result T OpenFault) (fault : OpenFault) (failure : Option Failure) → IsErrAnd result (λ given. given ≡ fault)
+pub tells_handed : {T : Type 0} (result : Result T OpenFault) (fault : OpenFault) (failure : Option Failure)
+    → IsErrAnd result (λ given. given ≡ fault)
     → TellsFailure fault failure → IfErr result (λ given. TellsFailure given failure)
 tells_handed (Ok value) fault failure is told = tt
 tells_handed (Err given) fault failure is told = subst (λ (f : OpenFault). TellsFailure f failure) (sym is) told
@@ -42,7 +47,8 @@ none_told (opening.Differs group which stored counted) told = absurd cc
 none_told opening.Disk told = refl
 none_told opening.NoMemory told = refl
 
-pub sound_handed : {T : Type 0} (result : Result T OpenFault) (fault : OpenFault) → IsErrAnd result (λ given. given ≡ fault) → failure_of fault ≡ None
+pub sound_handed : {T : Type 0} (result : Result T OpenFault) (fault : OpenFault)
+    → IsErrAnd result (λ given. given ≡ fault) → failure_of fault ≡ None
     → IfErr result (λ given. failure_of given ≡ None)
 sound_handed (Ok value) fault is none = tt
 sound_handed (Err given) fault is none = subst (λ (f : OpenFault). failure_of f ≡ None) (sym is) none
@@ -54,7 +60,8 @@ none_tells opening.Disk failure none = tt
 none_tells opening.NoMemory failure none = tt
 
 -- where no rule is broken a call fails as that says, if its faults tell none
-pub fails_kept : {T : Type 0} (result : Result T OpenFault) (failure : Option Failure) → failure ≡ None → IfErr result (λ given. failure_of given ≡ None)
+pub fails_kept : {T : Type 0} (result : Result T OpenFault) (failure : Option Failure) → failure ≡ None
+    → IfErr result (λ given. failure_of given ≡ None)
     → FailsAs result failure
 fails_kept (Ok value) failure none sound = none
 fails_kept (Err given) failure none sound = none_tells given failure sound

@@ -12,7 +12,8 @@ use Rattle.qg_image.specs.State.{layout_of}
 use Rattle.qg_image.specs.Owed.{Agrees, homeless}
 use Rattle.qg_image.specs.Space.{present_extents}
 use Rattle.qg_image.specs.declared.tree.Tree.TheVariants.{Extents, Quotas, Files}
-use Rattle.qg_image.specs.ImageState.{state_in, quota_in, quota_parts, quota_root, other_nodes, extent_parts, nodes_of_root, of_tree, root_nodes, addresses_of}
+use Rattle.qg_image.specs.ImageState.{state_in, quota_in, quota_parts, quota_root, other_nodes, extent_parts}
+use Rattle.qg_image.specs.ImageState.{nodes_of_root, of_tree, root_nodes, addresses_of}
 use Rattle.qg_image.specs.Verdict.{extent_set}
 use Rattle.qg_extents.specs.Table.{book_of}
 use Rattle.qg_extents.specs.Told.{IsTold}
@@ -32,7 +33,8 @@ pub quota_of_state : (super : Super) (image : List ℕ) → (state_in super imag
 unfolding state_in
 quota_of_state super image = refl
 
-quota_so : (super : Super) (image : List ℕ) (root : Option RootItem) (tree : Option QuotaTree) → quota_root super image ≡ root → IsQuotaTreeOf super image root tree
+quota_so : (super : Super) (image : List ℕ) (root : Option RootItem) (tree : Option QuotaTree)
+    → quota_root super image ≡ root → IsQuotaTreeOf super image root tree
     → quota_in super image ≡ quota_of (option_map (λ (tree : QuotaTree). tree.quota) tree)
 unfolding quota_parts
 quota_so super image None None named is = rw named refl
@@ -40,13 +42,16 @@ quota_so super image None (Some tree) named is = absurd is
 quota_so super image (Some root) None named is = absurd is
 quota_so super image (Some root) (Some tree) named is = rw named (ap (λ (q : Quota). Some q) (sym is.said))
 
-pub quota_read : (super : Super) (image : List ℕ) (read : Read) → AreRead super image read → quota_in super image ≡ quota_of (option_map (λ (tree : QuotaTree). tree.quota) read.quotas)
-quota_read super image read are = quota_so super image read.trees.quotas read.quotas are.trees.named.quota_tree are.quotas
+pub quota_read : (super : Super) (image : List ℕ) (read : Read) → AreRead super image read
+    → quota_in super image ≡ quota_of (option_map (λ (tree : QuotaTree). tree.quota) read.quotas)
+quota_read super image read are =
+    quota_so super image read.trees.quotas read.quotas are.trees.named.quota_tree are.quotas
 
 -- ---- the nodes
 
 -- those of the quota tree, where there is one
-quota_placed : (super : Super) (image : List ℕ) (root : Option RootItem) (tree : Option QuotaTree) → IsQuotaTreeOf super image root tree
+quota_placed : (super : Super) (image : List ℕ) (root : Option RootItem) (tree : Option QuotaTree)
+    → IsQuotaTreeOf super image root tree
     → quota_nodes_read tree ≡ addresses_of (of_tree (nodes_of_root Quotas super image) root)
 quota_placed super image None None is = refl
 quota_placed super image None (Some tree) is = absurd is
@@ -61,9 +66,11 @@ pub others_read : (super : Super) (image : List ℕ) (read : Read) → AreRead s
 others_read super image read are =
     let extents = nodes_of_root Extents super image read.trees.extents in
     let quotas = of_tree (nodes_of_root Quotas super image) read.trees.quotas in
-    let all : addresses_of (other_nodes super image) ≡ addresses_of (root_nodes super image ++ extents ++ quotas) = rw (are.trees.named.extent_tree, are.trees.named.quota_tree) refl in
+    let all : addresses_of (other_nodes super image) ≡ addresses_of (root_nodes super image ++ extents ++ quotas) =
+    rw (are.trees.named.extent_tree, are.trees.named.quota_tree) refl in
     all ∙ apart (root_nodes super image) extents quotas
-    ∙ sym (three are.trees.placed are.extents.placed (quota_placed super image read.trees.quotas read.quotas are.quotas)) where
+    ∙ sym (three are.trees.placed are.extents.placed
+    (quota_placed super image read.trees.quotas read.quotas are.quotas)) where
       append : (b c : List Node) → addresses_of (b ++ c) ≡ addresses_of b ++ addresses_of c
       append [] c = refl
       append (node ∷ b) c = ap (λ (rest : List ℕ). (header_of node).address ∷ rest) (append b c)
@@ -75,25 +82,31 @@ others_read super image read are =
 -- lists that have the same have the same numbers
 same_map : {A B : Type 0} (f : A → B) (xs ys : List A) → HaveSame xs ys → HaveSame (map f xs) (map f ys)
 same_map {A} {B} f xs ys same = record {
-  into = λ y has. let x = one_mapped f xs y has in subst (λ (z : B). Contains (map f ys) z) x.2 (contains_map f ys x.0 (same.into x.0 x.1));
-  back = λ y has. let x = one_mapped f ys y has in subst (λ (z : B). Contains (map f xs) z) x.2 (contains_map f xs x.0 (same.back x.0 x.1));
+  into = λ y has. let x = one_mapped f xs y has in
+      subst (λ (z : B). Contains (map f ys) z) x.2 (contains_map f ys x.0 (same.into x.0 x.1));
+  back = λ y has. let x = one_mapped f ys y has in
+      subst (λ (z : B). Contains (map f xs) z) x.2 (contains_map f xs x.0 (same.back x.0 x.1));
 }
 
 -- where what was surveyed lies there lie the nodes of all subvolumes
 pub nodes_read : (super : Super) (image : List ℕ) (read : Read) → AreRead super image read → (addresses : List ℕ)
     → HaveSame addresses (map (λ node. node.linked.address) read.nodes.nodes.items)
-    → HaveSame addresses (addresses_of (flat_map (λ entry. nodes_of_root Files super image entry.1) read.trees.subvolumes))
+    → HaveSame addresses (addresses_of
+    (flat_map (λ entry. nodes_of_root Files super image entry.1) read.trees.subvolumes))
 nodes_read super image read are addresses same =
     let found = are.subvolumes.found in
     let lie = lie_as_told read.nodes.nodes.items found.nodes found.kept in
     same_on addresses (addresses_of found.nodes) (addresses_of (nodes_of_all super image read.trees.subvolumes))
     (subst (HaveSame addresses) lie same)
-    (same_map (λ (node : Node). (header_of node).address) found.nodes (nodes_of_all super image read.trees.subvolumes) (record {
+    (same_map (λ (node : Node). (header_of node).address) found.nodes (nodes_of_all super image read.trees.subvolumes)
+    (record {
       into = λ node has.
           let one = found.only node has in
-          contains_flat_map (λ (entry : ℕ × RootItem). nodes_of_root Files super image entry.1) read.trees.subvolumes one.0 node one.1 one.2;
+          contains_flat_map (λ (entry : ℕ × RootItem). nodes_of_root Files super image entry.1) read.trees.subvolumes
+          one.0 node one.1 one.2;
       back = λ node has.
-          let one = one_flat_mapped (λ (entry : ℕ × RootItem). nodes_of_root Files super image entry.1) read.trees.subvolumes node has in
+          let one = one_flat_mapped (λ (entry : ℕ × RootItem). nodes_of_root Files super image entry.1)
+          read.trees.subvolumes node has in
           found.all one.0 node one.1 one.2;
     }))
 
@@ -113,15 +126,18 @@ pub record IsKeptOf (super : Super) (image : List ℕ) (read : Read) (kept : Ima
   pub agrees : Agrees (layout_of (state_in super image)) (extent_parts super image)
   pub home : homeless (layout_of (state_in super image)) ≡ None
 
-pub kept_read : (super : Super) (image : List ℕ) (read : Read) (kept : Image) → AreRead super image read → IsKeptOf super image read kept → StandsFor super image kept
+pub kept_read : (super : Super) (image : List ℕ) (read : Read) (kept : Image) → AreRead super image read
+    → IsKeptOf super image read kept → StandsFor super image kept
 kept_read super image read kept are is = record {
   same = is.same;
   roots = are.trees.named.all ∙ sym is.roots;
   quota = quota_read super image read are ∙ sym (ap quota_of is.quota);
-  each = subst (λ (roots : List (ℕ × RootItem)). AllByRecursion (λ entry. IsSubvolumeOf super image entry.1) roots) (sym is.roots)
+  each = subst (λ (roots : List (ℕ × RootItem)). AllByRecursion (λ entry. IsSubvolumeOf super image entry.1) roots)
+      (sym is.roots)
       (are_subvolumes super image read.trees.subvolumes read.nodes are.subvolumes);
   others = is.others ∙ sym (others_read super image read are);
-  nodes = subst (λ (roots : List (ℕ × RootItem)). HaveSame kept.nodes (addresses_of (flat_map (λ entry. nodes_of_root Files super image entry.1) roots)))
+  nodes = subst (λ (roots : List (ℕ × RootItem)). HaveSame kept.nodes
+      (addresses_of (flat_map (λ entry. nodes_of_root Files super image entry.1) roots)))
       (sym is.roots) (nodes_read super image read are kept.nodes is.nodes);
   ascending = is.ascending;
   extents = sym is.extents;

@@ -14,13 +14,16 @@ slice_range-range image place n =
     rw long refl
 
 not_whole : (image : List ℕ) (place : ℕ) → length image < place + 4096 → length (range place 4096 image) ≢ 4096
-not_whole image place short = λ long. absurd (omega (arith, long, length-take 4096 (drop place image), length-drop place image))
+not_whole image place short =
+    λ long. absurd (omega (arith, long, length-take 4096 (drop place image), length-drop place image))
 
 -- an image that ends before the place does has none there
 pub super_in-short : (image : List ℕ) (place : ℕ) → length image < place + 4096 → super_in image place ≡ None
 super_in-short image place short =
-    ap (super_read place) (slice_range-range image place 4096) ∙ super_read-no_length place (range place 4096 image) (not_whole image place short)
+    ap (super_read place) (slice_range-range image place 4096)
+    ∙ super_read-no_length place (range place 4096 image) (not_whole image place short)
 
 -- what is read from the range is what the image has there
-pub super_in-range : (image : List ℕ) (place : ℕ) (bytes : List ℕ) → bytes ≡ range place 4096 image → super_read place bytes ≡ super_in image place
+pub super_in-range : (image : List ℕ) (place : ℕ) (bytes : List ℕ) → bytes ≡ range place 4096 image
+    → super_read place bytes ≡ super_in image place
 super_in-range image place bytes is = ap (super_read place) (is ∙ (rw (slice_range-range image place 4096) refl))

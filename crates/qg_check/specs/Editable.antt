@@ -22,9 +22,9 @@ pub record AreSubvolumes (generation : ℕ) (roots : List (ℕ × RootItem)) : T
   pub by : All (λ entry. IsRootBy generation entry.1) roots
 
 -- Groups that the quota tree of this generation can tell beside these subvolumes: no more than an image can have,
--- ascending by number; each one of level 0 is that of a number that a subvolume may have, each subvolume has its own, and
--- no later commit changed their counters. Relations are no more than an image can have, each between groups that are
--- there, and going up a level
+-- ascending by number; each one of level 0 is that of a number that a subvolume may have, each subvolume has its own,
+-- and no later commit changed their counters. Relations are no more than an image can have, each between groups that
+-- are there, and going up a level
 pub record AreGroups (generation : ℕ) (subvolumes : List ℕ) (quota : Quota) : Type 0 where
   pub few : length quota.groups ≤ most_groups
   pub ascending : IsStrictlyIncreasing (keys_of quota.groups)

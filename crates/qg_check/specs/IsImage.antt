@@ -19,7 +19,8 @@ use Rattle.qg_image.specs.Owed.{Agrees, homeless, is_nothing, layout_extents, ow
 use Rattle.qg_image.specs.State.{Layout, Placed, layout_of}
 use Rattle.qg_image.specs.Space.{present_extents}
 use Rattle.qg_image.specs.declared.tree.Tree.TheVariants.{Files}
-use Rattle.qg_image.specs.ImageState.{extent_parts, items_of_root, other_nodes, nodes_of_root, quota_in, roots_in, state_in, subvolume_roots, super_in, super_of, addresses_of}
+use Rattle.qg_image.specs.ImageState.{extent_parts, items_of_root, other_nodes, nodes_of_root, quota_in, roots_in}
+use Rattle.qg_image.specs.ImageState.{state_in, subvolume_roots, super_in, super_of, addresses_of}
 use Rattle.qg_image.specs.Verdict.{IsSound, extent_set, space_failure}
 use Rattle.qg_reach.specs.Sets.{HaveSame}
 use Rattle.qg_refs.specs.declared.kept.What.{What}
@@ -41,24 +42,30 @@ pub record IsSubvolumeOf (super : Super) (bytes : List ℕ) (root : RootItem) : 
 
 -- what is known of a node of so many bytes, and of a data extent
 abbrev pub node_known : ℕ → Node → What
-node_known nodesize node = record { bytes = nodesize; level = Some (header_of node).level; generation = (header_of node).generation }
+node_known nodesize node = record {
+  bytes = nodesize;
+  level = Some (header_of node).level;
+  generation = (header_of node).generation;
+}
 
 abbrev pub extent_known : ℕ → Element → What
 extent_known generation extent = record { bytes = extent.bytes; level = None; generation = generation }
 
--- A book says what a layout owes: exactly that is counted. Of each node bytes, level, generation and mark are known, and of each extent
--- that leaves name its bytes; and what is owed is owed to a node or an extent
+-- A book says what a layout owes: exactly that is counted. Of each node bytes, level, generation and mark are known,
+-- and of each extent that leaves name its bytes; and what is owed is owed to a node or an extent
 pub record IsBookOf (layout : Layout) (book : Book) : Type 0 where
   pub agrees : AgreesWithOwed layout book
-  pub nodes : (at : ℕ) (placed : Placed) → value_at at layout.nodes ≡ Some placed → what_in (book at) ≡ Some (node_known layout.nodesize placed.node)
+  pub nodes : (at : ℕ) (placed : Placed) → value_at at layout.nodes ≡ Some placed
+      → what_in (book at) ≡ Some (node_known layout.nodesize placed.node)
   pub marks : (at : ℕ) (placed : Placed) → value_at at layout.nodes ≡ Some placed → full_in (book at) ≡ placed.full
   pub extents : (run : Element) → Contains (layout_extents layout) run
       → (generation : ℕ) × (what_in (book run.address) ≡ Some (extent_known generation run))
-  pub begins : (at : ℕ) (reference : Reference) → 0 < owed_count layout at reference → is_nothing (what_at layout at) ≡ false
+  pub begins : (at : ℕ) (reference : Reference) → 0 < owed_count layout at reference
+      → is_nothing (what_at layout at) ≡ false
 
--- This is kept of bytes with this superblock: the subvolumes, each of which has files, and quota of the state that they stand for, where
--- nodes and extents lie, and the book that the extent tree's items tell, which says what the state's layout owes: exactly that is recorded,
--- and each node that is not full is reached by its owner
+-- This is kept of bytes with this superblock: the subvolumes, each of which has files, and quota of the state that they
+-- stand for, where nodes and extents lie, and the book that the extent tree's items tell, which says what the state's
+-- layout owes: exactly that is recorded, and each node that is not full is reached by its owner
 pub record StandsFor (super : Super) (bytes : List ℕ) (image : Image) : Type 0 where
   pub same : image.superblock ≡ super
   pub roots : subvolume_roots (roots_in super bytes) ≡ image.roots
@@ -83,7 +90,8 @@ pub record IsImage (bytes : List ℕ) (image : Image) : Type 0 where
 
 -- ---- over any disk
 
--- this is kept of the trees that were read: what they said, and where nodes and extents lie, which keep the rule `space`
+-- this is kept of the trees that were read: what they said, and where nodes and extents lie, which keep the rule
+-- `space`
 pub record Keeps (super : Super) (read : Read) (image : Image) : Type 0 where
   pub roots : image.roots ≡ read.trees.subvolumes
   pub quota : image.quota ≡ option_map (λ tree. tree.quota) read.quotas
@@ -93,8 +101,8 @@ pub record Keeps (super : Super) (read : Read) (image : Image) : Type 0 where
   pub book : IsTold super.nodesize read.extents.parts (book_of image.book)
   pub table : IsTable image.book
 
--- an image that was read may be edited: its numbers are in their ranges, its extents lie apart, its nodes lie in slots, the next commit can
--- name its subvolumes and groups, and no generation is past its own
+-- an image that was read may be edited: its numbers are in their ranges, its extents lie apart, its nodes lie in slots,
+-- the next commit can name its subvolumes and groups, and no generation is past its own
 pub record IsEditable (image : Image) : Type 0 where
   pub superblock : IsTrue (is_super image.superblock)
   pub roots : AreSubvolumes image.superblock.generation image.roots

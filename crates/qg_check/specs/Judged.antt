@@ -15,14 +15,16 @@ use Rattle.qg_check.specs.declared.judge.JudgedTrees.{JudgedTrees}
 use Rattle.qg_check.specs.declared.judge.Read.{Read}
 use Rattle.qg_check.specs.declared.trees.QuotaTree.{QuotaTree}
 
--- this was judged of what was read: the trees as they were; the extents that the nodes name, which keep the rule `space`; and what was surveyed of
--- the nodes, ascending by address
+-- this was judged of what was read: the trees as they were; the extents that the nodes name, which keep the rule
+-- `space`; and what was surveyed of the nodes, ascending by address
 pub record IsJudgedOf (super : Super) (read : Read) (judged : JudgedTrees) : Type 0 where
   pub trees : judged.trees ≡ read.trees
   pub extents : judged.extents ≡ read.extents
   pub quota : judged.quotas.quota ≡ option_map (λ (tree : QuotaTree). tree.quota) read.quotas
   pub quota_nodes : judged.quotas.nodes ≡ quota_nodes_read read.quotas
-  pub named : (nodes : List Node) → AreOfNodes read.nodes nodes → judged.runs ≡ extent_set (flat_map (λ node. map extent_of (pieces_of node)) nodes)
+  pub named : (nodes : List Node) → AreOfNodes read.nodes nodes
+      → judged.runs ≡ extent_set (flat_map (λ node. map extent_of (pieces_of node)) nodes)
   pub space : space_failure (sizes_of super) judged.runs ≡ None
-  pub same : HaveSame (map (λ node. node.linked.address) judged.nodes.items) (map (λ node. node.linked.address) read.nodes.nodes.items)
+  pub same : HaveSame (map (λ node. node.linked.address) judged.nodes.items)
+      (map (λ node. node.linked.address) read.nodes.nodes.items)
   pub ascending : IsStrictlyIncreasing (map (λ node. node.linked.address) judged.nodes.items)

@@ -22,7 +22,8 @@ pub record IsSoundAt (image : List ℕ) (generation : ℕ) : Type 0 where
 abbrev pub IsReportOn : List ℕ → Report → Type 0
 IsReportOn image (Sound generation) = IsSoundAt image generation
 IsReportOn image (Broken rule address) = verdict image ≡ Some (failure.Broken rule address)
-IsReportOn image (Differs group which stored counted) = verdict image ≡ Some (failure.Differs group which stored counted)
+IsReportOn image (Differs group which stored counted) =
+    verdict image ≡ Some (failure.Differs group which stored counted)
 
 -- what is told of an image that could not be opened
 abbrev pub report_of : OpenFault → Result Report CheckFault

@@ -10,4 +10,5 @@ stale_place None None = None
 stale_place None (Some second) = Some first_place
 stale_place (Some first) None = Some second_place
 stale_place (Some first) (Some second) =
-    if same_super first second then None else (if nat_lt first.generation second.generation then Some first_place else Some second_place)
+    if same_super first second then None else
+    (if nat_lt first.generation second.generation then Some first_place else Some second_place)

@@ -11,7 +11,8 @@ use Rattle.qg_image.specs.declared.part.ExtentPart.{ExtentPart}
 use Rattle.qg_image.specs.Owed.{part_address}
 use Rattle.qg_image.specs.declared.tree.Tree.TheVariants.{Extents, Quotas}
 use Rattle.qg_image.specs.Failure.{first_failure}
-use Rattle.qg_image.specs.ImageState.{addresses_of, root_nodes, roots_in, subvolume_roots, items_of_root, nodes_of_root, quota_told}
+use Rattle.qg_image.specs.ImageState.{addresses_of, root_nodes, roots_in, subvolume_roots, items_of_root, nodes_of_root}
+use Rattle.qg_image.specs.ImageState.{quota_told}
 use Rattle.qg_image.specs.Walk.{are_by}
 use Rattle.qg_image.specs.Verdict.{are_roots, most_subvolumes, subvolume_failure}
 use Rattle.qg_extents.specs.Laws.{AreFew}
@@ -65,7 +66,8 @@ quota_nodes_read None = []
 quota_nodes_read (Some tree) = tree.nodes
 
 -- the trees of subvolumes with these ROOT_ITEMs keep all rules on subvolumes, and this was gathered of their nodes
-pub record AreFileTrees (super : Super) (image : List ℕ) (roots : List (ℕ × RootItem)) (nodes : NodesRead) : Type 0 where
+pub record AreFileTrees (super : Super) (image : List ℕ) (roots : List (ℕ × RootItem))
+    (nodes : NodesRead) : Type 0 where
   pub found : AreFound super image roots AreOfNodes nodes
   pub sound : first_failure (map (λ entry. subvolume_failure super image entry.1) roots) ≡ None
 
@@ -78,7 +80,8 @@ pub record AreRead (super : Super) (image : List ℕ) (read : Read) : Type 0 whe
 
 -- ---- over any disk
 
--- what the extent tree says stands by address; no reference is told more often than it may be there, and no generation is past this one
+-- what the extent tree says stands by address; no reference is told more often than it may be there, and no generation
+-- is past this one
 pub record AreFitParts (generation : ℕ) (parts : List ExtentPart) : Type 0 where
   pub ordered : IsNonDecreasingBy part_address parts
   pub few : AreFew parts

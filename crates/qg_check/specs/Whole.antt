@@ -27,12 +27,14 @@ pub record IsFit (super : Super) (read : Read) : Type 0 where
   pub extents : list_all (is_slot (sizes_of super)) read.extents.nodes ≡ true
   pub parts : AreFitParts super.generation read.extents.parts
   pub quotas : list_all (is_slot (sizes_of super)) (quota_nodes_read read.quotas) ≡ true
-  pub groups : AreGroupsOf super.generation (keys_of read.trees.subvolumes) (quota_of (option_map (λ (tree : QuotaTree). tree.quota) read.quotas))
+  pub groups : AreGroupsOf super.generation (keys_of read.trees.subvolumes)
+      (quota_of (option_map (λ (tree : QuotaTree). tree.quota) read.quotas))
   pub tracked : IfSome (option_map (λ (tree : QuotaTree). tree.quota) read.quotas) IsTracked
   pub none : IfSome (option_map (λ (tree : QuotaTree). tree.quota) read.quotas) (λ state. HoldsAll state [])
   pub nodes : AreInSlots (sizes_of super) AreOfNodes read.nodes
 
--- this was read of an image, whose superblocks and trees keep their rules, each by itself: what is left of its verdict is what they say together
+-- this was read of an image, whose superblocks and trees keep their rules, each by itself: what is left of its verdict
+-- is what they say together
 pub record IsWhole (image : List ℕ) (whole : Whole) : Type 0 where
   pub chosen : super_of image ≡ Some whole.superblock
   pub stale : whole.stale ≡ stale_place (super_in image first_place) (super_in image second_place)

@@ -35,9 +35,9 @@ pub(crate) fn judge_extents(sizes: &Sizes, extents: &[Element]) -> Result<(), Op
     }
 }
 
-/// Judges the stored counters of groups; while quota is off there are none. `roots` are where the roots of all subvolumes
-/// lie, by their numbers, `nodes` what was surveyed of all nodes, ascending by address, and `extents` those that leaves
-/// name.
+/// Judges the stored counters of groups; while quota is off there are none. `roots` are where the roots of all
+/// subvolumes lie, by their numbers, `nodes` what was surveyed of all nodes, ascending by address, and `extents` those
+/// that leaves name.
 pub(crate) fn judge_counts(
     alloc: Global,
     roots: &[(RootId, Address)],

@@ -57,8 +57,10 @@ pub(crate) fn judge_trees(alloc: Global, superblock: Super, read: Read) -> Resul
     requires parts { AreFitParts superblock.generation read.extents.parts }
     requires subvolumes { AreSubvolumes superblock.generation read.trees.subvolumes }
     requires tracked { IfSome (option_map (λ tree. tree.quota) read.quotas) IsTracked }
-    ensures failure { (bytes : List ℕ) → AreRead superblock bytes read → FailsAs result (together_failure superblock bytes) }
-    ensures image { (bytes : List ℕ) → AreRead superblock bytes read → IfOk result (λ image. StandsFor superblock bytes image) }
+    ensures failure { (bytes : List ℕ) → AreRead superblock bytes read
+        → FailsAs result (together_failure superblock bytes) }
+    ensures image { (bytes : List ℕ) → AreRead superblock bytes read
+        → IfOk result (λ image. StandsFor superblock bytes image) }
     ensures superblock { IfOk result (λ image. image.superblock ≡ superblock) }
     ensures keeps { IfOk result (λ image. Keeps superblock read image) }
     ensures no_disk { IsErrOf result OpenFault.Disk → ⊥ }

@@ -36,15 +36,17 @@ pub struct Whole {
     pub read: Read,
 }
 
-/// Reads an image: what it stands for where it is sound, else the first rule that it breaks, or the first stored counter that is not the
-/// direct count (this project's own). It writes nothing.
+/// Reads an image: what it stands for where it is sound, else the first rule that it breaks, or the first stored
+/// counter that is not the direct count (this project's own). It writes nothing.
 pub fn read_image<D: Disk>(alloc: Global, disk: &mut D) -> Result<Image, OpenFault>
-    ensures failure { (events : List Event) → D.history disk.old ≡ Some events → FailsAs result (verdict (content events)) }
+    ensures failure { (events : List Event) → D.history disk.old ≡ Some events
+        → FailsAs result (verdict (content events)) }
     ensures image { (events : List Event) → D.history disk.old ≡ Some events
         → IfOk result (λ image. IsImage (content events) image) }
     ensures served { IfOk result (λ image. IsTrue (is_super image.superblock)) }
     ensures editable { IfOk result (λ image. IsEditable image) }
-    ensures place { IfOk result (λ image. IfSome image.stale (λ place. (place ≡ FIRST_PLACE) ⊎ (place ≡ SECOND_PLACE))) }
+    ensures place { IfOk result
+        (λ image. IfSome image.stale (λ place. (place ≡ FIRST_PLACE) ⊎ (place ≡ SECOND_PLACE))) }
     ensures inside { IfOk result (λ image. total_bytes (sizes_of image.superblock) ≤ D.size disk.new) }
     ensures history { D.history disk.new ≡ D.history disk.old }
     ensures size { D.size disk.new ≡ D.size disk.old }
@@ -68,7 +70,8 @@ pub(crate) fn read_whole<D: Disk>(alloc: Global, disk: &mut D) -> Result<Whole, 
     ensures whole { (events : List Event) → D.history disk.old ≡ Some events
         → IfOk result (λ whole. IsWhole (content events) whole) }
     ensures fit { IfOk result (λ whole. IsFit whole.superblock whole.read) }
-    ensures place { IfOk result (λ whole. IfSome whole.stale (λ place. (place ≡ FIRST_PLACE) ⊎ (place ≡ SECOND_PLACE))) }
+    ensures place { IfOk result
+        (λ whole. IfSome whole.stale (λ place. (place ≡ FIRST_PLACE) ⊎ (place ≡ SECOND_PLACE))) }
     ensures inside { IfOk result (λ whole. total_bytes (sizes_of whole.superblock) ≤ D.size disk.new) }
     ensures history { D.history disk.new ≡ D.history disk.old }
     ensures size { D.size disk.new ≡ D.size disk.old }

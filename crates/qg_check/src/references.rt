@@ -27,8 +27,9 @@ use qg_num::{Address, RootId, Rule};
 use qg_walk::OpenFault;
 use std::alloc::Global;
 
-/// Judges the references that the extent tree records, and that each node that is not full is reached by its owner. `roots` are the
-/// addresses of the subvolumes' roots, ascending by number. Gives what is surveyed of the nodes, ascending by address.
+/// Judges the references that the extent tree records, and that each node that is not full is reached by its owner.
+/// `roots` are the addresses of the subvolumes' roots, ascending by number. Gives what is surveyed of the nodes,
+/// ascending by address.
 pub(crate) fn judge_recorded(
     alloc: Global,
     nodes: NodesRead,
@@ -43,7 +44,8 @@ pub(crate) fn judge_recorded(
         → FailsAs result (references_failure super bytes (layout_of (state_in super bytes))) }
     ensures surveyed { (super : Super) (bytes : List ℕ) (items : List (ℕ × RootItem)) → roots.now ≡ map root_at items
         → AreGathered super bytes items nodes extents.now parts.now
-        → IfOk result (λ those. AreSurveyed (layout_of (state_in super bytes)) roots.now those.items super.nodesize extents.now) }
+        → IfOk result (λ those. AreSurveyed (layout_of (state_in super bytes)) roots.now those.items super.nodesize
+        extents.now) }
     ensures ascending { IfOk result (λ those. IsStrictlyIncreasing (map (λ node. node.linked.address) those.items)) }
     ensures same { IfOk result (λ those. HaveSame (map (λ node. node.linked.address) those.items)
         (map (λ node. node.linked.address) nodes.nodes.items)) }
@@ -55,7 +57,8 @@ pub(crate) fn judge_recorded(
     }
 }
 
-/// The book that the extent tree's items tell. Where they tell none, as only a disk that lies has it, rule `refs` is broken.
+/// The book that the extent tree's items tell. Where they tell none, as only a disk that lies has it, rule `refs` is
+/// broken.
 pub(crate) fn read_book(
     alloc: Global,
     nodesize: u32,
@@ -78,7 +81,8 @@ pub(crate) fn read_book(
 
 // The fault of opening where no book could be read.
 fn opening_fault(fault: RefsFault) -> OpenFault
-    ensures told { (first : Option ℕ) → IsFault first fault → TellsFailure result (option_map (failure.Broken rule.Refs) first) }
+    ensures told { (first : Option ℕ) → IsFault first fault
+        → TellsFailure result (option_map (failure.Broken rule.Refs) first) }
     ensures no_disk { result ≡ OpenFault.Disk → ⊥ }
 {
     match fault {

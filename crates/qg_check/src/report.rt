@@ -62,7 +62,8 @@ pub fn count_image<D: Disk>(alloc: Global, disk: &mut D) -> Result<Report, Check
 
 // The generation of an image that is sound; else why it is not, or was not judged.
 fn count<D: Disk>(alloc: Global, disk: &mut D) -> Result<Generation, OpenFault>
-    ensures failure { (events : List Event) → D.history disk.old ≡ Some events → FailsAs result (verdict (content events)) }
+    ensures failure { (events : List Event) → D.history disk.old ≡ Some events
+        → FailsAs result (verdict (content events)) }
     ensures at { (events : List Event) → D.history disk.old ≡ Some events
         → IfOk result (λ generation. IsSoundAt (content events) generation) }
     ensures history { D.history disk.new ≡ D.history disk.old }

@@ -135,8 +135,8 @@ struct Named {
     quotas: Option<RootItem>,
 }
 
-// The trees besides subvolumes' that a root tree names; `None` exactly where the extent tree or the top-level subvolume is
-// missing.
+// The trees besides subvolumes' that a root tree names; `None` exactly where the extent tree or the top-level subvolume
+// is missing.
 fn name_trees(roots: &[RootPart]) -> Option<Named>
     ensures some { IfSome result (λ named. HasTrees roots.now named.extents named.quotas) }
     ensures none { IfNone result (are_roots roots.now ≡ false) }
@@ -208,14 +208,16 @@ pub(crate) fn read_quotas<D: Disk>(
     requires inside { total_bytes (sizes_of superblock.now) ≤ D.size disk.old }
     ensures failure { (events : List Event) (extents : RootItem) → D.history disk.old ≡ Some events
         → AreNamed (roots_in superblock.now (content events)) extents root.now subvolumes.now
-        → FailsAs result (quota_failure superblock.now (content events) (roots_in superblock.now (content events)) root.now) }
+        → FailsAs result (quota_failure superblock.now (content events) (roots_in superblock.now (content events))
+        root.now) }
     ensures tree { (events : List Event) → D.history disk.old ≡ Some events
         → IfOk result (λ found. IsQuotaTreeOf superblock.now (content events) root.now found) }
     ensures groups { IfOk result (λ found. AreGroupsOf superblock.now.generation (keys_of subvolumes.now)
         (quota_of (option_map (λ tree. tree.quota) found))) }
     ensures tracked { IfOk result (λ found. IfSome (option_map (λ tree. tree.quota) found) IsTracked) }
     ensures none { IfOk result (λ found. IfSome (option_map (λ tree. tree.quota) found) (λ state. HoldsAll state [])) }
-    ensures slots { IfOk result (λ found. IsTrue (list_all (is_slot (sizes_of superblock.now)) (quota_nodes_read found))) }
+    ensures slots { IfOk result
+        (λ found. IsTrue (list_all (is_slot (sizes_of superblock.now)) (quota_nodes_read found))) }
     ensures history { D.history disk.new ≡ D.history disk.old }
     ensures size { D.size disk.new ≡ D.size disk.old }
     ensures cause { HasCause OpenFault.Disk (D.faults disk.old) (D.faults disk.new) result }
@@ -241,7 +243,8 @@ fn read_quota_tree<D: Disk>(
     requires inside { total_bytes (sizes_of superblock.now) ≤ D.size disk.old }
     ensures failure { (events : List Event) (extents : RootItem) → D.history disk.old ≡ Some events
         → AreNamed (roots_in superblock.now (content events)) extents (Some root.now) subvolumes.now
-        → FailsAs result (quota_failure superblock.now (content events) (roots_in superblock.now (content events)) (Some root.now)) }
+        → FailsAs result (quota_failure superblock.now (content events) (roots_in superblock.now (content events))
+        (Some root.now)) }
     ensures tree { (events : List Event) → D.history disk.old ≡ Some events
         → IfOk result (λ tree. IsQuotaTree superblock.now (content events) root.now tree) }
     ensures groups { IfOk result (λ tree.

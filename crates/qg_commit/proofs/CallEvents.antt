@@ -9,7 +9,8 @@ use Rattle.qg_super.specs.declared.superblock.Super.{Super}
 use Rattle.qg_crashes.specs.Committing.{superblock_events, commit_events, IsFront}
 use Rattle.qg_crashes.specs.Slots.{node_events, with_events}
 use Rattle.qg_crashes.proofs.Slots.{with_events-append}
-use Rattle.qg_commit.specs.Calls.{Call, WriteAt, Sync, node_calls, superblock_calls, commit_calls, with_nodes, with_superblocks, IsFront as IsFrontOfCalls}
+use Rattle.qg_commit.specs.Calls.{Call, WriteAt, Sync, node_calls, superblock_calls, commit_calls, with_nodes}
+use Rattle.qg_commit.specs.Calls.{with_superblocks, IsFront as IsFrontOfCalls}
 use Rattle.qg_commit.specs.CallEvents.{CallsAreWhole, CallsWrite}
 
 -- what a call does to a disk
@@ -18,22 +19,28 @@ event_of (WriteAt at bytes) = Wrote at bytes
 event_of Sync = Synced
 
 -- calls came as far as what they do
-front_of_calls : (calls : List Call) (events after : List Event) → IsFrontOfCalls calls events after → IsFront (map event_of calls) events after
+front_of_calls : (calls : List Call) (events after : List Event) → IsFrontOfCalls calls events after
+    → IsFront (map event_of calls) events after
 front_of_calls [] events after is = is
 front_of_calls (WriteAt at bytes ∷ calls) events after (inl is) = inl is
 front_of_calls (WriteAt at bytes ∷ calls) events after (inr (inl fails)) = inr (inl fails)
-front_of_calls (WriteAt at bytes ∷ calls) events after (inr (inr front)) = inr (inr (front_of_calls calls (Wrote at bytes ∷ events) after front))
+front_of_calls (WriteAt at bytes ∷ calls) events after (inr (inr front)) =
+    inr (inr (front_of_calls calls (Wrote at bytes ∷ events) after front))
 front_of_calls (Sync ∷ calls) events after (inl is) = inl is
 front_of_calls (Sync ∷ calls) events after (inr (inl fails)) = inr (inl fails)
-front_of_calls (Sync ∷ calls) events after (inr (inr front)) = inr (inr (front_of_calls calls (Synced ∷ events) after front))
+front_of_calls (Sync ∷ calls) events after (inr (inr front)) =
+    inr (inr (front_of_calls calls (Synced ∷ events) after front))
 
 -- the calls of a commit do what a commit does
-map-node_calls : (nodesize : ℕ) (nodes : List Node) → map event_of (node_calls nodesize nodes) ≡ node_events nodesize nodes
+map-node_calls : (nodesize : ℕ) (nodes : List Node)
+    → map event_of (node_calls nodesize nodes) ≡ node_events nodesize nodes
 map-node_calls nodesize [] = refl
 map-node_calls nodesize (node ∷ nodes) =
-    ap (λ (events : List Event). Wrote (header_of node).address (node_text nodesize node) ∷ events) (map-node_calls nodesize nodes)
+    ap (λ (events : List Event). Wrote (header_of node).address (node_text nodesize node) ∷ events)
+    (map-node_calls nodesize nodes)
 
-map-commit_calls : (super : Super) (nodes : List Node) → map event_of (commit_calls super nodes) ≡ commit_events (node_events super.nodesize nodes) super
+map-commit_calls : (super : Super) (nodes : List Node)
+    → map event_of (commit_calls super nodes) ≡ commit_events (node_events super.nodesize nodes) super
 map-commit_calls super nodes =
     map-append event_of (node_calls super.nodesize nodes) (superblock_calls super)
     ∙ ap (λ (events : List Event). events ++ superblock_events super) (map-node_calls super.nodesize nodes)
@@ -49,9 +56,11 @@ calls_write before nodes super after calls = record {
 
 -- ---- the whole commit
 
-nodes_whole : (nodesize : ℕ) (nodes : List Node) (events : List Event) → with_nodes nodesize nodes events ≡ with_events (node_events nodesize nodes) events
+nodes_whole : (nodesize : ℕ) (nodes : List Node) (events : List Event)
+    → with_nodes nodesize nodes events ≡ with_events (node_events nodesize nodes) events
 nodes_whole nodesize [] events = refl
-nodes_whole nodesize (node ∷ nodes) events = nodes_whole nodesize nodes (Wrote (header_of node).address (node_text nodesize node) ∷ events)
+nodes_whole nodesize (node ∷ nodes) events =
+    nodes_whole nodesize nodes (Wrote (header_of node).address (node_text nodesize node) ∷ events)
 
 pub calls_are_whole : CallsAreWhole
 calls_are_whole before nodes super =

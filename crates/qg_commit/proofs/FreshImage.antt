@@ -1,5 +1,6 @@
 -- A disk to which the calls were made that write a fresh image holds it: it is sound, and its state is fresh.
-use Rattle.std.proofs.Common.{◌≡◌, ℕ, ◌-◌, ◌≤◌, ◌<◌, ◌^◌, inl, inr, true, List, [], ◌∷◌, ◌++◌, length, drop, take, Some, Ok, refl, sym, ap, subst, ◌∙◌, arith, lit<}
+use Rattle.std.proofs.Common.{◌≡◌, ℕ, ◌-◌, ◌≤◌, ◌<◌, ◌^◌, inl, inr, true, List, [], ◌∷◌, ◌++◌, length, drop, take, Some}
+use Rattle.std.proofs.Common.{Ok, refl, sym, ap, subst, ◌∙◌, arith, lit<}
 use Rattle.std.specs.Prelude.{IsTrue, All}
 use Rattle.std.specs.List.{AllByRecursion}
 use Rattle.std.specs.List.Sorted.{IsPermutation}
@@ -33,10 +34,12 @@ use Rattle.qg_other_trees.specs.Trees.{nodes_laid, quota_nodes_laid}
 use Rattle.qg_other_trees.proofs.QuotaTree.{quota_made, quota_same, quota_walked}
 use Rattle.qg_other_trees.proofs.Sound.{committed_others, is_committed}
 use Rattle.qg_commit.specs.Calls.{IsReadBack, IsWritable, with_image}
-use Rattle.qg_commit.specs.Fresh.{AreFreshTrees, extent_items, fresh_nodes, fresh_quota, fresh_roots, fresh_slots, fresh_super, own_leaf, quota_items, root_items}
+use Rattle.qg_commit.specs.Fresh.{AreFreshTrees, extent_items, fresh_nodes, fresh_quota, fresh_roots, fresh_slots}
+use Rattle.qg_commit.specs.Fresh.{fresh_super, own_leaf, quota_items, root_items}
 use Rattle.qg_commit.specs.Mkfs.{HoldsFreshImage, IsFreshImage}
 use Rattle.qg_commit.proofs.FreshState.{before, counts, home, leaf_fits, leaf_format, runs, space, told, whole}
-use Rattle.qg_commit.proofs.FreshTrees.{extents_leaf, first_slots-IsDistinct, fresh_slots-IsDistinct, low_slot-is_slot, quotas_laid, roots_leaf, superblock_is}
+use Rattle.qg_commit.proofs.FreshTrees.{extents_leaf, first_slots-IsDistinct, fresh_slots-IsDistinct, low_slot-is_slot}
+use Rattle.qg_commit.proofs.FreshTrees.{quotas_laid, roots_leaf, superblock_is}
 use Rattle.qg_commit.proofs.Placed.{placed-AreCommittable}
 use Rattle.qg_commit.proofs.Written.{AreCommittable, with_commit-HasCommit}
 

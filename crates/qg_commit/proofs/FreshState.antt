@@ -1,5 +1,6 @@
 -- The state of which a fresh image is the first commit: the top-level subvolume has its empty leaf, nothing is held.
-use Rattle.std.proofs.Common.{◌≡◌, ℕ, ◌+◌, ◌<◌, ◌≤◌, Bool, true, false, inl, inr, List, [], ◌∷◌, Some, None, refl, sym, ap, subst, ◌∙◌, arith, lit<}
+use Rattle.std.proofs.Common.{◌≡◌, ℕ, ◌+◌, ◌<◌, ◌≤◌, Bool, true, false, inl, inr, List, [], ◌∷◌, Some, None, refl, sym}
+use Rattle.std.proofs.Common.{ap, subst, ◌∙◌, arith, lit<}
 use Rattle.std.specs.Prelude.{◌==◌, if◌then◌else◌, Contains, Result, Ok, is_some}
 use Rattle.std.proofs.lemmas.Bool.{cases_Bool, eq-eqb, eqb-true}
 use Rattle.std.proofs.lemmas.List.Elements.{All-nil}
@@ -164,7 +165,8 @@ module _ (sizes : Sizes) (served : is_served sizes ≡ true) where
   -- ---- what is counted is right, and its leaf is at home
 
   pub counts : counts_failure (layout_of before) (Some quota) ≡ None
-  unfolding counts_failure referenced exclusive is_reached_outside reach_of_group members is_below leads reach reach_of_root pieces_of
+  unfolding counts_failure referenced exclusive is_reached_outside reach_of_group members is_below leads reach
+      reach_of_root pieces_of
   counts =
       let same : (sizes.nodesize == sizes.nodesize) ≡ true = eq-eqb sizes.nodesize sizes.nodesize refl in
       let plus : 0 + sizes.nodesize ≡ sizes.nodesize = omega arith in

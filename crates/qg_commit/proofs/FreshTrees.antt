@@ -1,5 +1,6 @@
 -- The other trees of a fresh image are three leaves, in the first, the second and the fourth slot.
-use Rattle.std.proofs.Common.{◌≡◌, ℕ, suc, ◌+◌, ◌*◌, ◌≤◌, ◌<◌, inl, inr, true, false, List, [], ◌∷◌, ◌++◌, map, length, take, drop, get_or, refl, ap, subst, ◌∙◌, arith}
+use Rattle.std.proofs.Common.{◌≡◌, ℕ, suc, ◌+◌, ◌*◌, ◌≤◌, ◌<◌, inl, inr, true, false, List, [], ◌∷◌, ◌++◌, map, length}
+use Rattle.std.proofs.Common.{take, drop, get_or, refl, ap, subst, ◌∙◌, arith}
 use Rattle.std.specs.Prelude.{◌==◌, Option, Some}
 use Rattle.std.specs.List.{AllByRecursion, IsDistinct}
 use Rattle.std.proofs.Math.Nat.{mul-le-mul_left}
@@ -31,7 +32,8 @@ use Rattle.qg_check.specs.Editable.{AreGroups, AreSubvolumes}
 use Rattle.qg_other_trees.proofs.Enough.{filled_quota, filled_roots}
 use Rattle.qg_other_trees.proofs.One.{one_named, one_told}
 use Rattle.qg_other_trees.proofs.QuotaTree.{HasQuotaTree, quota_there, root_if}
-use Rattle.qg_commit.specs.Fresh.{AreFreshTrees, extent_items, fresh_counters, fresh_nodes, fresh_quota, fresh_root, fresh_roots, fresh_slots, fresh_super, own_leaf, quota_items, root_items}
+use Rattle.qg_commit.specs.Fresh.{AreFreshTrees, extent_items, fresh_counters, fresh_nodes, fresh_quota, fresh_root}
+use Rattle.qg_commit.specs.Fresh.{fresh_roots, fresh_slots, fresh_super, own_leaf, quota_items, root_items}
 
 -- ---- the slots
 
@@ -39,7 +41,8 @@ abbrev slot_numbers : List ℕ
 slot_numbers = 1 ∷ 3 ∷ 0 ∷ 4 ∷ 5 ∷ 6 ∷ 7 ∷ 8 ∷ 9 ∷ 10 ∷ 11 ∷ 12 ∷ 13 ∷ 14 ∷ 15 ∷ 16 ∷ 17 ∷ 18 ∷ []
 
 -- slots with different numbers lie at different addresses
-slot_differs : (sizes : Sizes) (k j : ℕ) → 1 ≤ sizes.nodesize → (k == j) ≡ false → (slot_at sizes k == slot_at sizes j) ≡ false
+slot_differs : (sizes : Sizes) (k j : ℕ) → 1 ≤ sizes.nodesize → (k == j) ≡ false
+    → (slot_at sizes k == slot_at sizes j) ≡ false
 slot_differs sizes k j some differ = elim (cases_order k j) [
   | inl same ↦ absurd (eqb-false k j differ same)
   | inr (inl less) ↦
@@ -57,24 +60,32 @@ differ_from : (sizes : Sizes) (k : ℕ) (js : List ℕ) → 1 ≤ sizes.nodesize
 differ_from sizes k [] some differ = tt
 differ_from sizes k (j ∷ js) some differ = (slot_differs sizes k j some differ.0, differ_from sizes k js some differ.1)
 
-slots-IsDistinct : (sizes : Sizes) (ks : List ℕ) → 1 ≤ sizes.nodesize → IsDistinct (λ a b. a == b) ks → IsDistinct (λ a b. a == b) (map (slot_at sizes) ks)
+slots-IsDistinct : (sizes : Sizes) (ks : List ℕ) → 1 ≤ sizes.nodesize → IsDistinct (λ a b. a == b) ks
+    → IsDistinct (λ a b. a == b) (map (slot_at sizes) ks)
 unfolding IsDistinct
 slots-IsDistinct sizes [] some differ = tt
-slots-IsDistinct sizes (k ∷ ks) some differ = (differ_from sizes k ks some differ.0, slots-IsDistinct sizes ks some differ.1)
+slots-IsDistinct sizes (k ∷ ks) some differ =
+    (differ_from sizes k ks some differ.0, slots-IsDistinct sizes ks some differ.1)
 
 pub some_bytes : (sizes : Sizes) → is_served sizes ≡ true → 1 ≤ sizes.nodesize
 some_bytes sizes served = omega (arith, (SizesFit-is_served sizes served).least)
 
 pub fresh_slots-IsDistinct : (sizes : Sizes) → is_served sizes ≡ true → IsDistinct (λ a b. a == b) (fresh_slots sizes)
-fresh_slots-IsDistinct sizes served = slots-IsDistinct sizes slot_numbers (some_bytes sizes served) (IsDistinct-from_count nat_eq_equiv slot_numbers refl)
+fresh_slots-IsDistinct sizes served = slots-IsDistinct sizes slot_numbers (some_bytes sizes served)
+    (IsDistinct-from_count nat_eq_equiv slot_numbers refl)
 
-pub first_slots-IsDistinct : (sizes : Sizes) → is_served sizes ≡ true → IsDistinct (λ a b. a == b) (slot_at sizes 0 ∷ slot_at sizes 1 ∷ slot_at sizes 2 ∷ slot_at sizes 3 ∷ [])
+pub first_slots-IsDistinct : (sizes : Sizes) → is_served sizes ≡ true
+    → IsDistinct (λ a b. a == b) (slot_at sizes 0 ∷ slot_at sizes 1 ∷ slot_at sizes 2 ∷ slot_at sizes 3 ∷ [])
 first_slots-IsDistinct sizes served =
-    slots-IsDistinct sizes (0 ∷ 1 ∷ 2 ∷ 3 ∷ []) (some_bytes sizes served) (IsDistinct-from_count nat_eq_equiv (0 ∷ 1 ∷ 2 ∷ 3 ∷ []) refl)
+    slots-IsDistinct sizes (0 ∷ 1 ∷ 2 ∷ 3 ∷ []) (some_bytes sizes served)
+    (IsDistinct-from_count nat_eq_equiv (0 ∷ 1 ∷ 2 ∷ 3 ∷ []) refl)
 
 -- the first 64 numbers are those of slots
-pub low_slot-is_slot : (sizes : Sizes) (k : ℕ) → is_served sizes ≡ true → k < 64 → is_slot sizes (slot_at sizes k) ≡ true
-low_slot-is_slot sizes k served below = is_slot-slot_at sizes k (some_bytes sizes served) (omega (arith, below, (SizesFit-is_served sizes served).some_slots))
+pub low_slot-is_slot : (sizes : Sizes) (k : ℕ) → is_served sizes ≡ true → k < 64
+    → is_slot sizes (slot_at sizes k) ≡ true
+low_slot-is_slot sizes k served below =
+    is_slot-slot_at sizes k (some_bytes sizes served)
+    (omega (arith, below, (SizesFit-is_served sizes served).some_slots))
 
 -- ---- a tree of one leaf
 
@@ -84,11 +95,14 @@ pub record IsLeafAt (owner : ℕ) (items : List Item) (slot : ℕ) (nodes : List
   pub root_is : root ≡ slot
   pub flat : level ≡ 0
 
-leaf-IsLeafAt : (nodesize owner : ℕ) (items : List Item) (slot : ℕ) (rest : List ℕ) (nodes : List Node) (root level : ℕ) → IsBuilt nodesize owner 1 items (slot ∷ rest) nodes root level
+leaf-IsLeafAt : (nodesize owner : ℕ) (items : List Item) (slot : ℕ) (rest : List ℕ) (nodes : List Node) (root level : ℕ)
+    → IsBuilt nodesize owner 1 items (slot ∷ rest) nodes root level
     → items_bytes items ≤ capacity nodesize → IsLeafAt owner items slot nodes root level
 leaf-IsLeafAt nodesize owner items slot rest nodes root level built light =
     let one = built.single light in
-    let placed : root ∷ [] ≡ slot ∷ [] = subst (λ (list : List Node). map (λ node. (header_of node).address) list ≡ take (length list) (slot ∷ rest)) one.alone built.placed in
+    let placed : root ∷ [] ≡ slot ∷ [] =
+    subst (λ (list : List Node). map (λ node. (header_of node).address) list ≡ take (length list) (slot ∷ rest))
+    one.alone built.placed in
     let there : root ≡ slot = ap (λ (list : List ℕ). get_or list 0 0) placed in
     record {
       nodes_are = one.alone ∙ ap (λ (address : ℕ). fresh_leaf owner address items ∷ []) there;
@@ -172,7 +186,8 @@ module _ (sizes : Sizes) (trees : OtherTrees) (served : is_served sizes ≡ true
 
   pub quotas_leaf : LeafAt 8 (quota_items sizes.nodesize) (slot_at sizes 3) quota_tree.built
   quotas_leaf =
-      let first = subst (λ (n : ℕ). BuiltOf 8 quota_tree.stands.items (drop n (fresh_slots sizes)) quota_tree.built) one_extent
+      let first = subst (λ (n : ℕ). BuiltOf 8 quota_tree.stands.items (drop n (fresh_slots sizes)) quota_tree.built)
+      one_extent
       quota_tree.stands.stands in
       let built = subst (λ (items : List Item). BuiltOf 8 items (drop 1 (fresh_slots sizes)) quota_tree.built)
       quota_tree.stands.told.written first in
@@ -201,8 +216,10 @@ module _ (sizes : Sizes) (trees : OtherTrees) (served : is_served sizes ≡ true
   roots_written : are.root_tree.items ≡ named_items
   roots_written =
       are.root_tree.told.written
-      ∙ ap (λ (root : RootItem). items_of_roots root (fresh_roots (slot_at sizes 2)) (root_if 1 trees.quotas)) extents_root
-      ∙ ap (λ (quotas : Option RootItem). items_of_roots (fresh_root (slot_at sizes 1)) (fresh_roots (slot_at sizes 2)) quotas)
+      ∙ ap (λ (root : RootItem). items_of_roots root (fresh_roots (slot_at sizes 2)) (root_if 1 trees.quotas))
+      extents_root
+      ∙ ap (λ (quotas : Option RootItem). items_of_roots (fresh_root (slot_at sizes 1)) (fresh_roots (slot_at sizes 2))
+      quotas)
       quotas_root
 
   roots_light : items_bytes named_items ≤ capacity sizes.nodesize
@@ -211,10 +228,12 @@ module _ (sizes : Sizes) (trees : OtherTrees) (served : is_served sizes ≡ true
   pub roots_leaf : LeafAt 1 named_items (slot_at sizes 0) trees.roots
   roots_leaf =
       let first = subst
-      (λ (n : ℕ). BuiltOf 1 are.root_tree.items (drop (length (quota_nodes_laid trees.quotas)) (drop n (fresh_slots sizes)))
+      (λ (n : ℕ). BuiltOf 1 are.root_tree.items
+      (drop (length (quota_nodes_laid trees.quotas)) (drop n (fresh_slots sizes)))
       trees.roots)
       one_extent are.root_tree.stands in
-      let second = subst (λ (n : ℕ). BuiltOf 1 are.root_tree.items (drop n (drop 1 (fresh_slots sizes))) trees.roots) one_quota
+      let second = subst (λ (n : ℕ). BuiltOf 1 are.root_tree.items (drop n (drop 1 (fresh_slots sizes))) trees.roots)
+      one_quota
       first in
       let built = subst (λ (items : List Item). BuiltOf 1 items (drop 2 (fresh_slots sizes)) trees.roots) roots_written
       second in

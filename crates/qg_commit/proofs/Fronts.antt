@@ -11,7 +11,8 @@ use Rattle.qg_node.specs.declared.node.Node.{Node}
 use Rattle.qg_node.specs.Nodes.{header_of}
 use Rattle.qg_node.specs.NodeText.{node_text}
 use Rattle.qg_super.specs.declared.superblock.Super.{Super}
-use Rattle.qg_commit.specs.Calls.{Call, WriteAt, Sync, IsFront, MadeFront, commit_calls, node_calls, superblock_calls, with_call, with_calls, with_nodes}
+use Rattle.qg_commit.specs.Calls.{Call, WriteAt, Sync, IsFront, MadeFront, commit_calls, node_calls, superblock_calls}
+use Rattle.qg_commit.specs.Calls.{with_call, with_calls, with_nodes}
 
 -- from one history to another calls came so far
 abbrev pub ComesTo : List Call → Option (List Event) → Option (List Event) → Type 0
@@ -23,10 +24,15 @@ front-none [] events = refl
 front-none (call ∷ calls) events = inl refl
 
 pub comes-none : (calls : List Call) (old new : Option (List Event)) → new ≡ old → ComesTo calls old new
-comes-none calls old new same = λ events told. record { after = events; told = same ∙ told; front = front-none calls events }
+comes-none calls old new same = λ events told. record {
+  after = events;
+  told = same ∙ told;
+  front = front-none calls events;
+}
 
 -- the first was made, or failed
-pub comes-write : (at : ℕ) (bytes : List ℕ) (calls : List Call) (old new : Option (List Event)) (result : Result Unit DiskFault) → Writes old new result at bytes → ComesTo (WriteAt at bytes ∷ calls) old new
+pub comes-write : (at : ℕ) (bytes : List ℕ) (calls : List Call) (old new : Option (List Event))
+    (result : Result Unit DiskFault) → Writes old new result at bytes → ComesTo (WriteAt at bytes ∷ calls) old new
 comes-write at bytes calls old new (Ok done) is = λ events told. record {
   after = Wrote at bytes ∷ events;
   told = is ∙ ap (with_event (Wrote at bytes)) told;
@@ -39,7 +45,8 @@ comes-write at bytes calls old new (Err Failed) is = λ events told. record {
 }
 comes-write at bytes calls old new (Err NoMemory) is = comes-none (WriteAt at bytes ∷ calls) old new is
 
-pub comes-sync : (calls : List Call) (old new : Option (List Event)) (result : Result Unit DiskFault) → Syncs old new result → ComesTo (Sync ∷ calls) old new
+pub comes-sync : (calls : List Call) (old new : Option (List Event)) (result : Result Unit DiskFault)
+    → Syncs old new result → ComesTo (Sync ∷ calls) old new
 comes-sync calls old new (Ok done) is = λ events told. record {
   after = Synced ∷ events;
   told = is ∙ ap (with_event Synced) told;
@@ -48,12 +55,14 @@ comes-sync calls old new (Ok done) is = λ events told. record {
 comes-sync calls old new (Err fault) is = comes-none (Sync ∷ calls) old new is
 
 -- the first was made, and then later ones came so far
-pub comes-later : (call : Call) (calls : List Call) (old mid new : Option (List Event)) → mid ≡ option_map (with_call call) old → ComesTo calls mid new → ComesTo (call ∷ calls) old new
+pub comes-later : (call : Call) (calls : List Call) (old mid new : Option (List Event))
+    → mid ≡ option_map (with_call call) old → ComesTo calls mid new → ComesTo (call ∷ calls) old new
 comes-later call calls old mid new made later = λ events told.
     let then = later (with_call call events) (made ∙ ap (option_map (with_call call)) told) in
     record { after = then.after; told = then.told; front = inr (inr then.front) }
 
-wrote_so : (at : ℕ) (bytes : List ℕ) (old : Option (List Event)) → with_event (Wrote at bytes) old ≡ option_map (with_call (WriteAt at bytes)) old
+wrote_so : (at : ℕ) (bytes : List ℕ) (old : Option (List Event))
+    → with_event (Wrote at bytes) old ≡ option_map (with_call (WriteAt at bytes)) old
 wrote_so at bytes None = refl
 wrote_so at bytes (Some events) = refl
 
@@ -61,32 +70,40 @@ synced_so : (old : Option (List Event)) → with_event Synced old ≡ option_map
 synced_so None = refl
 synced_so (Some events) = refl
 
-pub comes-written : (at : ℕ) (bytes : List ℕ) (calls : List Call) (old mid new : Option (List Event)) → mid ≡ with_event (Wrote at bytes) old → ComesTo calls mid new → ComesTo (WriteAt at bytes ∷ calls) old new
-comes-written at bytes calls old mid new made later = comes-later (WriteAt at bytes) calls old mid new (made ∙ wrote_so at bytes old) later
+pub comes-written : (at : ℕ) (bytes : List ℕ) (calls : List Call) (old mid new : Option (List Event))
+    → mid ≡ with_event (Wrote at bytes) old → ComesTo calls mid new → ComesTo (WriteAt at bytes ∷ calls) old new
+comes-written at bytes calls old mid new made later =
+    comes-later (WriteAt at bytes) calls old mid new (made ∙ wrote_so at bytes old) later
 
-pub comes-synced : (calls : List Call) (old mid new : Option (List Event)) → mid ≡ with_event Synced old → ComesTo calls mid new → ComesTo (Sync ∷ calls) old new
+pub comes-synced : (calls : List Call) (old mid new : Option (List Event)) → mid ≡ with_event Synced old
+    → ComesTo calls mid new → ComesTo (Sync ∷ calls) old new
 comes-synced calls old mid new made later = comes-later Sync calls old mid new (made ∙ synced_so old) later
 
 -- ---- calls in front of others
 
 -- some of the first calls were made
-front-more : (front back : List Call) (events after : List Event) → IsFront front events after → IsFront (front ++ back) events after
+front-more : (front back : List Call) (events after : List Event) → IsFront front events after
+    → IsFront (front ++ back) events after
 front-more [] back events after is = subst (IsFront back events) (sym is) (front-none back events)
 front-more (call ∷ front) back events after (inl none) = inl none
 front-more (call ∷ front) back events after (inr (inl fails)) = inr (inl fails)
-front-more (call ∷ front) back events after (inr (inr later)) = inr (inr (front-more front back (with_call call events) after later))
+front-more (call ∷ front) back events after (inr (inr later)) =
+    inr (inr (front-more front back (with_call call events) after later))
 
-pub comes-more : (front back : List Call) (old new : Option (List Event)) → ComesTo front old new → ComesTo (front ++ back) old new
+pub comes-more : (front back : List Call) (old new : Option (List Event)) → ComesTo front old new
+    → ComesTo (front ++ back) old new
 comes-more front back old new comes = λ events told.
     let made = comes events told in
     record { after = made.after; told = made.told; front = front-more front back events made.after made.front }
 
 -- the first calls were made, and some of those behind
-front-behind : (front back : List Call) (events after : List Event) → IsFront back (with_calls front events) after → IsFront (front ++ back) events after
+front-behind : (front back : List Call) (events after : List Event) → IsFront back (with_calls front events) after
+    → IsFront (front ++ back) events after
 front-behind [] back events after is = is
 front-behind (call ∷ front) back events after is = inr (inr (front-behind front back (with_call call events) after is))
 
-pub comes-behind : (front back : List Call) (old mid new : Option (List Event)) → mid ≡ option_map (with_calls front) old → ComesTo back mid new → ComesTo (front ++ back) old new
+pub comes-behind : (front back : List Call) (old mid new : Option (List Event))
+    → mid ≡ option_map (with_calls front) old → ComesTo back mid new → ComesTo (front ++ back) old new
 comes-behind front back old mid new made later = λ events told.
     let then = later (with_calls front events) (made ∙ ap (option_map (with_calls front)) told) in
     record { after = then.after; told = then.told; front = front-behind front back events then.after then.front }
@@ -96,7 +113,8 @@ front-all : (calls : List Call) (events : List Event) → IsFront calls events (
 front-all [] events = refl
 front-all (call ∷ calls) events = inr (inr (front-all calls (with_call call events)))
 
-pub comes-all : (calls : List Call) (old new : Option (List Event)) → new ≡ option_map (with_calls calls) old → ComesTo calls old new
+pub comes-all : (calls : List Call) (old new : Option (List Event)) → new ≡ option_map (with_calls calls) old
+    → ComesTo calls old new
 comes-all calls old new made = λ events told. record {
   after = with_calls calls events;
   told = made ∙ ap (option_map (with_calls calls)) told;
@@ -105,37 +123,51 @@ comes-all calls old new made = λ events told. record {
 
 -- ---- nodes
 
-apart : (nodesize : ℕ) (front back : List Node) → node_calls nodesize front ++ node_calls nodesize back ≡ node_calls nodesize (front ++ back)
-apart nodesize front back = sym (map-append (λ (node : Node). WriteAt (header_of node).address (node_text nodesize node)) front back)
+apart : (nodesize : ℕ) (front back : List Node) → node_calls nodesize front ++ node_calls nodesize back
+    ≡ node_calls nodesize (front ++ back)
+apart nodesize front back =
+    sym (map-append (λ (node : Node). WriteAt (header_of node).address (node_text nodesize node)) front back)
 
-pub nodes-more : (nodesize : ℕ) (front back : List Node) (old new : Option (List Event)) → ComesTo (node_calls nodesize front) old new → ComesTo (node_calls nodesize (front ++ back)) old new
+pub nodes-more : (nodesize : ℕ) (front back : List Node) (old new : Option (List Event))
+    → ComesTo (node_calls nodesize front) old new → ComesTo (node_calls nodesize (front ++ back)) old new
 nodes-more nodesize front back old new comes =
-    subst (λ (calls : List Call). ComesTo calls old new) (apart nodesize front back) (comes-more (node_calls nodesize front) (node_calls nodesize back) old new comes)
+    subst (λ (calls : List Call). ComesTo calls old new) (apart nodesize front back)
+    (comes-more (node_calls nodesize front) (node_calls nodesize back) old new comes)
 
-pub nodes-behind : (nodesize : ℕ) (front back : List Node) (old mid new : Option (List Event)) → mid ≡ option_map (with_nodes nodesize front) old → ComesTo (node_calls nodesize back) mid new
+pub nodes-behind : (nodesize : ℕ) (front back : List Node) (old mid new : Option (List Event))
+    → mid ≡ option_map (with_nodes nodesize front) old → ComesTo (node_calls nodesize back) mid new
     → ComesTo (node_calls nodesize (front ++ back)) old new
 nodes-behind nodesize front back old mid new made later =
-    subst (λ (calls : List Call). ComesTo calls old new) (apart nodesize front back) (comes-behind (node_calls nodesize front) (node_calls nodesize back) old mid new made later)
+    subst (λ (calls : List Call). ComesTo calls old new) (apart nodesize front back)
+    (comes-behind (node_calls nodesize front) (node_calls nodesize back) old mid new made later)
 
 -- the next of some nodes was written, or was not
-pub comes-node : (nodesize : ℕ) (node : Node) (now later : List Node) (at : ℕ) (bytes : List ℕ) (old new : Option (List Event)) (result : Result Unit DiskFault) → now ≡ node ∷ later
-    → at ≡ (header_of node).address → bytes ≡ node_text nodesize node → Writes old new result at bytes → ComesTo (node_calls nodesize now) old new
+pub comes-node : (nodesize : ℕ) (node : Node) (now later : List Node) (at : ℕ) (bytes : List ℕ)
+    (old new : Option (List Event)) (result : Result Unit DiskFault) → now ≡ node ∷ later
+    → at ≡ (header_of node).address → bytes ≡ node_text nodesize node → Writes old new result at bytes
+    → ComesTo (node_calls nodesize now) old new
 comes-node nodesize node now later at bytes old new result cut there text is =
     subst (λ (nodes : List Node). ComesTo (node_calls nodesize nodes) old new) (sym cut)
     (comes-write (header_of node).address (node_text nodesize node) (node_calls nodesize later) old new result
-    (subst (λ (place : ℕ). Writes old new result place (node_text nodesize node)) there (subst (Writes old new result at) text is)))
+    (subst (λ (place : ℕ). Writes old new result place (node_text nodesize node)) there
+    (subst (Writes old new result at) text is)))
 
-pub comes-past_node : (nodesize : ℕ) (node : Node) (now later : List Node) (at : ℕ) (bytes : List ℕ) (old mid new : Option (List Event)) → now ≡ node ∷ later → at ≡ (header_of node).address
-    → bytes ≡ node_text nodesize node → mid ≡ with_event (Wrote at bytes) old → ComesTo (node_calls nodesize later) mid new → ComesTo (node_calls nodesize now) old new
+pub comes-past_node : (nodesize : ℕ) (node : Node) (now later : List Node) (at : ℕ) (bytes : List ℕ)
+    (old mid new : Option (List Event)) → now ≡ node ∷ later → at ≡ (header_of node).address
+    → bytes ≡ node_text nodesize node → mid ≡ with_event (Wrote at bytes) old
+    → ComesTo (node_calls nodesize later) mid new → ComesTo (node_calls nodesize now) old new
 comes-past_node nodesize node now later at bytes old mid new cut there text made comes =
     subst (λ (nodes : List Node). ComesTo (node_calls nodesize nodes) old new) (sym cut)
     (comes-written (header_of node).address (node_text nodesize node) (node_calls nodesize later) old mid new
-    (made ∙ ap (λ (n : ℕ). with_event (Wrote n bytes) old) there ∙ ap (λ (list : List ℕ). with_event (Wrote (header_of node).address list) old) text) comes)
+    (made ∙ ap (λ (n : ℕ). with_event (Wrote n bytes) old) there
+    ∙ ap (λ (list : List ℕ). with_event (Wrote (header_of node).address list) old) text) comes)
 
 -- nodes that were written over a buffer of another length that is the same
-pub same-nodes : (nodesize size : ℕ) (given nodes : List Node) (old new : Option (List Event)) → nodesize ≡ size → given ≡ nodes → ComesTo (node_calls nodesize given) old new → ComesTo (node_calls size nodes) old new
+pub same-nodes : (nodesize size : ℕ) (given nodes : List Node) (old new : Option (List Event)) → nodesize ≡ size
+    → given ≡ nodes → ComesTo (node_calls nodesize given) old new → ComesTo (node_calls size nodes) old new
 same-nodes nodesize size given nodes old new same are comes =
-    subst (λ (list : List Node). ComesTo (node_calls size list) old new) are (subst (λ (n : ℕ). ComesTo (node_calls n given) old new) same comes)
+    subst (λ (list : List Node). ComesTo (node_calls size list) old new) are
+    (subst (λ (n : ℕ). ComesTo (node_calls n given) old new) same comes)
 
 -- ---- a commit of four trees
 
@@ -143,28 +175,41 @@ module _ (super : Super) (roots extents quotas files : List Node) (old : Option 
   abbrev all : List Node
   all = roots ++ extents ++ quotas ++ files
 
-  behind_nodes : (new : Option (List Event)) → ComesTo (node_calls super.nodesize all) old new → ComesTo (commit_calls super all) old new
+  behind_nodes : (new : Option (List Event)) → ComesTo (node_calls super.nodesize all) old new
+      → ComesTo (commit_calls super all) old new
   behind_nodes new comes = comes-more (node_calls super.nodesize all) (superblock_calls super) old new comes
 
-  pub comes-first : (new : Option (List Event)) → ComesTo (node_calls super.nodesize roots) old new → ComesTo (commit_calls super all) old new
+  pub comes-first : (new : Option (List Event)) → ComesTo (node_calls super.nodesize roots) old new
+      → ComesTo (commit_calls super all) old new
   comes-first new comes =
       let n = super.nodesize in
-      behind_nodes new (nodes-more n (roots ++ extents ++ quotas) files old new (nodes-more n (roots ++ extents) quotas old new (nodes-more n roots extents old new comes)))
+      behind_nodes new (nodes-more n (roots ++ extents ++ quotas) files old new
+      (nodes-more n (roots ++ extents) quotas old new (nodes-more n roots extents old new comes)))
 
-  pub comes-second : (mid new : Option (List Event)) → mid ≡ option_map (with_nodes super.nodesize roots) old → ComesTo (node_calls super.nodesize extents) mid new → ComesTo (commit_calls super all) old new
+  pub comes-second : (mid new : Option (List Event)) → mid ≡ option_map (with_nodes super.nodesize roots) old
+      → ComesTo (node_calls super.nodesize extents) mid new → ComesTo (commit_calls super all) old new
   comes-second mid new made comes =
       let n = super.nodesize in
-      behind_nodes new (nodes-more n (roots ++ extents ++ quotas) files old new (nodes-more n (roots ++ extents) quotas old new (nodes-behind n roots extents old mid new made comes)))
+      behind_nodes new (nodes-more n (roots ++ extents ++ quotas) files old new
+      (nodes-more n (roots ++ extents) quotas old new (nodes-behind n roots extents old mid new made comes)))
 
-  pub comes-third : (mid new : Option (List Event)) → mid ≡ option_map (with_nodes super.nodesize (roots ++ extents)) old → ComesTo (node_calls super.nodesize quotas) mid new
+  pub comes-third : (mid new : Option (List Event))
+      → mid ≡ option_map (with_nodes super.nodesize (roots ++ extents)) old
+      → ComesTo (node_calls super.nodesize quotas) mid new
       → ComesTo (commit_calls super all) old new
   comes-third mid new made comes =
       let n = super.nodesize in
-      behind_nodes new (nodes-more n (roots ++ extents ++ quotas) files old new (nodes-behind n (roots ++ extents) quotas old mid new made comes))
+      behind_nodes new (nodes-more n (roots ++ extents ++ quotas) files old new
+      (nodes-behind n (roots ++ extents) quotas old mid new made comes))
 
-  pub comes-fourth : (mid new : Option (List Event)) → mid ≡ option_map (with_nodes super.nodesize (roots ++ extents ++ quotas)) old → ComesTo (node_calls super.nodesize files) mid new
+  pub comes-fourth : (mid new : Option (List Event))
+      → mid ≡ option_map (with_nodes super.nodesize (roots ++ extents ++ quotas)) old
+      → ComesTo (node_calls super.nodesize files) mid new
       → ComesTo (commit_calls super all) old new
-  comes-fourth mid new made comes = behind_nodes new (nodes-behind super.nodesize (roots ++ extents ++ quotas) files old mid new made comes)
+  comes-fourth mid new made comes =
+      behind_nodes new (nodes-behind super.nodesize (roots ++ extents ++ quotas) files old mid new made comes)
 
-  pub comes-last : (mid new : Option (List Event)) → mid ≡ option_map (with_nodes super.nodesize all) old → ComesTo (superblock_calls super) mid new → ComesTo (commit_calls super all) old new
-  comes-last mid new made comes = comes-behind (node_calls super.nodesize all) (superblock_calls super) old mid new made comes
+  pub comes-last : (mid new : Option (List Event)) → mid ≡ option_map (with_nodes super.nodesize all) old
+      → ComesTo (superblock_calls super) mid new → ComesTo (commit_calls super all) old new
+  comes-last mid new made comes = comes-behind (node_calls super.nodesize all) (superblock_calls super) old mid new made
+      comes

@@ -30,8 +30,10 @@ four_lists super a b c d old one two three four new first second third fourth la
     last_calls super (a ++ b ++ c ++ d) old four new to_four last
 
 -- they are the calls that make an image of these sizes
-pub image_calls : (sizes : Sizes) (super : Super) (nodes : List Node) (total : ℕ) → super ≡ fresh_super sizes (slot_at sizes 0)
-    → nodes ≡ fresh_nodes sizes → total ≡ total_bytes sizes → (old cut written new : Option (List Event)) → cut ≡ with_event (Cut 0) old
+pub image_calls : (sizes : Sizes) (super : Super) (nodes : List Node) (total : ℕ)
+    → super ≡ fresh_super sizes (slot_at sizes 0)
+    → nodes ≡ fresh_nodes sizes → total ≡ total_bytes sizes → (old cut written new : Option (List Event))
+    → cut ≡ with_event (Cut 0) old
     → written ≡ with_event (Wrote (total - 4096) (zeros 4096)) cut → new ≡ option_map (with_commit super nodes) written
     → new ≡ option_map (with_image (fresh_super sizes (slot_at sizes 0)) (fresh_nodes sizes)) old
 image_calls sizes super nodes total superblock are long old cut written new first second third =

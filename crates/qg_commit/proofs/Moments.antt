@@ -18,13 +18,16 @@ abbrev pub up_to_first : Super → List Node → List Event → List Event
 up_to_first super nodes events = with_nodes super.nodesize nodes events
 
 abbrev pub up_to_second : Super → List Node → List Event → List Event
-up_to_second super nodes events = Wrote first_place (super_text first_place super) ∷ Synced ∷ up_to_first super nodes events
+up_to_second super nodes events = Wrote first_place (super_text first_place super) ∷ Synced
+    ∷ up_to_first super nodes events
 
 abbrev pub up_to_third : Super → List Node → List Event → List Event
-up_to_third super nodes events = Wrote second_place (super_text second_place super) ∷ Synced ∷ up_to_second super nodes events
+up_to_third super nodes events = Wrote second_place (super_text second_place super) ∷ Synced
+    ∷ up_to_second super nodes events
 
 -- the writes of nodes make sure of nothing
-synced-with_nodes : (nodesize : ℕ) (nodes : List Node) (events : List Event) → synced (with_nodes nodesize nodes events) ≡ synced events
+synced-with_nodes : (nodesize : ℕ) (nodes : List Node) (events : List Event)
+    → synced (with_nodes nodesize nodes events) ≡ synced events
 synced-with_nodes nodesize [] events = refl
 synced-with_nodes nodesize (node ∷ nodes) events =
     synced-with_nodes nodesize nodes (Wrote (header_of node).address (node_text nodesize node) ∷ events)
@@ -32,11 +35,15 @@ synced-with_nodes nodesize (node ∷ nodes) events =
 -- a commit adds three moments to those before it; at the last the disk holds what it holds after the commit
 pub synced-with_commit : (super : Super) (nodes : List Node) (events : List Event)
     → synced (with_commit super nodes events)
-    ≡ record { moment = length (up_to_third super nodes events) + 1; content = content (with_commit super nodes events) }
+    ≡ record {
+      moment = length (up_to_third super nodes events) + 1;
+      content = content (with_commit super nodes events);
+    }
     ∷ sync_after (up_to_second super nodes events) ∷ sync_after (up_to_first super nodes events) ∷ synced events
 synced-with_commit super nodes events =
     ap (λ (older : List Moment).
-    sync_after (up_to_third super nodes events) ∷ sync_after (up_to_second super nodes events) ∷ sync_after (up_to_first super nodes events) ∷ older)
+    sync_after (up_to_third super nodes events) ∷ sync_after (up_to_second super nodes events)
+    ∷ sync_after (up_to_first super nodes events) ∷ older)
     (synced-with_nodes super.nodesize nodes events)
 
 -- the contents at each sync, the newest first
@@ -46,5 +53,7 @@ synced_contents events = map (λ (moment : Moment). moment.content) (synced even
 -- a commit adds three contents to those before it, the last of which is what the disk holds after the commit
 pub synced_contents-with_commit : (super : Super) (nodes : List Node) (events : List Event)
     → synced_contents (with_commit super nodes events)
-    ≡ content (with_commit super nodes events) ∷ content (up_to_second super nodes events) ∷ content (up_to_first super nodes events) ∷ synced_contents events
-synced_contents-with_commit super nodes events = ap (map (λ (moment : Moment). moment.content)) (synced-with_commit super nodes events)
+    ≡ content (with_commit super nodes events) ∷ content (up_to_second super nodes events)
+    ∷ content (up_to_first super nodes events) ∷ synced_contents events
+synced_contents-with_commit super nodes events =
+    ap (map (λ (moment : Moment). moment.content)) (synced-with_commit super nodes events)

@@ -1,8 +1,10 @@
 -- Nodes in slots of their own: a commit may write them.
-use Rattle.std.proofs.Common.{◌≡◌, ℕ, zero, suc, Bool, true, false, List, [], ◌∷◌, map, length, get_or, take, sym, subst, arith}
+use Rattle.std.proofs.Common.{◌≡◌, ℕ, zero, suc, Bool, true, false, List, [], ◌∷◌, map, length, get_or, take, sym}
+use Rattle.std.proofs.Common.{subst, arith}
 use Rattle.std.specs.Prelude.{◌==◌, IsTrue, All}
 use Rattle.std.specs.List.{IsDistinct}
-use Rattle.std.proofs.lemmas.List.Elements.{All-nil, All-cons, All-head, All-tail, All-take, All-from_recursion, recursion_from_All}
+use Rattle.std.proofs.lemmas.List.Elements.{All-nil, All-cons, All-head, All-tail, All-take, All-from_recursion}
+use Rattle.std.proofs.lemmas.List.Elements.{recursion_from_All}
 use Rattle.qg_node.specs.declared.node.Node.{Node}
 use Rattle.qg_node.specs.Nodes.{header_of}
 use Rattle.qg_node.specs.NodeText.{IsNode}
@@ -17,13 +19,16 @@ use Rattle.qg_commit.proofs.Written.{address_of, AreCommittable}
 -- ---- lists
 
 -- the first of some elements are distinct where all are
-IsDistinct-take : {A : Type 0} (same : A → A → Bool) (n : ℕ) (xs : List A) → IsDistinct same xs → IsDistinct same (take n xs)
+IsDistinct-take : {A : Type 0} (same : A → A → Bool) (n : ℕ) (xs : List A) → IsDistinct same xs
+    → IsDistinct same (take n xs)
 unfolding IsDistinct
 IsDistinct-take same zero xs distinct = tt
 IsDistinct-take same (suc n) [] distinct = tt
 IsDistinct-take same (suc n) (x ∷ xs) distinct =
-    let differ = All-from_recursion (λ y. same x y ≡ false) xs distinct.0 in
-    (recursion_from_All (λ y. same x y ≡ false) (take n xs) (All-take (λ y. same x y ≡ false) n xs differ), IsDistinct-take same n xs distinct.1)
+    let differ = All-from_recursion (λ y. same x y ≡ false) xs distinct.0 in (
+      recursion_from_All (λ y. same x y ≡ false) (take n xs) (All-take (λ y. same x y ≡ false) n xs differ),
+      IsDistinct-take same n xs distinct.1,
+    )
 
 -- what holds of each address holds of each node's
 All-unmap : {A B : Type 0} (P : B → Type 0) (f : A → B) (xs : List A) → All P (map f xs) → All (λ x. P (f x)) xs

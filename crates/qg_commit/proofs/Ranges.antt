@@ -1,5 +1,6 @@
 -- A range of a disk over which bytes were written.
-use Rattle.std.proofs.Common.{◌≡◌, ℕ, ◌+◌, ◌-◌, ◌≤◌, ◌<◌, ◌⊎◌, inl, inr, List, length, drop, get_or, refl, sym, ◌∙◌, arith, length-drop}
+use Rattle.std.proofs.Common.{◌≡◌, ℕ, ◌+◌, ◌-◌, ◌≤◌, ◌<◌, ◌⊎◌, inl, inr, List, length, drop, get_or, refl, sym, ◌∙◌}
+use Rattle.std.proofs.Common.{arith, length-drop}
 use Rattle.std.specs.Prelude.{slice_range}
 use Rattle.std.proofs.lemmas.List.{length-take, get_or-take, get_or-drop}
 use Rattle.std.proofs.lemmas.Grind.{same_number_lists}
@@ -23,15 +24,18 @@ range-overlay_same at bytes old =
     (λ k below.
     let within : k < length bytes = omega arith in
     let back : at + k - at ≡ k = omega arith in
-    get_or-range at (length bytes) k (overlay at bytes old) within ∙ get_or-overlay_in at (at + k) bytes old (omega arith) (omega arith) ∙ rw back refl)
+    get_or-range at (length bytes) k (overlay at bytes old) within
+    ∙ get_or-overlay_in at (at + k) bytes old (omega arith) (omega arith) ∙ rw back refl)
 
 -- a range apart from the one that was written has the bytes that it had
-pub range-overlay_apart : (at place n : ℕ) (bytes old : List ℕ) → place + n ≤ length old → (place + n ≤ at) ⊎ (at + length bytes ≤ place)
+pub range-overlay_apart : (at place n : ℕ) (bytes old : List ℕ) → place + n ≤ length old
+    → (place + n ≤ at) ⊎ (at + length bytes ≤ place)
     → range place n (overlay at bytes old) ≡ range place n old
 range-overlay_apart at place n bytes old within apart =
     let new = overlay at bytes old in
     let fits : place + n ≤ length new = omega (arith, length-overlay at bytes old) in
-    let long : length (range place n new) ≡ length (range place n old) = length-range place n new fits ∙ sym (length-range place n old within) in
+    let long : length (range place n new) ≡ length (range place n old) = length-range place n new fits
+    ∙ sym (length-range place n old within) in
     let many : length (range place n new) ≡ n = length-range place n new fits in
     same_number_lists (range place n new) (range place n old) long
     (λ k below.

@@ -9,13 +9,17 @@ use Rattle.qg_node.specs.Reading.{node_read}
 use Rattle.qg_commit.specs.Calls.{IsReadBack}
 
 -- the text that was written is read as the node
-pub written-IsReadBack : (nodesize : ℕ) (node : Node) (bytes : List ℕ) → bytes ≡ node_text nodesize node → node_read (header_of node).address bytes ≡ Ok node → IsReadBack nodesize node
+pub written-IsReadBack : (nodesize : ℕ) (node : Node) (bytes : List ℕ) → bytes ≡ node_text nodesize node
+    → node_read (header_of node).address bytes ≡ Ok node → IsReadBack nodesize node
 written-IsReadBack nodesize node bytes text read = ap (node_read (header_of node).address) (sym text) ∙ read
 
 -- those before a place are, and so is the one there
-pub more-IsReadBack : (nodesize : ℕ) (nodes : List Node) (i : ℕ) (node : Node) → i < length nodes → node ≡ get_or nodes i node → IsReadBack nodesize node
-    → ((k : ℕ) (d : Node) → k < i → IsReadBack nodesize (get_or nodes k d)) → (k : ℕ) (d : Node) → k < i + 1 → IsReadBack nodesize (get_or nodes k d)
+pub more-IsReadBack : (nodesize : ℕ) (nodes : List Node) (i : ℕ) (node : Node) → i < length nodes
+    → node ≡ get_or nodes i node → IsReadBack nodesize node
+    → ((k : ℕ) (d : Node) → k < i → IsReadBack nodesize (get_or nodes k d)) → (k : ℕ) (d : Node) → k < i + 1
+    → IsReadBack nodesize (get_or nodes k d)
 more-IsReadBack nodesize nodes i node within is read before k d below = elim (cases_eq k i) [
-  | inl same ↦ subst (λ (n : ℕ). IsReadBack nodesize (get_or nodes n d)) (sym same) (subst (IsReadBack nodesize) (is ∙ get_or_default nodes i node d within) read)
+  | inl same ↦ subst (λ (n : ℕ). IsReadBack nodesize (get_or nodes n d)) (sym same)
+      (subst (IsReadBack nodesize) (is ∙ get_or_default nodes i node d within) read)
   | inr other ↦ before k d (omega arith)
 ]

@@ -1,5 +1,6 @@
 -- What stands in an image after a commit: both superblocks, and each node in its slot.
-use Rattle.std.proofs.Common.{◌≡◌, ℕ, ◌+◌, ◌≤◌, ◌⊎◌, inl, inr, true, false, List, [], ◌∷◌, map, length, get_or, Some, Ok, refl, ap, ◌∙◌, arith}
+use Rattle.std.proofs.Common.{◌≡◌, ℕ, ◌+◌, ◌≤◌, ◌⊎◌, inl, inr, true, false, List, [], ◌∷◌, map, length, get_or, Some}
+use Rattle.std.proofs.Common.{Ok, refl, ap, ◌∙◌, arith}
 use Rattle.std.specs.Prelude.{◌==◌, IsTrue, All}
 use Rattle.std.specs.List.{AllByRecursion, IsDistinct}
 use Rattle.std.proofs.lemmas.Bool.{eqb-false}
@@ -42,7 +43,8 @@ record IsPlaced (super : Super) (node : Node) : Type 0 where
   long : length (node_text super.nodesize node) ≡ super.nodesize
   again : node_read (address_of node) (node_text super.nodesize node) ≡ Ok node
 
-all-IsPlaced : (super : Super) (nodes : List Node) → AreCommittable super nodes → All (IsReadBack super.nodesize) nodes → AllByRecursion (IsPlaced super) nodes
+all-IsPlaced : (super : Super) (nodes : List Node) → AreCommittable super nodes → All (IsReadBack super.nodesize) nodes
+    → AllByRecursion (IsPlaced super) nodes
 all-IsPlaced super nodes are read =
     let writable = All-from_recursion (IsWritable super.nodesize) nodes are.writable in
     recursion_from_All (IsPlaced super) nodes
@@ -54,8 +56,10 @@ all-IsPlaced super nodes are read =
 
 -- a slot is apart from those at other addresses
 others-apart : (super : Super) (address : ℕ) (nodes : List Node) → is_slot (sizes_of super) address ≡ true
-    → AllByRecursion (λ other. (address == other) ≡ false) (map address_of nodes) → AllByRecursion (IsPlaced super) nodes
-    → AllByRecursion (λ node. (address + super.nodesize ≤ address_of node) ⊎ (address_of node + super.nodesize ≤ address)) nodes
+    → AllByRecursion (λ other. (address == other) ≡ false) (map address_of nodes)
+    → AllByRecursion (IsPlaced super) nodes
+    → AllByRecursion (λ node. (address + super.nodesize ≤ address_of node)
+    ⊎ (address_of node + super.nodesize ≤ address)) nodes
 others-apart super address [] slot differ are = tt
 others-apart super address (node ∷ nodes) slot differ are = (
   slots-apart (sizes_of super) address (address_of node) slot are.0.slot (eqb-false address (address_of node) differ.0),
@@ -78,12 +82,14 @@ nodes-keep super (node ∷ nodes) events place size kept are long apart has =
       | inl before ↦ inl (omega arith)
       | inr behind ↦ inr (omega arith)
     ] in
-    nodes-keep super nodes (Wrote at text ∷ events) place size kept are.1 long apart.1 (kept-HasRange at place text kept (content events) here has)
+    nodes-keep super nodes (Wrote at text ∷ events) place size kept are.1 long apart.1
+    (kept-HasRange at place text kept (content events) here has)
 
 -- each node stands in its slot
 nodes-stand : (super : Super) (nodes : List Node) (events : List Event) → AllByRecursion (IsPlaced super) nodes
     → IsDistinct (λ a b. a == b) (map address_of nodes)
-    → AllByRecursion (λ node. HasRange (content (with_nodes super.nodesize nodes events)) (address_of node) (node_text super.nodesize node)) nodes
+    → AllByRecursion (λ node. HasRange (content (with_nodes super.nodesize nodes events)) (address_of node)
+    (node_text super.nodesize node)) nodes
 nodes-stand super [] events are distinct = tt
 nodes-stand super (node ∷ nodes) events are distinct =
     let at = address_of node in
@@ -92,7 +98,8 @@ nodes-stand super (node ∷ nodes) events are distinct =
     let there = Wrote at text ∷ events in
     let differ = IsDistinct-head same at (map address_of nodes) distinct in
     let apart = others-apart super at nodes are.0.slot differ are.1 in (
-      nodes-keep super nodes there at super.nodesize text are.1 are.0.long apart (written-HasRange at text (content events)),
+      nodes-keep super nodes there at super.nodesize text are.1 are.0.long apart
+          (written-HasRange at text (content events)),
       nodes-stand super nodes there are.1 (IsDistinct-tail same at (map address_of nodes) distinct),
     )
 
@@ -113,16 +120,24 @@ with_commit-no_shorter super nodes events =
     let second = super_text second_place super in
     let written = content (with_nodes super.nodesize nodes events) in
     let before = with_nodes-no_shorter super.nodesize nodes events in
-    omega (arith, before, length-overlay first_place first written, length-overlay second_place second (overlay first_place first written))
+    omega (
+      arith,
+      before,
+      length-overlay first_place first written,
+      length-overlay second_place second
+          (overlay first_place first written),
+    )
 
 -- ---- the superblocks are written
 
 -- what both superblocks leave
 abbrev with_supers : Super → List ℕ → List ℕ
-with_supers super old = overlay second_place (super_text second_place super) (overlay first_place (super_text first_place super) old)
+with_supers super old = overlay second_place (super_text second_place super)
+    (overlay first_place (super_text first_place super) old)
 
 -- what lies between them stays
-supers-keep : (super : Super) (old : List ℕ) (place : ℕ) (kept : List ℕ) → slots_begin ≤ place → place + length kept ≤ second_place
+supers-keep : (super : Super) (old : List ℕ) (place : ℕ) (kept : List ℕ) → slots_begin ≤ place
+    → place + length kept ≤ second_place
     → HasRange old place kept → HasRange (with_supers super old) place kept
 supers-keep super old place kept begin end has =
     let first = super_text first_place super in
@@ -131,35 +146,43 @@ supers-keep super old place kept begin end has =
     kept-HasRange second_place place second kept (overlay first_place first old) (inl end)
     (kept-HasRange first_place place first kept old (inr (omega arith)) has)
 
-first-stands : (super : Super) (old : List ℕ) → HasRange (with_supers super old) first_place (super_text first_place super)
+first-stands : (super : Super) (old : List ℕ)
+    → HasRange (with_supers super old) first_place (super_text first_place super)
 first-stands super old =
     let first = super_text first_place super in
     let second = super_text second_place super in
     let short : length first ≡ 4096 = length-super_text first_place super in
-    kept-HasRange second_place first_place second first (overlay first_place first old) (inl (omega arith)) (written-HasRange first_place first old)
+    kept-HasRange second_place first_place second first (overlay first_place first old) (inl (omega arith))
+    (written-HasRange first_place first old)
 
-second-stands : (super : Super) (old : List ℕ) → HasRange (with_supers super old) second_place (super_text second_place super)
+second-stands : (super : Super) (old : List ℕ)
+    → HasRange (with_supers super old) second_place (super_text second_place super)
 second-stands super old =
-    written-HasRange second_place (super_text second_place super) (overlay first_place (super_text first_place super) old)
+    written-HasRange second_place (super_text second_place super)
+    (overlay first_place (super_text first_place super) old)
 
 -- ---- what is read
 
 -- a superblock that stands there is read
-super_in-HasRange : (image : List ℕ) (place : ℕ) (super : Super) → is_super super ≡ true → HasRange image place (super_text place super)
+super_in-HasRange : (image : List ℕ) (place : ℕ) (super : Super) → is_super super ≡ true
+    → HasRange image place (super_text place super)
     → super_in image place ≡ Some super
 super_in-HasRange image place super is has =
-    ap (super_read place) (range-slice_range image place sector (super_text place super) (length-super_text place super) has) ∙ super_read-super_text place super is
+    ap (super_read place) (range-slice_range image place sector (super_text place super) (length-super_text place super)
+    has) ∙ super_read-super_text place super is
 
 -- a node that stands in its slot is found
 node_found-HasRange : (super : Super) (image : List ℕ) (node : Node) → IsPlaced super node
-    → HasRange image (address_of node) (node_text super.nodesize node) → node_found super image (address_of node) ≡ Ok node
+    → HasRange image (address_of node) (node_text super.nodesize node)
+    → node_found super image (address_of node) ≡ Ok node
 unfolding node_found
 node_found-HasRange super image node is has =
     let bytes = range-slice_range image (address_of node) super.nodesize (node_text super.nodesize node) is.long has in
     rw is.slot (rw bytes (rw is.again refl))
 
 -- each node is found after both superblocks were written over what holds the nodes
-nodes-found : (super : Super) (old : List ℕ) (nodes : List Node) → SizesFit (sizes_of super) → AllByRecursion (IsPlaced super) nodes
+nodes-found : (super : Super) (old : List ℕ) (nodes : List Node) → SizesFit (sizes_of super)
+    → AllByRecursion (IsPlaced super) nodes
     → AllByRecursion (λ node. HasRange old (address_of node) (node_text super.nodesize node)) nodes
     → AllByRecursion (λ node. node_found super (with_supers super old) (address_of node) ≡ Ok node) nodes
 nodes-found super old [] served are stand = tt
@@ -167,14 +190,19 @@ nodes-found super old (node ∷ nodes) served are stand =
     let between = is_slot-IsBetween (sizes_of super) (address_of node) served are.0.slot in
     let text = node_text super.nodesize node in
     let fills : length text ≡ super.nodesize = are.0.long in
-    let kept = supers-keep super old (address_of node) text between.begin (omega (arith, between.end)) stand.0 in
-    (node_found-HasRange super (with_supers super old) node are.0 kept, nodes-found super old nodes served are.1 stand.1)
+    let kept = supers-keep super old (address_of node) text between.begin (omega (arith, between.end)) stand.0 in (
+      node_found-HasRange super (with_supers super old) node are.0 kept,
+      nodes-found super old nodes served are.1
+          stand.1,
+    )
 
 -- ---- the commit
 
--- after a commit an image that was long enough has both superblocks, and each node where it lies, if each is read from its text
+-- after a commit an image that was long enough has both superblocks, and each node where it lies, if each is read from
+-- its text
 pub with_commit-HasCommit : (super : Super) (nodes : List Node) (events : List Event) → is_super super ≡ true
-    → total_bytes (sizes_of super) ≤ length (content events) → AreCommittable super nodes → All (IsReadBack super.nodesize) nodes
+    → total_bytes (sizes_of super) ≤ length (content events) → AreCommittable super nodes
+    → All (IsReadBack super.nodesize) nodes
     → HasCommit super nodes (content (with_commit super nodes events))
 with_commit-HasCommit super nodes events is long are read =
     let served = SizesFit-is_served (sizes_of super) (SuperFits-is_super super is).served in

@@ -1,4 +1,5 @@
--- That the device calls of a commit, and those of opening, are the writes and syncs of which the laws of qg_crashes speak (this project's own).
+-- That the device calls of a commit, and those of opening, are the writes and syncs of which the laws of qg_crashes
+-- speak (this project's own).
 use Rattle.std.specs.Prelude.{◌≡◌, ◌⊎◌, ◌≤◌, ℕ, All, IsTrue, List, ◌∷◌, length, Some, None}
 use Rattle.qg_device.specs.History.{Event, Synced, content}
 use Rattle.qg_node.specs.declared.node.Node.{Node}
@@ -15,7 +16,8 @@ use Rattle.qg_commit.specs.Opened.{IsRepairing, stale_of}
 
 -- ---- a commit
 
--- The calls of a commit of these nodes and this superblock came so far, on a disk that is as long as the image and had made sure of all that it held.
+-- The calls of a commit of these nodes and this superblock came so far, on a disk that is as long as the image and had
+-- made sure of all that it held.
 pub record MakingCalls (before : List Event) (nodes : List Node) (super : Super) (after : List Event) : Type 0 where
   pub long : total_bytes (sizes_of super) ≤ length (content before)
   pub may_be_written : IsTrue (is_super super)
@@ -24,20 +26,26 @@ pub record MakingCalls (before : List Event) (nodes : List Node) (super : Super)
 
 -- so a commit of nodes in slots came so far
 abbrev pub CallsWrite : Type 0
-CallsWrite = (before : List Event) (nodes : List Node) (super : Super) (after : List Event) → MakingCalls before nodes super after
+CallsWrite = (before : List Event) (nodes : List Node) (super : Super) (after : List Event)
+    → MakingCalls before nodes super after
     → Writing before nodes super after
 
 -- all its calls do what the whole commit does
 abbrev pub CallsAreWhole : Type 0
-CallsAreWhole = (before : List Event) (nodes : List Node) (super : Super) → with_commit super nodes (Synced ∷ before) ≡ with_whole nodes super before
+CallsAreWhole = (before : List Event) (nodes : List Node) (super : Super)
+    → with_commit super nodes (Synced ∷ before) ≡ with_whole nodes super before
 
 -- ---- opening
 
--- where opening writes a stale place of a disk that is as long as the image, the superblock that counts stands at the other one
+-- where opening writes a stale place of a disk that is as long as the image, the superblock that counts stands at the
+-- other one
 abbrev pub OpeningRepairs : Type 0
-OpeningRepairs = (events after : List Event) (opening : IsRepairing events (Some after)) → total_bytes (sizes_of opening.super) ≤ length (content events)
-    → Repairing events first_place second_place opening.super after ⊎ Repairing events second_place first_place opening.super after
+OpeningRepairs = (events after : List Event) (opening : IsRepairing events (Some after))
+    → total_bytes (sizes_of opening.super) ≤ length (content events)
+    → Repairing events first_place second_place opening.super after
+    ⊎ Repairing events second_place first_place opening.super after
 
 -- where no place of an image is stale, both hold the superblock that counts
 abbrev pub NoneStaleMirrors : Type 0
-NoneStaleMirrors = (image : List ℕ) (state : State) → StateOf image state → stale_of image ≡ None → IsMirrored state image
+NoneStaleMirrors = (image : List ℕ) (state : State) → StateOf image state → stale_of image ≡ None
+    → IsMirrored state image

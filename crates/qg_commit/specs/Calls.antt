@@ -29,13 +29,15 @@ with_calls (call ∷ calls) events = with_calls calls (with_call call events)
 
 -- what was done where it failed: a write may leave any bytes in its range, no more than were asked; a sync does nothing
 abbrev pub FailsAfter : Call → List Event → List Event → Type 0
-FailsAfter (WriteAt at bytes) events after = (left : List ℕ) × (length left ≤ length bytes) × (after ≡ Tore at bytes left ∷ events)
+FailsAfter (WriteAt at bytes) events after = (left : List ℕ) × (length left ≤ length bytes)
+    × (after ≡ Tore at bytes left ∷ events)
 FailsAfter Sync events after = after ≡ events
 
 -- some of the calls were made, or all, from the first on in their order; the last of those made may have failed
 abbrev pub IsFront : List Call → List Event → List Event → Type 0
 IsFront [] events after = after ≡ events
-IsFront (call ∷ calls) events after = (after ≡ events) ⊎ (FailsAfter call events after ⊎ IsFront calls (with_call call events) after)
+IsFront (call ∷ calls) events after = (after ≡ events)
+    ⊎ (FailsAfter call events after ⊎ IsFront calls (with_call call events) after)
 
 -- that was done to a disk, and nothing else
 pub record MadeFront (calls : List Call) (events : List Event) (history : Option (List Event)) : Type 0 where
@@ -58,10 +60,12 @@ IsReadBack nodesize node = node_read (header_of node).address (node_text nodesiz
 abbrev pub node_calls : ℕ → List Node → List Call
 node_calls nodesize nodes = map (λ node. WriteAt (header_of node).address (node_text nodesize node)) nodes
 
--- what was done is made sure of, and then the superblock is written at both places: a sync, the first, a sync, the second, a sync
+-- what was done is made sure of, and then the superblock is written at both places: a sync, the first, a sync, the
+-- second, a sync
 abbrev pub superblock_calls : Super → List Call
 superblock_calls super =
-    Sync ∷ WriteAt first_place (super_text first_place super) ∷ Sync ∷ WriteAt second_place (super_text second_place super) ∷ Sync ∷ []
+    Sync ∷ WriteAt first_place (super_text first_place super) ∷ Sync ∷ WriteAt second_place
+    (super_text second_place super) ∷ Sync ∷ []
 
 -- a commit: the new nodes, a sync, the first superblock, a sync, the second superblock, a sync
 abbrev pub commit_calls : Super → List Node → List Call

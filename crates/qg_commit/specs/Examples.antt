@@ -36,7 +36,8 @@ headers =
 abbrev body : List ℕ
 body = eight 1 ++ eight 1 ++ eight 2
 
-leaf-bytes : covered_text 16384 (fresh_leaf 2 1064960 (extent_items 1081344)) ≡ header ++ headers ++ (zeros 16209 ++ body)
+leaf-bytes : covered_text 16384 (fresh_leaf 2 1064960 (extent_items 1081344)) ≡ header ++ headers
+    ++ (zeros 16209 ++ body)
 unfolding covered_text header_text leaf_text item_headers bodies extent_text u64_bytes u32_bytes
 leaf-bytes = refl
 
@@ -51,7 +52,8 @@ fresh-calls : (sizes : Sizes) (before : List Event)
     ∷ Synced
     ∷ Wrote (slot_at sizes 3) (node_text sizes.nodesize (fresh_leaf 8 (slot_at sizes 3) (quota_items sizes.nodesize)))
     ∷ Wrote (slot_at sizes 2) (node_text sizes.nodesize (fresh_leaf 5 (slot_at sizes 2) []))
-    ∷ Wrote (slot_at sizes 1) (node_text sizes.nodesize (fresh_leaf 2 (slot_at sizes 1) (extent_items (slot_at sizes 2))))
+    ∷ Wrote (slot_at sizes 1)
+    (node_text sizes.nodesize (fresh_leaf 2 (slot_at sizes 1) (extent_items (slot_at sizes 2))))
     ∷ Wrote (slot_at sizes 0) (node_text sizes.nodesize (fresh_leaf 1 (slot_at sizes 0)
     (root_items (slot_at sizes 1) (slot_at sizes 2) (slot_at sizes 3))))
     ∷ Wrote (total_bytes sizes - sector) (zeros sector)

@@ -25,7 +25,8 @@ pub record IsOpened (events : List Event) (history : Option (List Event)) : Type
   pub chosen : super_of (content events) ≡ Some super
   pub repaired : history ≡ Some (with_repair super (stale_of (content events)) (Synced ∷ events))
 
--- the image is sound, and behind a sync the place that does not hold the superblock that counts was written, whole or torn; nothing else was done
+-- the image is sound, and behind a sync the place that does not hold the superblock that counts was written, whole or
+-- torn; nothing else was done
 pub record IsRepairing (events : List Event) (history : Option (List Event)) : Type 0 where
   pub sound : IsSound (content events)
   pub super : Super
@@ -34,14 +35,18 @@ pub record IsRepairing (events : List Event) (history : Option (List Event)) : T
   pub stale : stale_of (content events) ≡ Some place
   pub written : IsWriting super place (Synced ∷ events) history
 
--- what opening has done to the disk, whatever it answers: at most a sync, and of a sound image the repair, or a part of it
+-- what opening has done to the disk, whatever it answers: at most a sync, and of a sound image the repair, or a part of
+-- it
 abbrev pub IsOpening : List Event → Option (List Event) → Type 0
 IsOpening events history = IsLookedAt events history ⊎ IsRepairing events history
 
--- Opening outlives crashes. Whatever one leaves since opening's first sync stands for the state that the disk stood for, where no torn superblock
--- matches its checksum by chance; before that sync it leaves what it could as the call began; and once the image was opened, the disk rests at that
--- state, with both places alike
-pub record OutlivesCrashes {A : Type 0} (events : List Event) (history : Option (List Event)) (result : Result A OpenFault) : Type 0 where
-  pub crashes : (after : List Event) (state : State) → history ≡ Some after → StateOf (content events) state → Survives (begin_of events) state [] after
-  pub early : (after : List Event) (image : List ℕ) → history ≡ Some after → LeavesSince (length events) after image (length events) → Leaves events image
+-- Opening outlives crashes. Whatever one leaves since opening's first sync stands for the state that the disk stood
+-- for, where no torn superblock matches its checksum by chance; before that sync it leaves what it could as the call
+-- began; and once the image was opened, the disk rests at that state, with both places alike
+pub record OutlivesCrashes {A : Type 0} (events : List Event) (history : Option (List Event))
+    (result : Result A OpenFault) : Type 0 where
+  pub crashes : (after : List Event) (state : State) → history ≡ Some after → StateOf (content events) state
+      → Survives (begin_of events) state [] after
+  pub early : (after : List Event) (image : List ℕ) → history ≡ Some after
+      → LeavesSince (length events) after image (length events) → Leaves events image
   pub rests : (state : State) → StateOf (content events) state → IfOk result (λ opened. IfSome history (Rests state))

@@ -11,11 +11,14 @@ abbrev pub with_repair : Super → Option ℕ → List Event → List Event
 with_repair super None events = events
 with_repair super (Some place) events = Synced ∷ Wrote place (super_text place super) ∷ events
 
--- the superblock was written at a place: torn, which may leave any bytes there, no more than were asked; or whole, and perhaps made sure of
+-- the superblock was written at a place: torn, which may leave any bytes there, no more than were asked; or whole, and
+-- perhaps made sure of
 abbrev pub IsWriting : Super → ℕ → List Event → Option (List Event) → Type 0
 IsWriting super place events history =
-    ((left : List ℕ) × (length left ≤ length (super_text place super)) × (history ≡ Some (Tore place (super_text place super) left ∷ events)))
-    ⊎ ((history ≡ Some (Wrote place (super_text place super) ∷ events)) ⊎ (history ≡ Some (with_repair super (Some place) events)))
+    ((left : List ℕ) × (length left ≤ length (super_text place super))
+    × (history ≡ Some (Tore place (super_text place super) left ∷ events)))
+    ⊎ ((history ≡ Some (Wrote place (super_text place super) ∷ events))
+    ⊎ (history ≡ Some (with_repair super (Some place) events)))
 
 -- nothing was done to the disk, but that it was perhaps made sure of
 abbrev pub IsLookedAt : List Event → Option (List Event) → Type 0

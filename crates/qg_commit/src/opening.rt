@@ -28,7 +28,8 @@ pub fn open<D: Disk>(alloc: Global, disk: &mut D) -> Result<Image, OpenFault>
     ensures refused { (events : List Event) → D.history disk.old ≡ Some events
         → IfErr result (λ fault. TellsFailure fault (verdict (content events))) }
     ensures repaired { (events : List Event) → D.history disk.old ≡ Some events
-        → IfOk result (λ image. D.history disk.new ≡ Some (with_repair image.superblock image.stale (Synced ∷ events))) }
+        → IfOk result (λ image. D.history disk.new
+        ≡ Some (with_repair image.superblock image.stale (Synced ∷ events))) }
     ensures unwritten { (events : List Event) → D.history disk.old ≡ Some events
         → IfErr result (λ fault. IsUntouched fault (D.history disk.new) (Synced ∷ events)) }
     ensures touches { (events : List Event) → D.history disk.old ≡ Some events → IsOpening events (D.history disk.new) }

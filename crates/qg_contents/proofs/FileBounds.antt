@@ -31,7 +31,10 @@ within from size (piece ∷ pieces) h =
     let whole = WholePiece-is_piece piece first.is in
     let later = within (piece_end piece) size pieces first.rest in
     let above : piece.position + piece.len ≤ size = later.above in
-    record { above = omega (arith, first.begins); each = (record { ends = above; some = whole.some; inside = whole.in_extent }, later.each) }
+    record {
+      above = omega (arith, first.begins);
+      each = (record { ends = above; some = whole.some; inside = whole.in_extent }, later.each);
+    }
 
 -- the parts of a sound file
 pub record IsSoundFile (file : File) : Type 0 where
@@ -59,7 +62,8 @@ pub record FileFits (file : File) : Type 0 where
   pub inode : InodeFits (inode_of file)
   pub pieces : AllByRecursion (λ piece. ExtentDataFits (extent_data_of piece)) file.pieces
 
-pieces_fit : (generation size : ℕ) (pieces : List Piece) → generation < 2 ^ 64 → size ≤ 2 ^ 40 → AllByRecursion (IsWithin size) pieces
+pieces_fit : (generation size : ℕ) (pieces : List Piece) → generation < 2 ^ 64 → size ≤ 2 ^ 40
+    → AllByRecursion (IsWithin size) pieces
     → AllByRecursion IsPlaced pieces → AllByRecursion (λ piece. piece.stamp ≤ generation) pieces
     → AllByRecursion (λ piece. ExtentDataFits (extent_data_of piece)) pieces
 pieces_fit generation size [] fits small within placed stamped = tt
@@ -79,7 +83,8 @@ pieces_fit generation size (piece ∷ pieces) fits small within placed stamped =
     } in
     (first, pieces_fit generation size pieces fits small within.1 placed.1 stamped.1)
 
-pub file_fits : (generation : ℕ) (file : ℕ × File) → generation < 2 ^ 64 → IsWritableFile file → IsFileBy generation file → FileFits file.1
+pub file_fits : (generation : ℕ) (file : ℕ × File) → generation < 2 ^ 64 → IsWritableFile file
+    → IsFileBy generation file → FileFits file.1
 file_fits generation file fits is by =
     let sound = sound_file file.1 is.sound in
     let few = file_small file.1 is.sound in
@@ -88,6 +93,7 @@ file_fits generation file fits is by =
     let changed : file.1.transid ≤ generation = by.changed in
     record {
       inode = record { generation = omega arith; transid = omega arith; size = omega arith; nbytes = omega arith };
-      pieces = pieces_fit generation file.1.size file.1.pieces fits small sound.each (recursion_from_All IsPlaced file.1.pieces is.placed)
+      pieces = pieces_fit generation file.1.size file.1.pieces fits small sound.each
+          (recursion_from_All IsPlaced file.1.pieces is.placed)
           (recursion_from_All (λ (piece : Piece). piece.stamp ≤ generation) file.1.pieces by.stamped);
     }

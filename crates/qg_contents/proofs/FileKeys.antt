@@ -1,5 +1,6 @@
 -- The keys of files' items ascend.
-use Rattle.std.proofs.Common.{◌≡◌, ℕ, suc, ◌+◌, ◌≤◌, ◌<◌, Bool, true, List, [], ◌∷◌, ◌++◌, map, refl, sym, ap, ◌∙◌, arith, subst}
+use Rattle.std.proofs.Common.{◌≡◌, ℕ, suc, ◌+◌, ◌≤◌, ◌<◌, Bool, true, List, [], ◌∷◌, ◌++◌, map, refl, sym, ap, ◌∙◌}
+use Rattle.std.proofs.Common.{arith, subst}
 use Rattle.std.specs.Prelude.{◌&&◌, slice_index}
 use Rattle.std.specs.List.{AllByRecursion, flat_map}
 use Rattle.std.specs.List.Sorted.{IsStrictlyIncreasing}
@@ -80,9 +81,11 @@ files_follow ino [] rise sound = record { after = λ kind offset. refl }
 files_follow ino (file ∷ files) rise sound = record {
   after = λ kind offset.
       both (is_lt (key_cmp (key_with ino kind offset) (key_with file.0 1 0)))
-      (ascends_from (key_with file.0 1 0) (map file_key (map (PieceOf file.0) file.1.pieces ++ flat_map parts_of_file files)))
+      (ascends_from (key_with file.0 1 0)
+      (map file_key (map (PieceOf file.0) file.1.pieces ++ flat_map parts_of_file files)))
       (before_object (key_with ino kind offset) (key_with file.0 1 0) rise.0)
-      (pieces_ascend file.0 1 0 0 file.1.size file.1.pieces (flat_map parts_of_file files) (λ position above. before_pieces file.0 position)
+      (pieces_ascend file.0 1 0 0 file.1.size file.1.pieces (flat_map parts_of_file files)
+      (λ position above. before_pieces file.0 position)
       sound.0.pieces (files_follow file.0 files rise.1 sound.1));
 }
 
@@ -92,7 +95,8 @@ pub parts-ascending : (files : List (ℕ × File)) → Rise 0 files → AllByRec
 unfolding is_ascending
 parts-ascending [] rise sound = refl
 parts-ascending (file ∷ files) rise sound =
-    pieces_ascend file.0 1 0 0 file.1.size file.1.pieces (flat_map parts_of_file files) (λ position above. before_pieces file.0 position)
+    pieces_ascend file.0 1 0 0 file.1.size file.1.pieces (flat_map parts_of_file files)
+    (λ position above. before_pieces file.0 position)
     sound.0.pieces (files_follow file.0 files rise.1 sound.1)
 
 pub items-ascending : (files : List (ℕ × File)) → Rise 0 files → AllByRecursion (λ file. IsSoundFile file.1) files
@@ -108,8 +112,10 @@ later_increasing x xs h k inside =
 
 pub Rise-increasing : (ino : ℕ) (files : List (ℕ × File)) → IsStrictlyIncreasing (ino ∷ keys_of files) → Rise ino files
 Rise-increasing ino [] h = tt
-Rise-increasing ino (file ∷ files) h = (h 0 (omega arith), Rise-increasing file.0 files (later_increasing ino (keys_of (file ∷ files)) h))
+Rise-increasing ino (file ∷ files) h =
+    (h 0 (omega arith), Rise-increasing file.0 files (later_increasing ino (keys_of (file ∷ files)) h))
 
-pub Rise-numbers : (files : List (ℕ × File)) → AllByRecursion (λ file. 0 < file.0) files → IsStrictlyIncreasing (keys_of files) → Rise 0 files
+pub Rise-numbers : (files : List (ℕ × File)) → AllByRecursion (λ file. 0 < file.0) files
+    → IsStrictlyIncreasing (keys_of files) → Rise 0 files
 Rise-numbers [] some h = tt
 Rise-numbers (file ∷ files) some h = (some.0, Rise-increasing file.0 files h)

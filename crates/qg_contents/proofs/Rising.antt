@@ -24,7 +24,8 @@ later_increasing x xs h k inside =
     let next : suc k + 1 ≡ suc (k + 1) = omega arith in
     subst (λ (n : ℕ). slice_index xs k < slice_index (x ∷ xs) n) next (h (suc k) (omega arith))
 
-pub Above-increasing : {A : Type 0} (n : ℕ) (entries : List (ℕ × A)) → IsStrictlyIncreasing (n ∷ keys_of entries) → Above n entries
+pub Above-increasing : {A : Type 0} (n : ℕ) (entries : List (ℕ × A)) → IsStrictlyIncreasing (n ∷ keys_of entries)
+    → Above n entries
 Above-increasing n [] h = tt
 Above-increasing n (entry ∷ entries) h =
     (h 0 (omega arith), Above-increasing entry.0 entries (later_increasing n (keys_of (entry ∷ entries)) h))

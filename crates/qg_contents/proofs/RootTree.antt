@@ -1,5 +1,6 @@
 -- The items of the root tree.
-use Rattle.std.proofs.Common.{◌≡◌, ℕ, ◌+◌, ◌*◌, ◌≤◌, ◌<◌, ◌^◌, inl, inr, Bool, true, false, List, [], ◌∷◌, ◌++◌, map, length, take, get_or, refl, sym, ap, ◌∙◌, arith, lit<}
+use Rattle.std.proofs.Common.{◌≡◌, ℕ, ◌+◌, ◌*◌, ◌≤◌, ◌<◌, ◌^◌, inl, inr, Bool, true, false, List, [], ◌∷◌, ◌++◌, map}
+use Rattle.std.proofs.Common.{length, take, get_or, refl, sym, ap, ◌∙◌, arith, lit<}
 use Rattle.std.specs.Prelude.{Option, Some, None, All, IfSome, not, ◌==◌, ◌&&◌, ◌||◌, nat_lt}
 use Rattle.std.specs.List.{AllByRecursion, filter_map, list_all}
 use Rattle.std.proofs.lemmas.Bool.{cases_Bool, eq-eqb, eqb-true, le-leb, true≢false}
@@ -22,7 +23,8 @@ use Rattle.qg_parts.specs.Keys.{key_with}
 use Rattle.qg_image.specs.declared.tree.Tree.TheVariants.{Roots}
 use Rattle.qg_image.specs.Walk.{is_item_of}
 use Rattle.qg_contents.specs.Writable.{AreWritableRoots, IsRootBy, IsWritableRoot}
-use Rattle.qg_contents.specs.Written.{item_of_named, items_of_roots, quota_roots, roots_beside, roots_named, with_quotas}
+use Rattle.qg_contents.specs.Written.{item_of_named, items_of_roots, quota_roots, roots_beside, roots_named}
+use Rattle.qg_contents.specs.Written.{with_quotas}
 use Rattle.qg_contents.proofs.Bodies.{item-fits, root_text-AreBytes}
 use Rattle.qg_contents.proofs.Rising.{Above, Rises, Rises-increasing, before_object, both}
 
@@ -53,7 +55,8 @@ roots_left false quotas left = with_value 8 quotas left
 pub next_left : (named : Bool) (quotas : RootItem) (entry : ℕ × RootItem) (entries : List (ℕ × RootItem))
     → is_subvolume_number entry.0 ≡ true
     → roots_left named quotas (entry ∷ entries)
-    ≡ roots_beside ((named || nat_lt 8 entry.0) && not named) quotas entry ++ roots_left (named || nat_lt 8 entry.0) quotas entries
+    ≡ roots_beside ((named || nat_lt 8 entry.0) && not named) quotas entry
+    ++ roots_left (named || nat_lt 8 entry.0) quotas entries
 next_left true quotas entry entries is = refl
 next_left false quotas entry entries is = elim (cases_Bool (nat_lt 8 entry.0)) [
   | inl behind ↦ rw behind refl
@@ -61,7 +64,8 @@ next_left false quotas entry entries is = elim (cases_Bool (nat_lt 8 entry.0)) [
 ]
 
 -- what holds of each, and of the quota tree's, holds of all
-all_named : (P : ℕ × RootItem → Type 0) (quotas : RootItem) (entries : List (ℕ × RootItem)) → P (8, quotas) → AllByRecursion P entries
+all_named : (P : ℕ × RootItem → Type 0) (quotas : RootItem) (entries : List (ℕ × RootItem)) → P (8, quotas)
+    → AllByRecursion P entries
     → AllByRecursion P (with_value 8 quotas entries)
 all_named P quotas [] own each = (own, tt)
 all_named P quotas (entry ∷ entries) own each = elim (cases_Bool (nat_lt 8 entry.0)) [
@@ -131,24 +135,36 @@ record IsNamed (entry : ℕ × RootItem) : Type 0 where
 
 root_told : (entry : ℕ × RootItem) → IsNamed entry → root_part (item_of_named entry) ≡ Some entry
 unfolding root_part
-root_told entry is = rw (eq-eqb entry.0 entry.0 refl, is.known, root_read-root_text entry.1 is.writable.fits, is.writable.counted) refl
+root_told entry is = rw (
+  eq-eqb entry.0 entry.0 refl,
+  is.known,
+  root_read-root_text entry.1 is.writable.fits,
+  is.writable.counted,
+) refl
 
 root_allowed : (generation : ℕ) (entry : ℕ × RootItem) → IsNamed entry → IsRootBy generation entry.1
     → is_item_of Roots generation (item_of_named entry) ≡ true
 unfolding is_item_of
 root_allowed generation entry is by =
-    rw (root_told entry is, le-leb entry.1.generation generation by.made, le-leb entry.1.last_snapshot generation by.copied) refl
+    rw (
+      root_told entry is,
+      le-leb entry.1.generation generation by.made,
+      le-leb entry.1.last_snapshot generation
+          by.copied,
+    ) refl
 
 root_fits : (entry : ℕ × RootItem) → IsNamed entry → ItemFits (item_of_named entry)
 root_fits entry is =
-    item-fits entry.0 132 0 (root_text entry.1) is.small (lit< tt) (lit< tt) (root_text-AreBytes entry.1 is.writable.fits.level)
+    item-fits entry.0 132 0 (root_text entry.1) is.small (lit< tt) (lit< tt)
+    (root_text-AreBytes entry.1 is.writable.fits.level)
 
 short_root : (root : RootItem) → length (root_text root) ≤ 1024
 short_root root = omega (arith, length-root_text root)
 
 -- ---- any
 
-are_told : (entries : List (ℕ × RootItem)) → AllByRecursion IsNamed entries → filter_map root_part (map item_of_named entries) ≡ entries
+are_told : (entries : List (ℕ × RootItem)) → AllByRecursion IsNamed entries
+    → filter_map root_part (map item_of_named entries) ≡ entries
 are_told [] are = refl
 are_told (entry ∷ entries) are = rw (root_told entry are.0, are_told entries are.1) refl
 
@@ -157,7 +173,8 @@ are_allowed : (generation : ℕ) (entries : List (ℕ × RootItem)) → AllByRec
     → list_all (is_item_of Roots generation) (map item_of_named entries) ≡ true
 are_allowed generation [] are by = refl
 are_allowed generation (entry ∷ entries) are by =
-    both (is_item_of Roots generation (item_of_named entry)) (list_all (is_item_of Roots generation) (map item_of_named entries))
+    both (is_item_of Roots generation (item_of_named entry))
+    (list_all (is_item_of Roots generation) (map item_of_named entries))
     (root_allowed generation entry are.0 by.0) (are_allowed generation entries are.1 by.1)
 
 ascend_above : (n : ℕ) (entries : List (ℕ × RootItem)) → Above n entries
@@ -169,11 +186,13 @@ ascend_above n (entry ∷ entries) above =
     (ascends_from (key_with entry.0 132 0) (map (λ (item : Item). item.key) (map item_of_named entries)))
     (before_object 132 n entry.0 above.0) (ascend_above entry.0 entries above.1)
 
-are_short : (entries : List (ℕ × RootItem)) → AllByRecursion (λ (item : Item). length item.body ≤ 1024) (map item_of_named entries)
+are_short : (entries : List (ℕ × RootItem))
+    → AllByRecursion (λ (item : Item). length item.body ≤ 1024) (map item_of_named entries)
 are_short [] = tt
 are_short (entry ∷ entries) = (short_root entry.1, are_short entries)
 
-all_fit : (entries : List (ℕ × RootItem)) → AllByRecursion IsNamed entries → AllByRecursion ItemFits (map item_of_named entries)
+all_fit : (entries : List (ℕ × RootItem)) → AllByRecursion IsNamed entries
+    → AllByRecursion ItemFits (map item_of_named entries)
 all_fit [] are = tt
 all_fit (entry ∷ entries) are = (root_fits entry are.0, all_fit entries are.1)
 
@@ -219,15 +238,19 @@ module _ (extents : RootItem) (subvolumes : List (ℕ × RootItem)) (quotas : Op
   all_are e are fits q =
       let counted = recursion_from_All (λ entry. entry.1.refs ≡ 1) subvolumes are.counted in
       let fit = recursion_from_All (λ entry. RootFits entry.1) subvolumes fits in
-      let own : IsNamed (2, extents) = record { known = refl; small = lit< tt; writable = e } in
-      (own, all_with IsNamed quotas subvolumes (quotas_named quotas q) (each_named subvolumes (numbers_are are) counted fit))
+      let own : IsNamed (2, extents) = record { known = refl; small = lit< tt; writable = e } in (
+        own,
+        all_with IsNamed quotas subvolumes (quotas_named quotas q)
+            (each_named subvolumes (numbers_are are) counted fit),
+      )
 
   pub roots-told : IsWritableRoot extents → AreWritableRoots subvolumes → All (λ entry. RootFits entry.1) subvolumes
       → IfSome quotas IsWritableRoot
       → filter_map root_part (items_of_roots extents subvolumes quotas) ≡ roots_named extents subvolumes quotas
   roots-told e are fits q = are_told (roots_named extents subvolumes quotas) (all_are e are fits q)
 
-  pub roots-allowed : (generation : ℕ) → IsWritableRoot extents → AreWritableRoots subvolumes → All (λ entry. RootFits entry.1) subvolumes
+  pub roots-allowed : (generation : ℕ) → IsWritableRoot extents → AreWritableRoots subvolumes
+      → All (λ entry. RootFits entry.1) subvolumes
       → IfSome quotas IsWritableRoot
       → IsRootBy generation extents → All (λ entry. IsRootBy generation entry.1) subvolumes
       → IfSome quotas (IsRootBy generation)
@@ -254,7 +277,8 @@ module _ (extents : RootItem) (subvolumes : List (ℕ × RootItem)) (quotas : Op
       → IfSome quotas IsWritableRoot
       → All ItemFits (items_of_roots extents subvolumes quotas)
   roots-fit e are fits q =
-      All-from_recursion ItemFits (items_of_roots extents subvolumes quotas) (all_fit (roots_named extents subvolumes quotas) (all_are e are fits q))
+      All-from_recursion ItemFits (items_of_roots extents subvolumes quotas)
+      (all_fit (roots_named extents subvolumes quotas) (all_are e are fits q))
 
   pub roots-bytes : AreWritableRoots subvolumes
       → items_bytes (items_of_roots extents subvolumes quotas) ≡ 464 * (length subvolumes + 1 + quota_roots quotas)
@@ -270,7 +294,8 @@ one_put front items more subvolumes i entry inside is before put =
     let here : List (ℕ × RootItem) = entry ∷ [] in
     let split : take (i + 1) subvolumes ≡ take i subvolumes ++ here =
     take_more subvolumes i entry inside ∙ ap (λ (e : ℕ × RootItem). take i subvolumes ++ e ∷ []) (sym is) in
-    let mapped : map item_of_named (take (i + 1) subvolumes) ≡ map item_of_named (take i subvolumes) ++ item_of_named entry ∷ [] =
+    let mapped : map item_of_named (take (i + 1) subvolumes) ≡ map item_of_named (take i subvolumes)
+    ++ item_of_named entry ∷ [] =
     ap (map item_of_named) split ∙ map-append item_of_named (take i subvolumes) here in
     let last : List Item = item_of_named entry ∷ [] in
     put ∙ ap (λ (all : List Item). all ++ last) before ∙ append_assoc front (map item_of_named (take i subvolumes)) last
@@ -282,7 +307,8 @@ pub roots-put : (items more : List Item) (named next first : Bool) (quotas : Roo
     (left entries : List (ℕ × RootItem))
     → is_subvolume_number entry.0 ≡ true → left ≡ entry ∷ entries → next ≡ (named || nat_lt 8 entry.0)
     → first ≡ (next && not named) → more ≡ items ++ map item_of_named (roots_beside first quotas entry)
-    → more ++ map item_of_named (roots_left next quotas entries) ≡ items ++ map item_of_named (roots_left named quotas left)
+    → more ++ map item_of_named (roots_left next quotas entries) ≡ items
+    ++ map item_of_named (roots_left named quotas left)
 roots-put items more named next first quotas entry left entries number stands is first_is put =
     let behind = named || nat_lt 8 entry.0 in
     let now = map item_of_named (roots_beside (behind && not named) quotas entry) in

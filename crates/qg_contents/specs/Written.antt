@@ -14,7 +14,10 @@ use Rattle.qg_image.specs.FilesOf.{pieces_bytes}
 
 -- the item under a key
 abbrev pub item_under : ℕ → ℕ → ℕ → List ℕ → Item
-item_under objectid kind offset body = record { key = record { objectid = objectid; kind = kind; offset = offset }; body = body }
+item_under objectid kind offset body = record {
+  key = record { objectid = objectid; kind = kind; offset = offset };
+  body = body;
+}
 
 -- ---- the root tree
 
@@ -52,7 +55,12 @@ items_of_roots extents subvolumes quotas = map item_of_named (roots_named extent
 
 -- a file's INODE_ITEM tells the sum of its pieces
 abbrev pub inode_of : File → InodeItem
-inode_of file = record { generation = file.generation; transid = file.transid; size = file.size; nbytes = pieces_bytes file.pieces }
+inode_of file = record {
+  generation = file.generation;
+  transid = file.transid;
+  size = file.size;
+  nbytes = pieces_bytes file.pieces;
+}
 
 -- a piece's EXTENT_DATA tells the extent's length twice
 abbrev pub extent_data_of : Piece → ExtentData

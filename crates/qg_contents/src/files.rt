@@ -20,8 +20,8 @@ use qg_node::{Item, Items};
 use qg_num::{Ino, NoMemory, Piece};
 use std::alloc::{AllocError, Global};
 
-/// The items of a subvolume's tree with these files: an INODE_ITEM for each, and an EXTENT_DATA for each of its pieces (on-disk format,
-/// INODE_ITEM and EXTENT_DATA).
+/// The items of a subvolume's tree with these files: an INODE_ITEM for each, and an EXTENT_DATA for each of its pieces
+/// (on-disk format, INODE_ITEM and EXTENT_DATA).
 pub fn file_items(alloc: Global, files: &[(Ino, File)]) -> Result<Items, NoMemory>
     requires { AreWritableFiles files.now }
     ensures told { IfOk result (λ items. (generation : ℕ) → generation < 2 ^ 64 → All (IsFileBy generation) files.now

@@ -1,5 +1,6 @@
 // The items of the root tree.
-ghost use Rattle.std.specs.Prelude.{◌≡◌, ◌≤◌, ◌+◌, ◌*◌, ◌++◌, ℕ, ◌∷◌, [], None, Some, All, IfOk, IfSome, OnOk, IsTrue, length, map, nat_lt, not, ◌&&◌, ◌||◌};
+ghost use Rattle.std.specs.Prelude.{◌≡◌, ◌≤◌, ◌+◌, ◌*◌, ◌++◌, ℕ, ◌∷◌, [], None, Some, All, IfOk, IfSome, OnOk, IsTrue};
+ghost use Rattle.std.specs.Prelude.{length, map, nat_lt, not, ◌&&◌, ◌||◌};
 ghost use Rattle.std.specs.List.{filter_map, list_all};
 ghost use Rattle.qg_node.specs.Fits.{ItemFits};
 ghost use Rattle.qg_node.specs.Nodes.{is_ascending, items_bytes};
@@ -8,7 +9,8 @@ ghost use Rattle.qg_image.specs.ItemMeaning.{root_part, is_subvolume_number};
 ghost use Rattle.qg_image.specs.Walk.{is_item_of};
 ghost use Rattle.qg_image.specs.declared.tree.Tree.TheVariants.{Roots};
 ghost use Rattle.qg_contents.specs.Writable.{AreWritableRoots, IsRootBy, IsWritableRoot};
-ghost use Rattle.qg_contents.specs.Written.{item_of_named, item_of_root, items_of_roots, quota_roots, roots_named, roots_beside};
+ghost use Rattle.qg_contents.specs.Written.{item_of_named, item_of_root, items_of_roots, quota_roots, roots_named};
+ghost use Rattle.qg_contents.specs.Written.{roots_beside};
 
 use crate::item::item_under;
 use qg_items::kind::ROOT_ITEM;
@@ -18,8 +20,8 @@ use qg_node::{Item, Items};
 use qg_num::{NoMemory, RootId};
 use std::alloc::{AllocError, Global};
 
-/// The items of the root tree of an image with these subvolumes, ascending by number: a ROOT_ITEM for the extent tree, for each of
-/// them, and for the quota tree, where there is one (on-disk format, ROOT_ITEM).
+/// The items of the root tree of an image with these subvolumes, ascending by number: a ROOT_ITEM for the extent tree,
+/// for each of them, and for the quota tree, where there is one (on-disk format, ROOT_ITEM).
 pub fn root_items(
     alloc: Global,
     extents: &RootItem,
@@ -30,7 +32,8 @@ pub fn root_items(
     requires subvolumes { AreWritableRoots subvolumes.now }
     requires quotas { IfSome quotas.now IsWritableRoot }
     ensures exact { IfOk result (λ items. items ≡ items_of_roots extents.now subvolumes.now quotas.now) }
-    ensures told { IfOk result (λ items. filter_map root_part items ≡ roots_named extents.now subvolumes.now quotas.now) }
+    ensures told { IfOk result
+        (λ items. filter_map root_part items ≡ roots_named extents.now subvolumes.now quotas.now) }
     ensures allowed { IfOk result (λ items. (generation : ℕ)
         → IsRootBy generation extents.now → All (λ entry. IsRootBy generation entry.1) subvolumes.now
         → IfSome quotas.now (IsRootBy generation)
@@ -38,7 +41,8 @@ pub fn root_items(
     ensures ascending { IfOk result (λ items. IsTrue (is_ascending (map (λ item. item.key) items))) }
     ensures short { IfOk result (λ items. All (λ item. length item.body ≤ 1024) items) }
     ensures fit { IfOk result (λ items. All ItemFits items) }
-    ensures weight { IfOk result (λ items. items_bytes items ≡ 464 * (length subvolumes.now + 1 + quota_roots quotas.now)) }
+    ensures weight { IfOk result
+        (λ items. items_bytes items ≡ 464 * (length subvolumes.now + 1 + quota_roots quotas.now)) }
 {
     Ok(items_of_roots(alloc, extents, subvolumes, quotas)?)
 }
@@ -143,7 +147,8 @@ fn put_roots(
     quotas: &RootItem,
     first: bool,
 ) -> Result<(), AllocError>
-    ensures ok { OnOk result (items.new ≡ items.old ++ map item_of_named (roots_beside first quotas.now subvolume.now)) }
+    ensures ok { OnOk result
+        (items.new ≡ items.old ++ map item_of_named (roots_beside first quotas.now subvolume.now)) }
     ensures fits { OnOk result (RootFits subvolume.now.1) }
 {
     if first {

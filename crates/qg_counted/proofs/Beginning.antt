@@ -13,12 +13,14 @@ use Rattle.qg_image.proofs.Contained.{none_contained, contains_here, contains_la
 pub there : (xs : List Element) (y : Element) → Contains xs y → is_among y.address xs ≡ true
 there [] y has = absurd (none_contained y has)
 there (x ∷ xs) y has = elim (contains_cases x xs y has) [
-  | inl is ↦ or_left (x.address == y.address) (is_among y.address xs) (eq-eqb x.address y.address (ap (λ (e : Element). e.address) is))
+  | inl is ↦ or_left (x.address == y.address) (is_among y.address xs)
+      (eq-eqb x.address y.address (ap (λ (e : Element). e.address) is))
   | inr later ↦ or_right (x.address == y.address) (is_among y.address xs) (there xs y later)
 ]
 
 -- what begins at an address that is among a list
-pub found : (xs : List Element) (address : ℕ) → is_among address xs ≡ true → (y : Element) × Contains xs y × (y.address ≡ address)
+pub found : (xs : List Element) (address : ℕ) → is_among address xs ≡ true → (y : Element) × Contains xs y
+    × (y.address ≡ address)
 found [] address is = cc
 found (x ∷ xs) address is = elim (or_cases (x.address == address) (is_among address xs) is) [
   | inl here ↦ (x, contains_here x xs, eqb-true x.address address here)
@@ -48,7 +50,8 @@ among-passed test (x ∷ xs) address right = by (test x.address) refl (among-pas
       ∙ ap (λ b. b || is_among address xs) (sym (other (x.address == address) refl is))
 
 -- so a test of addresses may come before or after each address is told once
-pub distinct-passed : (test : ℕ → Bool) (xs : List Element) → filter (at_address test) (distinct xs) ≡ distinct (filter (at_address test) xs)
+pub distinct-passed : (test : ℕ → Bool) (xs : List Element)
+    → filter (at_address test) (distinct xs) ≡ distinct (filter (at_address test) xs)
 distinct-passed test [] = refl
 distinct-passed test (x ∷ xs) = by (test x.address) refl (distinct-passed test xs) where
   by : (b : Bool) → test x.address ≡ b
@@ -65,11 +68,13 @@ distinct-passed test (x ∷ xs) = by (test x.address) refl (distinct-passed test
   by true is rest = elim (cases_Bool (is_among x.address xs)) [
     | inl again ↦
         ap (filter (at_address test)) (cond-true (is_among x.address xs) _ _ again) ∙ rest
-        ∙ sym (cond-true (is_among x.address (filter (at_address test) xs)) _ _ (among-passed test xs x.address is ∙ again))
+        ∙ sym (cond-true (is_among x.address (filter (at_address test) xs)) _ _ (among-passed test xs x.address is
+        ∙ again))
         ∙ ap distinct (sym (cond-true (test x.address) _ _ is))
     | inr first ↦
         ap (filter (at_address test)) (cond-false (is_among x.address xs) _ _ first)
         ∙ cond-true (test x.address) _ _ is ∙ ap (λ ys. x ∷ ys) rest
-        ∙ sym (cond-false (is_among x.address (filter (at_address test) xs)) _ _ (among-passed test xs x.address is ∙ first))
+        ∙ sym (cond-false (is_among x.address (filter (at_address test) xs)) _ _ (among-passed test xs x.address is
+        ∙ first))
         ∙ ap distinct (sym (cond-true (test x.address) _ _ is))
   ]

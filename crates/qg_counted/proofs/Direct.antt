@@ -1,5 +1,6 @@
 -- What portions that tell a layout count of a group's members is the group's direct count.
-use Rattle.std.proofs.Common.{◌≡◌, ℕ, zero, suc, ◌+◌, ◌<◌, ◌≤◌, Bool, true, false, not, List, [], ◌∷◌, length, Option, Some, None, refl, sym, ap, subst, ◌∙◌, arith, ◌⊎◌, inl, inr}
+use Rattle.std.proofs.Common.{◌≡◌, ℕ, zero, suc, ◌+◌, ◌<◌, ◌≤◌, Bool, true, false, not, List, [], ◌∷◌, length, Option}
+use Rattle.std.proofs.Common.{Some, None, refl, sym, ap, subst, ◌∙◌, arith, ◌⊎◌, inl, inr}
 use Rattle.std.specs.Prelude.{◌==◌, ◌&&◌, slice_get}
 use Rattle.std.specs.List.{Contains, filter, flat_map, list_any}
 use Rattle.std.proofs.lemmas.Bool.{cases_Bool, cases_eq, eq-eqb, eqb-true, ne_eqb}
@@ -157,7 +158,8 @@ module _ (layout : Layout) (rows : List (List ℕ)) (element : Element) (portion
           any-of (λ sub. chosen sub && reaches layout sub element.address) (keys_of layout.roots) root.0.0
           (contains_map (λ (e : ℕ × ℕ). e.0) layout.roots root.0 (contains-at layout.roots one.0 root.0 root.1))
           (and-true (chosen root.0.0) (reaches layout root.0.0 element.address)
-          (ap chosen (sym (number-is layout.roots one.0 root.0 root.1)) ∙ both.1) (sym (told.reached one.0 root.0 root.1) ∙ both.0))
+          (ap chosen (sym (number-is layout.roots one.0 root.0 root.1)) ∙ both.1)
+          (sym (told.reached one.0 root.0 root.1) ∙ both.0))
 
       back : list_any (λ sub. chosen sub && reaches layout sub element.address) (keys_of layout.roots) ≡ true
           → not (passing_count (λ i. chosen (number_at layout.roots i)) row many == 0) ≡ true
@@ -173,10 +175,12 @@ module _ (layout : Layout) (rows : List (List ℕ)) (element : Element) (portion
           some-passes (λ i. chosen (number_at layout.roots i)) row many place.0
           (contained-at layout.roots place.0 root.0 place.1)
           (and-true (row_has row place.0) (chosen (number_at layout.roots place.0)) member is_chosen) in
-          differs-not (passing_count (λ i. chosen (number_at layout.roots i)) row many) 0 (λ none. omega (arith, some, none))
+          differs-not (passing_count (λ i. chosen (number_at layout.roots i)) row many) 0
+          (λ none. omega (arith, some, none))
 
   -- it lies within them where no other reaches it besides
-  within-is : (chosen : ℕ → Bool) → is_within (λ i. chosen (number_at layout.roots i)) rows (length layout.roots) portion.set
+  within-is : (chosen : ℕ → Bool)
+      → is_within (λ i. chosen (number_at layout.roots i)) rows (length layout.roots) portion.set
       ≡ (list_any (λ sub. chosen sub && reaches layout sub element.address) (keys_of layout.roots)
       && not (list_any (λ sub. not (chosen sub) && reaches layout sub element.address) (keys_of layout.roots)))
   within-is chosen =
@@ -233,7 +237,8 @@ module _ (layout : Layout) (hierarchy : Hierarchy) (elements : List Element) (gr
     back e has =
         let left = passed (at_address met_at) elements e has in
         let sub =
-        any-there (λ one. is_member hierarchy group one && reaches layout one e.address) (keys_of layout.roots) left.1 in
+        any-there (λ one. is_member hierarchy group one && reaches layout one e.address)
+        (keys_of layout.roots) left.1 in
         let both = both-true (is_member hierarchy group sub.0) (reaches layout sub.0 e.address) sub.2 in
         let one = found (reach layout sub.0) e.address both.1 in
         let same = apart_same elements one.0 e reached.apart (reached.all sub.0 one.0 one.1) left.0 one.2 in
@@ -245,7 +250,8 @@ module _ (layout : Layout) (hierarchy : Hierarchy) (elements : List Element) (gr
   referenced-met : referenced layout hierarchy group ≡ bytes_of (filter (at_address met_at) elements)
   unfolding referenced reach_of_group
   referenced-met =
-      bytes_of_distinct met (filter (at_address met_at) elements) (apart-passed (at_address met_at) elements reached.apart)
+      bytes_of_distinct met (filter (at_address met_at) elements)
+      (apart-passed (at_address met_at) elements reached.apart)
       same-met
 
   both-right : (a b : Bool) → a ≡ true → (a && b) ≡ b

@@ -9,7 +9,8 @@ use Rattle.qg_reach.specs.Sets.{HaveSame}
 use Rattle.qg_reach.proofs.Distinct.{AreApart, apart_first, apart_with, begin_alike}
 
 -- what is left passed the test, and was there
-pub passed : (test : Element → Bool) (xs : List Element) (x : Element) → Contains (filter test xs) x → Contains xs x × (test x ≡ true)
+pub passed : (test : Element → Bool) (xs : List Element) (x : Element) → Contains (filter test xs) x
+    → Contains xs x × (test x ≡ true)
 passed test [] x has = absurd (none_contained x has)
 passed test (z ∷ zs) x has = elim (cases_Bool (test z)) [
   | inl right ↦ elim (contains_cases z (filter test zs) x (subst (λ ys. Contains ys x) (cond-true _ _ _ right) has)) [
@@ -22,7 +23,8 @@ passed test (z ∷ zs) x has = elim (cases_Bool (test z)) [
 ]
 
 -- and what was there and passes it is left
-pub passes : (test : Element → Bool) (xs : List Element) (x : Element) → Contains xs x → test x ≡ true → Contains (filter test xs) x
+pub passes : (test : Element → Bool) (xs : List Element) (x : Element) → Contains xs x → test x ≡ true
+    → Contains (filter test xs) x
 passes test [] x has right = has
 passes test (z ∷ zs) x has right = elim (contains_cases z zs x has) [
   | inl is ↦
@@ -31,7 +33,8 @@ passes test (z ∷ zs) x has right = elim (contains_cases z zs x has) [
   | inr later ↦ among (test z) refl (passes test zs x later right)
 ] where
   among : (b : Bool) → test z ≡ b → Contains (filter test zs) x → Contains (filter test (z ∷ zs)) x
-  among true is has' = subst (λ ys. Contains ys x) (sym (cond-true (test z) _ _ is)) (contains_later z (filter test zs) x has')
+  among true is has' = subst (λ ys. Contains ys x) (sym (cond-true (test z) _ _ is))
+      (contains_later z (filter test zs) x has')
   among false is has' = subst (λ ys. Contains ys x) (sym (cond-false (test z) _ _ is)) has'
 
 -- elements that lie apart do so still
@@ -47,7 +50,8 @@ apart-passed test (z ∷ zs) apart =
     ]
 
 -- lists of the same elements are so still
-pub same-passed : (test : Element → Bool) (xs ys : List Element) → HaveSame xs ys → HaveSame (filter test xs) (filter test ys)
+pub same-passed : (test : Element → Bool) (xs ys : List Element) → HaveSame xs ys
+    → HaveSame (filter test xs) (filter test ys)
 same-passed test xs ys same = record {
   into = λ z has. let found = passed test xs z has in passes test ys z (same.into z found.0) found.1;
   back = λ z has. let found = passed test ys z has in passes test xs z (same.back z found.0) found.1;

@@ -1,6 +1,8 @@
 -- How often groups are named by the members of a set, and what is counted of them so.
-use Rattle.std.proofs.Common.{◌≡◌, ℕ, zero, suc, ◌+◌, ◌<◌, ◌≤◌, Bool, true, false, not, List, [], ◌∷◌, ◌++◌, length, take}
-use Rattle.std.proofs.Common.{get_or, set as set_at, refl, sym, ap, subst, ◌∙◌, arith, ◌⊎◌, inl, inr, get_or-set_same, get_or-set_other}
+use Rattle.std.proofs.Common.{◌≡◌, ℕ, zero, suc, ◌+◌, ◌<◌, ◌≤◌, Bool, true, false, not, List, [], ◌∷◌, ◌++◌, length}
+use Rattle.std.proofs.Common.{take}
+use Rattle.std.proofs.Common.{get_or, set as set_at, refl, sym, ap, subst, ◌∙◌, arith, ◌⊎◌, inl, inr, get_or-set_same}
+use Rattle.std.proofs.Common.{get_or-set_other}
 use Rattle.std.proofs.Common.{length-take}
 use Rattle.std.specs.Prelude.{◌==◌, ◌&&◌, ◌-◌}
 use Rattle.std.specs.List.{All, list_any, flat_map}
@@ -15,7 +17,8 @@ use Rattle.qg_reached.specs.Sets.{AreMembers}
 use Rattle.qg_reached.specs.Above.{list_at}
 use Rattle.qg_counted.specs.declared.groups.Tally.{Tally}
 use Rattle.qg_counted.specs.Portions.{given, row_has, HasRoom}
-use Rattle.qg_counted.specs.Groups.{is_above, passing_count, times, hits_by, hit_once, with_hits, none, IsUnseen, HaveHits}
+use Rattle.qg_counted.specs.Groups.{is_above, passing_count, times, hits_by, hit_once, with_hits, none, IsUnseen}
+use Rattle.qg_counted.specs.Groups.{HaveHits}
 use Rattle.qg_counted.specs.Groups.{HasRoomFor}
 use Rattle.qg_counted.proofs.Weights.{made, given_is, given_not, first_false, counters_same}
 use Rattle.qg_counted.proofs.Members.{is_told, told_none, told_now, told_other, told_fresh, told_is, or_false}
@@ -163,7 +166,12 @@ marked test xs (suc n) = given (is_told xs n && test n) 1 + marked test xs n
 marked_none : (test : ℕ → Bool) (n : ℕ) → marked test [] n ≡ 0
 marked_none test zero = refl
 marked_none test (suc n) =
-    omega (arith, given_not (is_told [] n && test n) 1 (first_false (is_told [] n) (test n) (told_none n)), marked_none test n)
+    omega (
+      arith,
+      given_not (is_told [] n && test n) 1 (first_false (is_told [] n) (test n) (told_none n)),
+      marked_none
+          test n,
+    )
 
 marked_same : (test : ℕ → Bool) (xs ys : List ℕ) (n : ℕ) → ((k : ℕ) → k < n → is_told xs k ≡ is_told ys k)
     → marked test xs n ≡ marked test ys n
@@ -216,7 +224,13 @@ marked_count : (test : ℕ → Bool) (members row : List ℕ) (n : ℕ)
 marked_count test members row zero same = sym (passed_first test row)
 marked_count test members row (suc n) same =
     let here = ap (λ told. given (told && test n) 1) (same n (omega arith)) in
-    omega (arith, here, passed_suc test row n, marked_count test members row n (λ k short. same k (omega (arith, short))))
+    omega (
+      arith,
+      here,
+      passed_suc test row n,
+      marked_count test members row n
+          (λ k short. same k (omega (arith, short))),
+    )
 
 pub passing_is : (test : ℕ → Bool) (row : List ℕ) (n : ℕ) (members : List ℕ) → AreMembers row n members
     → All (λ member. member < n) members → passing test members ≡ passing_count test row n
@@ -289,7 +303,8 @@ last_next many hits bytes = by (cases_eq many 0) where
         arith,
         given_not (are_all many hits) bytes (few_hit many hits (omega (arith, is))),
         given_is (hits + 1 == many) bytes (eq-eqb (hits + 1) many is),
-        given_is (are_all many (hits + 1)) bytes (all_hit many (hits + 1) (λ wrong. omega (arith, wrong, is)) (omega (arith, is))),
+        given_is (are_all many (hits + 1)) bytes (all_hit many (hits + 1) (λ wrong. omega (arith, wrong, is))
+            (omega (arith, is))),
       )
   some _ (inr (inl less)) =
       omega (
@@ -323,7 +338,8 @@ all_is hits many le = by (cases_eq many 0) where
   some : (many ≡ 0 → ⊥) → (hits ≡ many) ⊎ (hits ≡ many → ⊥) → are_all many hits ≡ (not (hits == 0) && (hits == many))
   some other (inl is) =
       all_hit many hits other (omega (arith, is))
-      ∙ sym (both_true (not (hits == 0)) (hits == many) (ap not (ne_eqb hits 0 (λ wrong. other (omega (arith, wrong, is)))))
+      ∙ sym (both_true (not (hits == 0)) (hits == many)
+      (ap not (ne_eqb hits 0 (λ wrong. other (omega (arith, wrong, is)))))
       (eq-eqb hits many is))
   some _ (inr differs) =
       few_hit many hits (omega (arith, le, differs))
@@ -376,7 +392,8 @@ hit_none named set many bytes old unseen = record {
 }
 
 -- the hits that a tally has had are no more than there are names
-pub hits_few : (named : List ℕ) (set many bytes i : ℕ) (old mid : List Tally) (k : ℕ) → i ≤ length named → k < length old
+pub hits_few : (named : List ℕ) (set many bytes i : ℕ) (old mid : List Tally) (k : ℕ) → i ≤ length named
+    → k < length old
     → HitFirst named set many bytes i old mid → hits_by set (get_or mid k none) ≤ i
 hits_few named set many bytes i old mid k le short first =
     omega (arith, first.hits k short, times_le named i k le)
@@ -411,7 +428,8 @@ hit_more named set many bytes i old mid new short inside is first = record {
   seen : (k : ℕ) → k < length old → (k ≡ get_or named i 0) ⊎ (k ≡ get_or named i 0 → ⊥)
       → (get_or (set_at mid (get_or named i 0) new) k none).seen ≤ set + 1
   seen k within (inl same) =
-      let there_now = ap (λ (t : Tally). t.seen) (ap (λ j. get_or (set_at mid (get_or named i 0) new) j none) same ∙ here) in
+      let there_now = ap (λ (t : Tally). t.seen) (ap (λ j. get_or (set_at mid (get_or named i 0) new) j none) same
+      ∙ here) in
       omega (arith, there_now)
   seen k within (inr other) =
       let there_now = ap (λ (t : Tally). t.seen) (there k other) in
@@ -421,7 +439,8 @@ hit_more named set many bytes i old mid new short inside is first = record {
       → hits_by set (get_or (set_at mid (get_or named i 0) new) k none) ≡ times (take (i + 1) named) k
   hits k within (inl same) =
       ap (λ j. hits_by set (get_or (set_at mid (get_or named i 0) new) j none)) same ∙ ap (hits_by set) here
-      ∙ given_is (set + 1 == set + 1) (hits_by set (get_or mid (get_or named i 0) none) + 1) (eq-eqb (set + 1) (set + 1) refl)
+      ∙ given_is (set + 1 == set + 1) (hits_by set (get_or mid (get_or named i 0) none) + 1)
+      (eq-eqb (set + 1) (set + 1) refl)
       ∙ ap (λ n. n + 1) (first.hits (get_or named i 0) inside) ∙ sym now
       ∙ ap (λ j. times (take (i + 1) named) j) (sym same)
   hits k within (inr other) = ap (hits_by set) (there k other) ∙ first.hits k within ∙ sym (still k other)
@@ -439,10 +458,12 @@ hit_more named set many bytes i old mid new short inside is first = record {
       ∙ ap (λ n. with_hits n many bytes (get_or old (get_or named i 0) none).counters) (sym now)
       ∙ ap (λ j. with_hits (times (take (i + 1) named) j) many bytes (get_or old j none).counters) (sym same) where
         before_rfer : (get_or mid (get_or named i 0) none).counters
-            ≡ with_hits (times (take i named) (get_or named i 0)) many bytes (get_or old (get_or named i 0) none).counters
+            ≡ with_hits (times (take i named) (get_or named i 0)) many bytes
+            (get_or old (get_or named i 0) none).counters
             → hits_by set (get_or mid (get_or named i 0) none) ≡ times (take i named) (get_or named i 0)
             → (hit_once set many bytes (get_or mid (get_or named i 0) none)).counters.rfer
-            ≡ (with_hits (times (take i named) (get_or named i 0)) many bytes (get_or old (get_or named i 0) none).counters).rfer
+            ≡ (with_hits (times (take i named) (get_or named i 0)) many bytes
+            (get_or old (get_or named i 0) none).counters).rfer
             + given (times (take i named) (get_or named i 0) + 1 == 1) bytes
         before_rfer counters hit =
             let one = ap (λ (c : Counters). c.rfer) counters in
@@ -450,10 +471,12 @@ hit_more named set many bytes i old mid new short inside is first = record {
             omega (arith, one, two)
 
         before_excl : (get_or mid (get_or named i 0) none).counters
-            ≡ with_hits (times (take i named) (get_or named i 0)) many bytes (get_or old (get_or named i 0) none).counters
+            ≡ with_hits (times (take i named) (get_or named i 0)) many bytes
+            (get_or old (get_or named i 0) none).counters
             → hits_by set (get_or mid (get_or named i 0) none) ≡ times (take i named) (get_or named i 0)
             → (hit_once set many bytes (get_or mid (get_or named i 0) none)).counters.excl
-            ≡ (with_hits (times (take i named) (get_or named i 0)) many bytes (get_or old (get_or named i 0) none).counters).excl
+            ≡ (with_hits (times (take i named) (get_or named i 0)) many bytes
+            (get_or old (get_or named i 0) none).counters).excl
             + given (times (take i named) (get_or named i 0) + 1 == many) bytes
         before_excl counters hit =
             let one = ap (λ (c : Counters). c.excl) counters in
@@ -491,5 +514,6 @@ hit_all named set many bytes i old new past first = record {
   seen = All-from_get_or (IsUnseen (set + 1)) new none (λ k short. first.seen k (omega (arith, short, first.same)));
   each = λ k short.
       first.each k short
-      ∙ ap (λ (list : List ℕ). with_hits (times list k) many bytes (get_or old k none).counters) (take_all i named past);
+      ∙ ap (λ (list : List ℕ). with_hits (times list k) many bytes (get_or old k none).counters)
+      (take_all i named past);
 }

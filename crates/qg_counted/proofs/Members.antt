@@ -30,7 +30,8 @@ pub or_false : (b c : Bool) → c ≡ false → (b || c) ≡ b
 or_false true c _ = refl
 or_false false c is = is
 
-pub told_now : (members : List ℕ) (i : ℕ) → i < length members → is_told (take (i + 1) members) (get_or members i 0) ≡ true
+pub told_now : (members : List ℕ) (i : ℕ) → i < length members
+    → is_told (take (i + 1) members) (get_or members i 0) ≡ true
 told_now members i short =
     list_any_more (λ member. get_or members i 0 == member) members i 0 short
     ∙ or_right (is_told (take i members) (get_or members i 0)) (get_or members i 0 == get_or members i 0)
@@ -110,8 +111,11 @@ module _ (row : List ℕ) (n : ℕ) (members : List ℕ) (are : AreMembers row n
 
   pub told_is : (k : ℕ) → k < n → is_told members k ≡ row_has row k
   told_is k short =
-      has_is (is_told members k) row k
-      (λ told. ((are.told k).0 (Contains-from_any (λ (x : ℕ) (y : ℕ). eqb-true x y) k members told)).1, told_back k short)
+      has_is (is_told members k) row k (
+        λ told. ((are.told k).0 (Contains-from_any (λ (x : ℕ) (y : ℕ). eqb-true x y) k members told)).1,
+        told_back k
+            short,
+      )
 
   below : All (λ member. member < n) members
   below i d short = ((are.told (get_or members i d)).0 (Contains-get_or members i d short)).0
@@ -122,5 +126,6 @@ module _ (row : List ℕ) (n : ℕ) (members : List ℕ) (are : AreMembers row n
       ∙ ap (λ (xs : List ℕ). ones xs n) (take_all (length members) members (omega arith))
       ∙ ones_count members row n told_is
 
-pub members_below : (row : List ℕ) (n : ℕ) (members : List ℕ) → AreMembers row n members → All (λ member. member < n) members
+pub members_below : (row : List ℕ) (n : ℕ) (members : List ℕ) → AreMembers row n members
+    → All (λ member. member < n) members
 members_below row n members are = below row n members are

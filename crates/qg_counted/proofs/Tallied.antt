@@ -1,11 +1,13 @@
 -- The tallies of groups, one set after the other.
-use Rattle.std.proofs.Common.{◌≡◌, ℕ, ◌+◌, ◌<◌, ◌≤◌, Bool, true, List, [], ◌∷◌, ◌++◌, length, take, drop, get_or, map, Some, ◌^◌, refl, sym, ap, subst}
+use Rattle.std.proofs.Common.{◌≡◌, ℕ, ◌+◌, ◌<◌, ◌≤◌, Bool, true, List, [], ◌∷◌, ◌++◌, length, take, drop, get_or, map}
+use Rattle.std.proofs.Common.{Some, ◌^◌, refl, sym, ap, subst}
 use Rattle.std.proofs.Common.{◌∙◌, arith, ◌⊎◌, inl, inr}
 use Rattle.std.specs.Prelude.{replicate, slice_get}
 use Rattle.std.specs.List.{All, flat_map}
 use Rattle.std.specs.List.Sorted.{IsStrictlyIncreasing}
 use Rattle.std.proofs.lemmas.Bool.{cases_lt}
-use Rattle.std.proofs.lemmas.List.{get_or-map, get_or_past, get_or-replicate, length-map, length-replicate, take_all, take_more, drop_all, append-nil}
+use Rattle.std.proofs.lemmas.List.{get_or-map, get_or_past, get_or-replicate, length-map, length-replicate, take_all}
+use Rattle.std.proofs.lemmas.List.{take_more, drop_all, append-nil}
 use Rattle.std.proofs.lemmas.Grind.{flat_map-append}
 use Rattle.std.proofs.lemmas.List.Elements.{All-append, All-from_get_or, Contains-get_or}
 use Rattle.std.proofs.lemmas.Option.{slice_get-get_or}
@@ -15,14 +17,16 @@ use Rattle.qg_reached.specs.Above.{list_at}
 use Rattle.qg_counted.specs.declared.counting.Portion.{Portion}
 use Rattle.qg_counted.specs.declared.groups.Tally.{Tally}
 use Rattle.qg_counted.specs.Portions.{given, bytes_where, sum_where, member_count, nothing, HasRoom}
-use Rattle.qg_counted.specs.Groups.{is_above, passing_count, meets, is_within, counted_for, counted_sets, times, with_hits, none}
+use Rattle.qg_counted.specs.Groups.{is_above, passing_count, meets, is_within, counted_for, counted_sets, times}
+use Rattle.qg_counted.specs.Groups.{with_hits, none}
 use Rattle.qg_counted.specs.Groups.{AreWithin, IsUnseen, HaveHits}
 use Rattle.qg_counted.proofs.Weights.{given_is, counters_same, sum_start, sum_le, sum_next, take_le}
 use Rattle.qg_counted.proofs.Members.{members_below, many}
 use Rattle.qg_counted.proofs.Hits.{all_is, passing_is, passing_le, times_named}
 
 -- what the first sets count of each group
-pub record TalliedFirst (rows above : List (List ℕ)) (sums : List ℕ) (groups n : ℕ) (tallies : List Tally) : Type 0 where
+pub record TalliedFirst (rows above : List (List ℕ)) (sums : List ℕ) (groups n : ℕ) (tallies : List Tally) : Type
+    0 where
   pub all : length tallies ≡ groups
   pub seen : All (IsUnseen n) tallies
   pub each : (k : ℕ) → k < groups → (get_or tallies k none).counters
@@ -75,7 +79,8 @@ tallied_room rows above sums groups n tallies short small first =
                 (ap (λ (c : Counters). c.excl) is),
           )
 
-once_all : (above : List (List ℕ)) → All IsStrictlyIncreasing above → (place : ℕ) → IsStrictlyIncreasing (list_at above place)
+once_all : (above : List (List ℕ)) → All IsStrictlyIncreasing above → (place : ℕ)
+    → IsStrictlyIncreasing (list_at above place)
 once_all above once place = by (cases_lt place (length above)) where
   by : (place < length above) ⊎ (length above ≤ place) → IsStrictlyIncreasing (list_at above place)
   by (inl inside) = once place [] inside
@@ -99,12 +104,14 @@ named_more above members i n old items new short end is put before =
     put ∙ ap (λ (list : List ℕ). list ++ items ++ drop n old) (take_all n old (omega (arith, end)))
     ∙ ap (λ (list : List ℕ). old ++ items ++ list) (drop_all n old (omega (arith, end)))
     ∙ append-nil (old ++ items) ∙ ap (λ (list : List ℕ). list ++ items) before
-    ∙ ap (λ (list : List ℕ). flat_map (list_at above) (take i members) ++ list) (is ∙ sym (append-nil (list_at above (get_or members i 0))))
+    ∙ ap (λ (list : List ℕ). flat_map (list_at above) (take i members) ++ list) (is
+    ∙ sym (append-nil (list_at above (get_or members i 0))))
     ∙ sym (flat_map-append (list_at above) (take i members) (get_or members i 0 ∷ []))
     ∙ ap (flat_map (list_at above)) (sym (take_more members i 0 short))
 
 -- a set has hit the groups that its members name
-pub tallied_more : (rows above : List (List ℕ)) (sums : List ℕ) (groups n : ℕ) (members named : List ℕ) (old new : List Tally)
+pub tallied_more : (rows above : List (List ℕ)) (sums : List ℕ) (groups n : ℕ) (members named : List ℕ)
+    (old new : List Tally)
     → n < length sums → All IsStrictlyIncreasing above → AreMembers (row_of rows n) (length above) members
     → named ≡ flat_map (list_at above) members → TalliedFirst rows above sums groups n old
     → HaveHits named n (length members) (get_or sums n 0) old new → TalliedFirst rows above sums groups (n + 1) new
@@ -135,21 +142,27 @@ tallied_more rows above sums groups n members named old new short once are is fi
   each k inside =
       hits.each k (omega (arith, inside, first.all))
       ∙ ap (λ t. with_hits t (length members) (get_or sums n 0) (get_or old k none).counters) (passing_now k)
-      ∙ ap (λ m. with_hits (passing_count (is_above above k) (row_of rows n) (length above)) m (get_or sums n 0) (get_or old k none).counters)
+      ∙ ap (λ m. with_hits (passing_count (is_above above k) (row_of rows n) (length above)) m (get_or sums n 0)
+      (get_or old k none).counters)
       many_now
-      ∙ ap (with_hits (passing_count (is_above above k) (row_of rows n) (length above)) (member_count (row_of rows n) (length above)) (get_or sums n 0))
+      ∙ ap (with_hits (passing_count (is_above above k) (row_of rows n) (length above))
+      (member_count (row_of rows n) (length above)) (get_or sums n 0))
       (first.each k inside)
       ∙ counters_same
-      (with_hits (passing_count (is_above above k) (row_of rows n) (length above)) (member_count (row_of rows n) (length above)) (get_or sums n 0)
+      (with_hits (passing_count (is_above above k) (row_of rows n) (length above))
+      (member_count (row_of rows n) (length above)) (get_or sums n 0)
       (counted_sets rows (length above) (take n sums) (is_above above k)))
       (counted_sets rows (length above) (take (n + 1) sums) (is_above above k))
       (sym (sum_next (meets (is_above above k) rows (length above)) sums n short))
-      (ap (λ b. sum_where (is_within (is_above above k) rows (length above)) 0 (take n sums) + given b (get_or sums n 0))
-      (all_is (passing_count (is_above above k) (row_of rows n) (length above)) (member_count (row_of rows n) (length above)) (few k))
+      (ap (λ b. sum_where (is_within (is_above above k) rows (length above)) 0 (take n sums) + given b
+      (get_or sums n 0))
+      (all_is (passing_count (is_above above k) (row_of rows n) (length above))
+      (member_count (row_of rows n) (length above)) (few k))
       ∙ sym (sum_next (is_within (is_above above k) rows (length above)) sums n short))
 
 -- when all sets are through, each group has its counters
-pub tallied_all : (rows above : List (List ℕ)) (portions : List Portion) (sums : List ℕ) (groups n : ℕ) (tallies : List Tally)
+pub tallied_all : (rows above : List (List ℕ)) (portions : List Portion) (sums : List ℕ) (groups n : ℕ)
+    (tallies : List Tally)
     (counters : List Counters) → ((test : ℕ → Bool) → sum_where test 0 sums ≡ bytes_where test portions)
     → length sums ≤ n → counters ≡ map (λ (tally : Tally). tally.counters) tallies
     → TalliedFirst rows above sums groups n tallies

@@ -1,5 +1,6 @@
 -- Bytes of portions that tell a layout, and of subvolumes one among others.
-use Rattle.std.proofs.Common.{◌≡◌, ◌≢◌, ℕ, zero, suc, ◌<◌, Bool, true, false, not, List, [], ◌∷◌, length, Some, refl, sym, ap, subst, ◌∙◌, arith, inl, inr}
+use Rattle.std.proofs.Common.{◌≡◌, ◌≢◌, ℕ, zero, suc, ◌<◌, Bool, true, false, not, List, [], ◌∷◌, length, Some, refl}
+use Rattle.std.proofs.Common.{sym, ap, subst, ◌∙◌, arith, inl, inr}
 use Rattle.std.specs.Prelude.{◌==◌, ◌&&◌, slice_get}
 use Rattle.std.specs.List.{Contains, filter, list_any}
 use Rattle.std.proofs.lemmas.Bool.{cond-true, cond-false, eq-eqb, eqb-true, or_cases, or_left, or_right, true≢false}
@@ -74,9 +75,11 @@ contains-at (y ∷ ys) (suc i) x is = contains_later y ys x (contains-at ys i x 
 -- ---- the sums
 
 -- the bytes of portions that pass a test are those of the elements that pass the same
-pub sum-is : (layout : Layout) (rows : List (List ℕ)) (test : ℕ → Bool) (want : Element → Bool) (elements : List Element)
+pub sum-is : (layout : Layout) (rows : List (List ℕ)) (test : ℕ → Bool) (want : Element
+    → Bool) (elements : List Element)
     (portions : List Portion) → ArePortionsOf layout rows elements portions
-    → ((element : Element) (portion : Portion) → IsPortionOf layout rows element portion → test portion.set ≡ want element)
+    → ((element : Element) (portion : Portion) → IsPortionOf layout rows element portion
+    → test portion.set ≡ want element)
     → bytes_where test portions ≡ bytes_of (filter want elements)
 unfolding bytes_where given
 sum-is layout rows test want [] [] are each = refl

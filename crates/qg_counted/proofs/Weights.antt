@@ -1,5 +1,6 @@
 -- Sums of bytes by set, one portion and one set after the other.
-use Rattle.std.proofs.Common.{◌≡◌, ℕ, zero, suc, ◌+◌, ◌<◌, ◌≤◌, Bool, true, false, List, [], ◌∷◌, ◌++◌, length, take, get_or, set}
+use Rattle.std.proofs.Common.{◌≡◌, ℕ, zero, suc, ◌+◌, ◌<◌, ◌≤◌, Bool, true, false, List, [], ◌∷◌, ◌++◌, length, take}
+use Rattle.std.proofs.Common.{get_or, set}
 use Rattle.std.proofs.Common.{refl, sym, ap, ◌∙◌, arith, ◌↔◌, length-take}
 use Rattle.std.specs.Prelude.{◌&&◌, replicate}
 use Rattle.std.proofs.lemmas.Bool.{eq-eqb, ne_eqb, true≢false}
@@ -67,7 +68,8 @@ sum_more test first [] n =
 sum_more test first (m ∷ ns) n =
     let next : first + length (m ∷ ns) ≡ first + 1 + length ns = omega arith in
     let same = ap (λ k. given (test k) n) next in
-    let one : sum_where test first ((m ∷ ns) ++ n ∷ []) ≡ given (test first) m + sum_where test (first + 1) (ns ++ n ∷ []) =
+    let one : sum_where test first ((m ∷ ns) ++ n ∷ []) ≡ given (test first) m + sum_where test (first + 1)
+    (ns ++ n ∷ []) =
     sum_one test first m (ns ++ n ∷ []) in
     omega (arith, one, sum_one test first m ns, sum_more test (first + 1) ns n, same)
 

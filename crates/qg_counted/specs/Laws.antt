@@ -15,12 +15,13 @@ use Rattle.qg_counted.specs.Groups.{counted_for}
 abbrev pub number_at : List (ℕ × ℕ) → ℕ → ℕ
 number_at roots index = slice_index_or (keys_of roots) index 0
 
--- where elements lie apart, all that subvolumes reach is among them, and portions tell who reaches each, the counters of
--- those subvolumes that are members of a group are its direct count, in any hierarchy
+-- where elements lie apart, all that subvolumes reach is among them, and portions tell who reaches each, the counters
+-- of those subvolumes that are members of a group are its direct count, in any hierarchy
 abbrev pub GroupsAreDirect : Type 0
 GroupsAreDirect = (layout : Layout) (hierarchy : Hierarchy) (rows : List (List ℕ)) (elements : List Element)
     (portions : List Portion) (group : ℕ)
     → IsStrictlyIncreasing (keys_of layout.roots) → AreAllReached layout elements
     → ArePortionsOf layout rows elements portions
-    → counted_for rows (length layout.roots) portions (λ index. is_member hierarchy group (number_at layout.roots index))
+    → counted_for rows (length layout.roots) portions
+    (λ index. is_member hierarchy group (number_at layout.roots index))
     ≡ direct_count layout hierarchy group

@@ -1,4 +1,5 @@
--- Portions that tell what begins in a layout: of each element its bytes, and the set of the subvolumes that reach it (this project's own).
+-- Portions that tell what begins in a layout: of each element its bytes, and the set of the subvolumes that reach it
+-- (this project's own).
 use Rattle.std.specs.Prelude.{◌≡◌, ⊤, ℕ, List, [], ◌∷◌, Some, slice_get}
 use Rattle.qg_image.specs.declared.element.Element.{Element}
 use Rattle.qg_image.specs.State.{Layout}
@@ -6,7 +7,8 @@ use Rattle.qg_image.specs.Reach.{reaches}
 use Rattle.qg_counted.specs.declared.counting.Portion.{Portion}
 use Rattle.qg_counted.specs.Portions.{is_in}
 
--- a portion has an element's bytes, and its set has the root at an index exactly where that subvolume reaches the element
+-- a portion has an element's bytes, and its set has the root at an index exactly where that subvolume reaches the
+-- element
 pub record IsPortionOf (layout : Layout) (rows : List (List ℕ)) (element : Element) (portion : Portion) : Type 0 where
   pub bytes : portion.bytes ≡ element.bytes
   pub reached : (index : ℕ) (root : ℕ × ℕ) → slice_get layout.roots index ≡ Some root

@@ -4,7 +4,8 @@ ghost use Rattle.std.specs.List.{All, flat_map};
 ghost use Rattle.std.specs.List.Sorted.{IsStrictlyIncreasing};
 ghost use Rattle.qg_reached.specs.Above.{list_at};
 ghost use Rattle.qg_counted.specs.Portions.{bytes_where, given, HasRoom};
-ghost use Rattle.qg_counted.specs.Groups.{AreWithin, counted_for, is_above, IsUnseen, HaveHits, HasRoomFor, hits_by, hit_once};
+ghost use Rattle.qg_counted.specs.Groups.{AreWithin, counted_for, is_above, IsUnseen, HaveHits, HasRoomFor, hits_by};
+ghost use Rattle.qg_counted.specs.Groups.{hit_once};
 
 use crate::counting::{Portion, sums_by_set};
 use qg_num::{Counters, NoMemory, Sequence};

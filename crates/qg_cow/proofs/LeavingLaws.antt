@@ -1,5 +1,6 @@
 -- The changes where a node is left turn what it owed into what it owes.
-use Rattle.std.specs.Prelude.{◌≡◌, ℕ, Bool, true, false, ◌&&◌, ◌||◌, not, [], ◌++◌, Some, ◌==◌, nat_lt, is_some, if◌then◌else◌, refl}
+use Rattle.std.specs.Prelude.{◌≡◌, ℕ, Bool, true, false, ◌&&◌, ◌||◌, not, [], ◌++◌, Some, ◌==◌, nat_lt, is_some}
+use Rattle.std.specs.Prelude.{if◌then◌else◌, refl}
 use Rattle.std.specs.List.Sorted.{IsPermutation}
 use Rattle.std.proofs.Common.{sym, ◌∙◌, subst, arith, append-nil}
 use Rattle.std.proofs.lemmas.Bool.Decides.{nat_tests}
@@ -15,20 +16,24 @@ use Rattle.qg_cow.proofs.CopyLaws.{owed-keyed}
 
 -- what leaving a node does to its children
 abbrev pub ChildrenTurn : Leaving → Placed → Type 0
-ChildrenTurn leaving old = IsPermutation (owed_by_node old ++ leaving_gains leaving old) (owed_if_there (left_after leaving old) ++ leaving_losses leaving old)
+ChildrenTurn leaving old = IsPermutation (owed_by_node old ++ leaving_gains leaving old)
+    (owed_if_there (left_after leaving old) ++ leaving_losses leaving old)
 
 pub children-go : (old : Placed) → ChildrenTurn Goes old
-children-go old = subst (λ before. IsPermutation before (owed_by_node old)) (sym (append-nil (owed_by_node old))) (IsPermutation-refl (owed_by_node old))
+children-go old = subst (λ before. IsPermutation before (owed_by_node old)) (sym (append-nil (owed_by_node old)))
+    (IsPermutation-refl (owed_by_node old))
 
 pub children-share : (old : Placed) → old.full ≡ false → ChildrenTurn TurnsFull old
 children-share old bare =
-    subst (λ owed. IsPermutation (owed ++ shared_children old.node) (shared_children old.node ++ keyed_children old.node (owner_of old))) (sym (owed-keyed old bare))
+    subst (λ owed. IsPermutation (owed ++ shared_children old.node)
+    (shared_children old.node ++ keyed_children old.node (owner_of old))) (sym (owed-keyed old bare))
     (IsPermutation-append_comm (keyed_children old.node (owner_of old)) (shared_children old.node))
 
 pub children-stay : (old : Placed) → ChildrenTurn Stays old
 children-stay old = IsPermutation-refl (owed_by_node old ++ [])
 
-case-turns : (none own full : Bool) (old : Placed) → old.full ≡ full → ChildrenTurn (if none then Goes else (if own && not full then TurnsFull else Stays)) old
+case-turns : (none own full : Bool) (old : Placed) → old.full ≡ full
+    → ChildrenTurn (if none then Goes else (if own && not full then TurnsFull else Stays)) old
 case-turns true own full old mark = children-go old
 case-turns false true false old mark = children-share old mark
 case-turns false true true old mark = children-stay old

@@ -1,6 +1,7 @@
--- What a copy of a node does to references (this project's own). The copy has the editing subvolume as owner, is not full, and has
--- the generation to come. Addresses are in bytes.
-use Rattle.std.specs.Prelude.{◌≡◌, ℕ, ◌-◌, ◌≤◌, Bool, true, false, ◌&&◌, not, List, [], ◌∷◌, ◌++◌, Option, Some, None, ◌==◌, nat_lt, if◌then◌else◌}
+-- What a copy of a node does to references (this project's own). The copy has the editing subvolume as owner, is not
+-- full, and has the generation to come. Addresses are in bytes.
+use Rattle.std.specs.Prelude.{◌≡◌, ℕ, ◌-◌, ◌≤◌, Bool, true, false, ◌&&◌, not, List, [], ◌∷◌, ◌++◌, Option, Some, None}
+use Rattle.std.specs.Prelude.{◌==◌, nat_lt, if◌then◌else◌}
 use Rattle.std.specs.List.Sorted.{IsPermutation}
 use Rattle.qg_node.specs.Nodes.{header_of}
 use Rattle.qg_image.specs.State.{Placed}
@@ -12,7 +13,8 @@ use Rattle.qg_cow.specs.Children.{owner_of, with_header, keyed_children, shared_
 -- the case, by how many references the node has, its full mark, the tree that made it, and the subvolume that edits it
 abbrev pub copy_case : ℕ → Bool → ℕ → ℕ → Edits
 copy_case count full owner tree =
-    if nat_lt 1 count then (if (owner == tree) && not full then ShareOld else AddKeyed) else (if full then TurnKeyed else TakeOver)
+    if nat_lt 1 count then (if (owner == tree) && not full then ShareOld else AddKeyed) else
+    (if full then TurnKeyed else TakeOver)
 
 -- the case of a node
 abbrev pub case_of : ℕ → Placed → ℕ → Edits
@@ -21,7 +23,12 @@ case_of count old tree = copy_case count old.full (owner_of old) tree
 -- the copy of a node at an address, of a generation
 abbrev pub copy_of : Placed → ℕ → ℕ → ℕ → Placed
 copy_of old address generation tree = record {
-  node = with_header (record { address = address; generation = generation; owner = tree; level = (header_of old.node).level }) old.node;
+  node = with_header (record {
+    address = address;
+    generation = generation;
+    owner = tree;
+    level = (header_of old.node).level;
+  }) old.node;
   full = false;
 }
 
@@ -63,7 +70,8 @@ abbrev pub owed_after : Edits → Placed → ℕ → ℕ → ℕ → List Owing
 owed_after edits old address generation tree =
     way_to address tree ∷ owed_if_there (old_after edits old) ++ owed_by_node (copy_of old address generation tree)
 
--- a node of one reference that is not full was made by the subvolume that reaches it: a node that is not full is reached by its owner
+-- a node of one reference that is not full was made by the subvolume that reaches it: a node that is not full is
+-- reached by its owner
 abbrev pub IsOwnWhereAlone : ℕ → Placed → ℕ → Type 0
 IsOwnWhereAlone count old tree = count ≤ 1 → old.full ≡ false → owner_of old ≡ tree
 
@@ -78,4 +86,5 @@ CopyTurnsOwed = (count : ℕ) (old : Placed) (address generation tree : ℕ) →
 
 -- the old node has one reference less
 abbrev pub CopyLeavesOld : Type 0
-CopyLeavesOld = (count : ℕ) (old : Placed) (tree : ℕ) → LeftBy tree (count - 1) old (old_after (case_of count old tree) old)
+CopyLeavesOld = (count : ℕ) (old : Placed) (tree : ℕ)
+    → LeftBy tree (count - 1) old (old_after (case_of count old tree) old)

@@ -10,7 +10,8 @@ use Rattle.qg_image.specs.Owed.{Owing, owed_by_node}
 use Rattle.qg_image.specs.ExamplesOfReferences.{leaf_of, inner_of, pointer, first_file}
 use Rattle.qg_cow.specs.declared.cases.Edits.TheVariants.{ShareOld, AddKeyed, TurnKeyed, TakeOver}
 use Rattle.qg_cow.specs.declared.cases.Leaving.TheVariants.{Goes, TurnsFull, Stays}
-use Rattle.qg_cow.specs.Copying.{copy_case, children_gain, children_lose, copy_gains, copy_losses, old_after, owed_after}
+use Rattle.qg_cow.specs.Copying.{copy_case, children_gain, children_lose, copy_gains, copy_losses, old_after}
+use Rattle.qg_cow.specs.Copying.{owed_after}
 use Rattle.qg_cow.specs.Left.{left_case, left_after, leaving_gains, leaving_losses}
 
 -- a leaf at 1048576 that subvolume 5 made, whose one piece names the extent at 67174400
@@ -30,12 +31,19 @@ abbrev pub to_extent_shared : Owing
 to_extent_shared = record { address = 67174400; reference = SharedData 1048576 }
 
 abbrev pub to_leaves_shared : List Owing
-to_leaves_shared = record { address = 1048576; reference = SharedBlock 1081344 } ∷ record { address = 1064960; reference = SharedBlock 1081344 } ∷ []
+to_leaves_shared = record { address = 1048576; reference = SharedBlock 1081344 } ∷ record {
+  address = 1064960;
+  reference = SharedBlock 1081344;
+} ∷ []
 
 abbrev pub to_leaves : ℕ → List Owing
-to_leaves root = record { address = 1048576; reference = KeyedBlock root } ∷ record { address = 1064960; reference = KeyedBlock root } ∷ []
+to_leaves root = record { address = 1048576; reference = KeyedBlock root } ∷ record {
+  address = 1064960;
+  reference = KeyedBlock root;
+} ∷ []
 
--- ---- two subvolumes reach the node, and its maker writes below it: what was keyed is shared, and the copy owes keyed ones of its own
+-- ---- two subvolumes reach the node, and its maker writes below it: what was keyed is shared, and the copy owes keyed
+-- ones of its own
 
 shared_with_its_maker : copy_case 2 false 5 5 ≡ ShareOld
 shared_with_its_maker = refl
@@ -52,10 +60,16 @@ shared_with_its_maker-lose : children_lose ShareOld (inner false) ≡ []
 shared_with_its_maker-lose = refl
 
 -- the copy is reached in place of the old node
-shared_with_its_maker-losses : copy_losses ShareOld (leaf false) 5 ≡ record { address = 1048576; reference = KeyedBlock 5 } ∷ []
+shared_with_its_maker-losses : copy_losses ShareOld (leaf false) 5 ≡ record {
+  address = 1048576;
+  reference = KeyedBlock 5;
+} ∷ []
 shared_with_its_maker-losses = refl
 
-shared_with_its_maker-gains : copy_gains ShareOld (leaf false) 1097728 5 ≡ record { address = 1097728; reference = KeyedBlock 5 } ∷ to_extent_shared ∷ []
+shared_with_its_maker-gains : copy_gains ShareOld (leaf false) 1097728 5 ≡ record {
+  address = 1097728;
+  reference = KeyedBlock 5;
+} ∷ to_extent_shared ∷ []
 unfolding owed_by_node file_part inode_read extent_data_read inode_text extent_data_text u64_bytes u16_bytes u64_at
 shared_with_its_maker-gains = refl
 
@@ -67,11 +81,17 @@ shared_with_its_maker-old = refl
 shared_with_another : copy_case 2 false 5 256 ≡ AddKeyed
 shared_with_another = refl
 
-shared_with_another-gains : copy_gains AddKeyed (leaf false) 1097728 256 ≡ record { address = 1097728; reference = KeyedBlock 256 } ∷ to_extent 256 ∷ []
+shared_with_another-gains : copy_gains AddKeyed (leaf false) 1097728 256 ≡ record {
+  address = 1097728;
+  reference = KeyedBlock 256;
+} ∷ to_extent 256 ∷ []
 unfolding owed_by_node file_part inode_read extent_data_read inode_text extent_data_text u64_bytes u16_bytes u64_at
 shared_with_another-gains = refl
 
-shared_with_another-losses : copy_losses AddKeyed (leaf false) 256 ≡ record { address = 1048576; reference = KeyedBlock 256 } ∷ []
+shared_with_another-losses : copy_losses AddKeyed (leaf false) 256 ≡ record {
+  address = 1048576;
+  reference = KeyedBlock 256;
+} ∷ []
 shared_with_another-losses = refl
 
 shared_with_another-leaves_gain : children_gain AddKeyed (inner false) 256 ≡ to_leaves 256
@@ -115,7 +135,8 @@ full_and_alone-old = refl
 alone : copy_case 1 false 5 5 ≡ TakeOver
 alone = refl
 
-alone-owed : owed_after TakeOver (inner false) 1097728 3 5 ≡ record { address = 1097728; reference = KeyedBlock 5 } ∷ to_leaves 5
+alone-owed : owed_after TakeOver (inner false) 1097728 3 5 ≡ record { address = 1097728; reference = KeyedBlock 5 }
+    ∷ to_leaves 5
 unfolding owed_by_node
 alone-owed = refl
 

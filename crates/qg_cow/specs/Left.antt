@@ -7,9 +7,11 @@ use Rattle.qg_cow.specs.declared.cases.Leaving.{Leaving}
 use Rattle.qg_cow.specs.declared.cases.Leaving.TheVariants.{Goes, TurnsFull, Stays}
 use Rattle.qg_cow.specs.Children.{owner_of, keyed_children, shared_children, owed_if_there, LeftBy}
 
--- the case, by how many references the node has left, its full mark, the tree that made it, and the subvolume that reached it
+-- the case, by how many references the node has left, its full mark, the tree that made it, and the subvolume that
+-- reached it
 abbrev pub left_case : ℕ → Bool → ℕ → ℕ → Leaving
-left_case count full owner tree = if count == 0 then Goes else (if (owner == tree) && not full then TurnsFull else Stays)
+left_case count full owner tree =
+    if count == 0 then Goes else (if (owner == tree) && not full then TurnsFull else Stays)
 
 -- the case of a node
 abbrev pub case_of : ℕ → Placed → ℕ → Leaving
@@ -38,7 +40,8 @@ leaving_losses Stays old = []
 -- what is gained and lost turns what the node owed into what it owes, if it stays
 abbrev pub LeavingTurnsOwed : Type 0
 LeavingTurnsOwed = (count : ℕ) (old : Placed) (tree : ℕ)
-    → IsPermutation (owed_by_node old ++ leaving_gains (case_of count old tree) old) (owed_if_there (left_after (case_of count old tree) old) ++ leaving_losses (case_of count old tree) old)
+    → IsPermutation (owed_by_node old ++ leaving_gains (case_of count old tree) old)
+    (owed_if_there (left_after (case_of count old tree) old) ++ leaving_losses (case_of count old tree) old)
 
 -- the node stays where it has a reference left
 abbrev pub LeavingLeaves : Type 0

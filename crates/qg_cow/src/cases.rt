@@ -1,7 +1,8 @@
 /// What becomes of the references of a node that a subvolume copies in order to edit it (this project's own).
 #[derive(Clone, Copy, Debug, PartialEq, Eq)]
 pub enum Edits {
-    /// Each child gets a shared reference with the old node as parent, which becomes full; the copy takes over the keyed ones.
+    /// Each child gets a shared reference with the old node as parent, which becomes full; the copy takes over the
+    /// keyed ones.
     ShareOld,
     /// Each child gets a keyed reference of the subvolume; the old node stays as it is.
     AddKeyed,

@@ -5,8 +5,8 @@ ghost use Rattle.qg_cow.specs.Copying.{copy_case};
 use crate::Edits;
 use qg_num::RootId;
 
-/// What becomes of the references of a node that the subvolume `tree` copies: `count` is how many references the node has,
-/// the one through which the subvolume reaches it among them (this project's own).
+/// What becomes of the references of a node that the subvolume `tree` copies: `count` is how many references the node
+/// has, the one through which the subvolume reaches it among them (this project's own).
 pub fn edits(count: u64, full: bool, owner: RootId, tree: RootId) -> Edits
     ensures { result ≡ copy_case count full owner tree }
 {

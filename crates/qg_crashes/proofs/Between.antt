@@ -12,8 +12,12 @@ pub record IsBetween (n address : ℕ) : Type 0 where
   pub begin : slots_begin ≤ address
   pub end : address + n ≤ second_place
 
-pub is_slot-IsBetween : (sizes : Sizes) (address : ℕ) → SizesFit sizes → is_slot sizes address ≡ true → IsBetween sizes.nodesize address
-is_slot-IsBetween sizes address fit is = record { begin = (IsSlotAt-is_slot sizes address is).begin; end = slot_ends sizes address fit is }
+pub is_slot-IsBetween : (sizes : Sizes) (address : ℕ) → SizesFit sizes → is_slot sizes address ≡ true
+    → IsBetween sizes.nodesize address
+is_slot-IsBetween sizes address fit is = record {
+  begin = (IsSlotAt-is_slot sizes address is).begin;
+  end = slot_ends sizes address fit is;
+}
 
 -- slots with different numbers are apart
 numbers-apart : (sizes : Sizes) (a b : ℕ) → (slot_at sizes a ≡ slot_at sizes b → ⊥)

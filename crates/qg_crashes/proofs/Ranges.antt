@@ -1,5 +1,6 @@
 -- A range of a disk over which bytes were written, or torn.
-use Rattle.std.proofs.Common.{◌≡◌, ℕ, ◌+◌, ◌-◌, ◌≤◌, ◌<◌, ◌⊎◌, min, max, inl, inr, List, length, drop, get_or, refl, sym, ◌∙◌, arith, length-drop}
+use Rattle.std.proofs.Common.{◌≡◌, ℕ, ◌+◌, ◌-◌, ◌≤◌, ◌<◌, ◌⊎◌, min, max, inl, inr, List, length, drop, get_or, refl}
+use Rattle.std.proofs.Common.{sym, ◌∙◌, arith, length-drop}
 use Rattle.std.proofs.lemmas.Bool.{cases_lt}
 use Rattle.std.proofs.lemmas.List.{length-take, get_or-take, get_or-drop}
 use Rattle.std.proofs.lemmas.Grind.{same_number_lists}
@@ -24,14 +25,20 @@ range-overlay at bytes old =
     (λ k below.
     let within : k < length bytes = omega arith in
     let back : at + k - at ≡ k = omega arith in
-    get_or-range at (length bytes) k (overlay at bytes old) within ∙ get_or-overlay_in at (at + k) bytes old (omega arith) (omega arith) ∙ rw back refl)
+    get_or-range at (length bytes) k (overlay at bytes old) within
+    ∙ get_or-overlay_in at (at + k) bytes old (omega arith) (omega arith) ∙ rw back refl)
 
 -- a place in a range is outside another range that has no byte in common with it
-outside : (place n at m k : ℕ) → min (place + n) (at + m) ≤ max place at → k < n → (place + k < at) ⊎ (at + m ≤ place + k)
-outside place n at m k apart below = elim (cases_lt (place + k) at) [ inl before ↦ inl before | inr after ↦ inr (omega arith) ]
+outside : (place n at m k : ℕ) → min (place + n) (at + m) ≤ max place at → k < n
+    → (place + k < at) ⊎ (at + m ≤ place + k)
+outside place n at m k apart below = elim (cases_lt (place + k) at) [
+  | inl before ↦ inl before
+  | inr after ↦ inr (omega arith)
+]
 
 -- a range that has no byte in common with one that was torn has the bytes that it had
-pub range-torn : (at m place n : ℕ) (old new : List ℕ) → Torn at m old new → place + n ≤ length old → min (place + n) (at + m) ≤ max place at
+pub range-torn : (at m place n : ℕ) (old new : List ℕ) → Torn at m old new → place + n ≤ length old
+    → min (place + n) (at + m) ≤ max place at
     → range place n new ≡ range place n old
 range-torn at m place n old new torn within apart =
     let fits : place + n ≤ length new = omega (arith, torn.no_shorter) in
@@ -40,4 +47,5 @@ range-torn at m place n old new torn within apart =
     same_number_lists (range place n new) (range place n old) long
     (λ k below.
     let inside : k < n = omega arith in
-    get_or-range place n k new inside ∙ torn.same (place + k) (omega arith) (outside place n at m k apart inside) ∙ sym (get_or-range place n k old inside))
+    get_or-range place n k new inside ∙ torn.same (place + k) (omega arith) (outside place n at m k apart inside)
+    ∙ sym (get_or-range place n k old inside))

@@ -1,5 +1,6 @@
 -- Two images stand for one state where the second has the superblock of the first and each node that the state holds.
-use Rattle.std.proofs.Common.{◌≡◌, ◌∙◌, ℕ, ◌≤◌, Bool, true, false, List, [], ◌∷◌, ◌++◌, length, map, refl, sym, ap, subst}
+use Rattle.std.proofs.Common.{◌≡◌, ◌∙◌, ℕ, ◌≤◌, Bool, true, false, List, [], ◌∷◌, ◌++◌, length, map, refl, sym, ap}
+use Rattle.std.proofs.Common.{subst}
 use Rattle.std.specs.Prelude.{Option, Some, None, nat_le, unwrap_or}
 use Rattle.std.specs.List.{Contains, AllByRecursion, filter_map, flat_map, fold}
 use Rattle.std.specs.Option.{option_map}
@@ -27,34 +28,45 @@ use Rattle.qg_image.specs.declared.failure.Failure.{Failure}
 use Rattle.qg_image.specs.declared.failure.Failure.TheVariants.{Broken}
 use Rattle.qg_image.specs.declared.tree.Tree.TheVariants.{Roots, Extents, Quotas, Files}
 use Rattle.qg_image.specs.Failure.{first_failure, unless}
-use Rattle.qg_image.specs.ImageState.{addresses_of, as_committed, extent_parts, extent_root, items_of_root, layout_in, nodes_of_root, of_tree, other_nodes, placed, quota_in, quota_parts, quota_root, quota_told, root_items, root_nodes, roots_in, state_in, subvolume_in, subvolume_roots, subvolumes_in, super_in, super_of, tree_items, tree_nodes}
+use Rattle.qg_image.specs.ImageState.{addresses_of, as_committed, extent_parts, extent_root, items_of_root, layout_in}
+use Rattle.qg_image.specs.ImageState.{nodes_of_root, of_tree, other_nodes, placed, quota_in, quota_parts, quota_root}
+use Rattle.qg_image.specs.ImageState.{quota_told, root_items, root_nodes, roots_in, state_in, subvolume_in}
+use Rattle.qg_image.specs.ImageState.{subvolume_roots, subvolumes_in, super_in, super_of, tree_items, tree_nodes}
 use Rattle.qg_image.specs.StateOf.{StateOf}
-use Rattle.qg_image.specs.Verdict.{IsSound, are_few, are_mirrored, are_roots, counts_failure, extent_set, image_failure, is_quota, most_subvolumes, places_failure, quota_failure, references_failure, root_failure, roots_failure, space_failure, subvolume_failure, together_failure, verdict}
+use Rattle.qg_image.specs.Verdict.{IsSound, are_few, are_mirrored, are_roots, counts_failure, extent_set, image_failure}
+use Rattle.qg_image.specs.Verdict.{is_quota, most_subvolumes, places_failure, quota_failure, references_failure}
+use Rattle.qg_image.specs.Verdict.{root_failure, roots_failure, space_failure, subvolume_failure, together_failure}
+use Rattle.qg_image.specs.Verdict.{verdict}
 use Rattle.qg_image.specs.Walk.{node_found, root_expected, root_told, tree_failure}
 use Rattle.qg_crashes.specs.Reading.{HasWhatIsHeld, ReadsWhatIsHeld}
 use Rattle.qg_crashes.proofs.Below.{neither}
 use Rattle.qg_crashes.proofs.Lists.{are_keys, contains_mapped, each_of_joined, joined_same, mapped_same}
-use Rattle.qg_crashes.proofs.SameTrees.{HaveSame, same_failure, same_items, same_nodes, option_failure, option_items, option_nodes}
+use Rattle.qg_crashes.proofs.SameTrees.{HaveSame, same_failure, same_items, same_nodes, option_failure, option_items}
+use Rattle.qg_crashes.proofs.SameTrees.{option_nodes}
 
 -- ---- the first of several failures
 
-pub none_of_three : (a b c : Option Failure) → first_failure (a ∷ b ∷ c ∷ []) ≡ None → (a ≡ None) × (b ≡ None) × (c ≡ None)
+pub none_of_three : (a b c : Option Failure) → first_failure (a ∷ b ∷ c ∷ []) ≡ None
+    → (a ≡ None) × (b ≡ None) × (c ≡ None)
 none_of_three None None None none = (refl, refl, refl)
 none_of_three (Some failure) b c none = absurd cc
 none_of_three None (Some failure) c none = absurd cc
 none_of_three None None (Some failure) none = absurd cc
 
-pub first_of_more : (a : Option Failure) (more : List (Option Failure)) → first_failure (a ∷ more) ≡ None → (a ≡ None) × (first_failure more ≡ None)
+pub first_of_more : (a : Option Failure) (more : List (Option Failure)) → first_failure (a ∷ more) ≡ None
+    → (a ≡ None) × (first_failure more ≡ None)
 first_of_more None more none = (refl, none)
 first_of_more (Some failure) more none = absurd cc
 
 -- ---- subvolumes, each by itself
 
-each_walked : (super : Super) (image : List ℕ) (entries : List (ℕ × RootItem)) → first_failure (map (λ entry. subvolume_failure super image entry.1) entries) ≡ None
+each_walked : (super : Super) (image : List ℕ) (entries : List (ℕ × RootItem))
+    → first_failure (map (λ entry. subvolume_failure super image entry.1) entries) ≡ None
     → AllByRecursion (λ entry. subvolume_failure super image entry.1 ≡ None) entries
 each_walked super image [] none = tt
 each_walked super image (entry ∷ entries) none =
-    let parts = first_of_more (subvolume_failure super image entry.1) (map (λ (other : ℕ × RootItem). subvolume_failure super image other.1) entries) none in
+    let parts = first_of_more (subvolume_failure super image entry.1)
+    (map (λ (other : ℕ × RootItem). subvolume_failure super image other.1) entries) none in
     (parts.0, each_walked super image entries parts.1)
 
 -- no rule of an image is broken, part by part
@@ -63,32 +75,37 @@ pub record KeepsRules (super : Super) (image : List ℕ) : Type 0 where
   pub roots : roots_failure super image ≡ None
   pub extents : root_failure Extents super image (extent_root super image) ≡ None
   pub quotas : quota_failure super image (roots_in super image) (quota_root super image) ≡ None
-  pub files : first_failure (map (λ entry. subvolume_failure super image entry.1) (subvolume_roots (roots_in super image))) ≡ None
+  pub files : first_failure
+      (map (λ entry. subvolume_failure super image entry.1) (subvolume_roots (roots_in super image))) ≡ None
   pub together : together_failure super image ≡ None
 
 pub keeps_rules : (super : Super) (image : List ℕ) → image_failure super image ≡ None → KeepsRules super image
 unfolding image_failure
 keeps_rules super image none =
-    let files = first_failure (map (λ (entry : ℕ × RootItem). subvolume_failure super image entry.1) (subvolume_roots (roots_in super image))) in
+    let files = first_failure (map (λ (entry : ℕ × RootItem). subvolume_failure super image entry.1)
+    (subvolume_roots (roots_in super image))) in
     let together = together_failure super image in
     let quotas = quota_failure super image (roots_in super image) (quota_root super image) in
     let extents = root_failure Extents super image (extent_root super image) in
     let roots = roots_failure super image in
-    let one = first_of_more (places_failure super (super_in image first_place) (super_in image second_place) (length image))
+    let one = first_of_more (places_failure super (super_in image first_place) (super_in image second_place)
+    (length image))
     (roots ∷ extents ∷ quotas ∷ files ∷ together ∷ []) none in
     let two = first_of_more roots (extents ∷ quotas ∷ files ∷ together ∷ []) one.1 in
     let three = first_of_more extents (quotas ∷ files ∷ together ∷ []) two.1 in
     let four = none_of_three quotas files together three.1 in
     record { places = one.0; roots = two.0; extents = three.0; quotas = four.0; files = four.1; together = four.2 }
 
-no_more : (a : Option Failure) (more : List (Option Failure)) → a ≡ None → first_failure more ≡ None → first_failure (a ∷ more) ≡ None
+no_more : (a : Option Failure) (more : List (Option Failure)) → a ≡ None → first_failure more ≡ None
+    → first_failure (a ∷ more) ≡ None
 no_more None more none rest = rest
 no_more (Some failure) more none rest = absurd cc
 
 breaks_none : (super : Super) (image : List ℕ) → KeepsRules super image → image_failure super image ≡ None
 unfolding image_failure
 breaks_none super image keeps =
-    let files = first_failure (map (λ (entry : ℕ × RootItem). subvolume_failure super image entry.1) (subvolume_roots (roots_in super image))) in
+    let files = first_failure (map (λ (entry : ℕ × RootItem). subvolume_failure super image entry.1)
+    (subvolume_roots (roots_in super image))) in
     let together = together_failure super image in
     let quotas = quota_failure super image (roots_in super image) (quota_root super image) in
     let extents = root_failure Extents super image (extent_root super image) in
@@ -121,17 +138,21 @@ file_nodes super image entry = nodes_of_root Files super image entry.1
 abbrev all_file_nodes : Super → List ℕ → List Node
 all_file_nodes super image = flat_map (λ entry. file_nodes super image entry) (subvolume_roots (roots_in super image))
 
-held_nodes : (super : Super) (image : List ℕ) → (state_in super image).held.nodes ≡ addresses_of (other_nodes super image) ++ keys_of (layout_in super image)
+held_nodes : (super : Super) (image : List ℕ)
+    → (state_in super image).held.nodes ≡ addresses_of (other_nodes super image) ++ keys_of (layout_in super image)
 unfolding state_in
 held_nodes super image = refl
 
-layout_keys : (super : Super) (image : List ℕ) (node : Node) → Contains (all_file_nodes super image) node → Contains (keys_of (layout_in super image)) (header_of node).address
+layout_keys : (super : Super) (image : List ℕ) (node : Node) → Contains (all_file_nodes super image) node
+    → Contains (keys_of (layout_in super image)) (header_of node).address
 unfolding layout_in
 layout_keys super image node has =
-    are_keys (λ (n : Node). (header_of n).address) (λ (n : Node). placed (extent_parts super image) n) (all_file_nodes super image) [] node has
+    are_keys (λ (n : Node). (header_of n).address) (λ (n : Node). placed (extent_parts super image) n)
+    (all_file_nodes super image) [] node has
 
 module _ (super : Super) (old new : List ℕ) (rules : KeepsRules super old)
-    (found : (address : ℕ) → Contains (state_in super old).held.nodes address → node_found super new address ≡ node_found super old address) where
+    (found : (address : ℕ) → Contains (state_in super old).held.nodes address
+    → node_found super new address ≡ node_found super old address) where
   -- ---- which nodes both have
 
   abbrev Same : List Node → Type 0
@@ -144,13 +165,15 @@ module _ (super : Super) (old new : List ℕ) (rules : KeepsRules super old)
   others_same : Same (other_nodes super old)
   others_same node has =
       held_same (header_of node).address
-      (Contains-append_left (addresses_of (other_nodes super old)) (keys_of (layout_in super old)) (header_of node).address
+      (Contains-append_left (addresses_of (other_nodes super old)) (keys_of (layout_in super old))
+      (header_of node).address
       (contains_mapped (λ (n : Node). (header_of n).address) (other_nodes super old) node has))
 
   files_same : Same (all_file_nodes super old)
   files_same node has =
       held_same (header_of node).address
-      (Contains-append_right (addresses_of (other_nodes super old)) (keys_of (layout_in super old)) (header_of node).address (layout_keys super old node has))
+      (Contains-append_right (addresses_of (other_nodes super old)) (keys_of (layout_in super old))
+      (header_of node).address (layout_keys super old node has))
 
   abbrev extents_there : List Node
   extents_there = of_tree (nodes_of_root Extents super old) (extent_root super old)
@@ -160,12 +183,14 @@ module _ (super : Super) (old new : List ℕ) (rules : KeepsRules super old)
 
   roots_agree : Same (root_nodes super old)
   roots_agree node has = others_same node
-      (Contains-append_left (root_nodes super old ++ extents_there) quotas_there node (Contains-append_left (root_nodes super old) extents_there node has))
+      (Contains-append_left (root_nodes super old ++ extents_there) quotas_there node
+      (Contains-append_left (root_nodes super old) extents_there node has))
 
   extents_agree : Same extents_there
   extents_agree node has =
       others_same node
-      (Contains-append_left (root_nodes super old ++ extents_there) quotas_there node (Contains-append_right (root_nodes super old) extents_there node has))
+      (Contains-append_left (root_nodes super old ++ extents_there) quotas_there node
+      (Contains-append_right (root_nodes super old) extents_there node has))
 
   quotas_agree : Same quotas_there
   quotas_agree node has =
@@ -175,10 +200,13 @@ module _ (super : Super) (old new : List ℕ) (rules : KeepsRules super old)
 
   roots_walked : tree_failure Roots super old (root_expected None None) super.root ≡ None
   roots_walked =
-      (none_of_three (tree_failure Roots super old (root_expected None None) super.root) (unless (are_roots (roots_in super old)) rule.Root super.root)
-      (unless (nat_le (length (subvolume_roots (roots_in super old))) most_subvolumes) rule.Limits super.root) rules.roots).0
+      (none_of_three (tree_failure Roots super old (root_expected None None) super.root)
+      (unless (are_roots (roots_in super old)) rule.Root super.root)
+      (unless (nat_le (length (subvolume_roots (roots_in super old))) most_subvolumes) rule.Limits super.root)
+      rules.roots).0
 
-  roots_failure_same : tree_failure Roots super new (root_expected None None) super.root ≡ tree_failure Roots super old (root_expected None None) super.root
+  roots_failure_same : tree_failure Roots super new (root_expected None None) super.root ≡ tree_failure Roots super old
+      (root_expected None None) super.root
   roots_failure_same = same_failure super old new Roots (root_expected None None) super.root roots_walked roots_agree
 
   root_items_same : root_items super new ≡ root_items super old
@@ -195,7 +223,8 @@ module _ (super : Super) (old new : List ℕ) (rules : KeepsRules super old)
   all_roots_same =
       ap (λ (failure : Option Failure). first_failure
       (failure ∷ unless (are_roots (roots_in super new)) rule.Root super.root
-      ∷ unless (nat_le (length (subvolume_roots (roots_in super new))) most_subvolumes) rule.Limits super.root ∷ [])) roots_failure_same
+      ∷ unless (nat_le (length (subvolume_roots (roots_in super new))) most_subvolumes) rule.Limits super.root ∷ []))
+      roots_failure_same
       ∙ ap (λ (roots : List (ℕ × RootItem)). first_failure
       (tree_failure Roots super old (root_expected None None) super.root ∷ unless (are_roots roots) rule.Root super.root
       ∷ unless (nat_le (length (subvolume_roots roots)) most_subvolumes) rule.Limits super.root ∷ [])) roots_same
@@ -205,7 +234,8 @@ module _ (super : Super) (old new : List ℕ) (rules : KeepsRules super old)
   extent_root_same : extent_root super new ≡ extent_root super old
   extent_root_same = ap (value_at EXTENT_TREE) roots_same
 
-  extents_failure_same : root_failure Extents super new (extent_root super new) ≡ root_failure Extents super old (extent_root super old)
+  extents_failure_same : root_failure Extents super new (extent_root super new) ≡ root_failure Extents super old
+      (extent_root super old)
   extents_failure_same =
       ap (root_failure Extents super new) extent_root_same
       ∙ option_failure super old new Extents (extent_root super old) rules.extents extents_agree
@@ -213,19 +243,23 @@ module _ (super : Super) (old new : List ℕ) (rules : KeepsRules super old)
   extent_parts_same : extent_parts super new ≡ extent_parts super old
   unfolding extent_parts
   extent_parts_same =
-      ap (λ (root : Option RootItem). filter_map extent_part (of_tree (items_of_root Extents super new) root)) extent_root_same
-      ∙ ap (filter_map extent_part) (option_items super old new Extents (extent_root super old) rules.extents extents_agree)
+      ap (λ (root : Option RootItem). filter_map extent_part (of_tree (items_of_root Extents super new) root))
+      extent_root_same
+      ∙ ap (filter_map extent_part)
+      (option_items super old new Extents (extent_root super old) rules.extents extents_agree)
 
   -- ---- the quota tree
 
   quota_root_same : quota_root super new ≡ quota_root super old
   quota_root_same = ap (value_at QUOTA_TREE) roots_same
 
-  quotas_walked : (root : Option RootItem) → quota_failure super old (roots_in super old) root ≡ None → root_failure Quotas super old root ≡ None
+  quotas_walked : (root : Option RootItem) → quota_failure super old (roots_in super old) root ≡ None
+      → root_failure Quotas super old root ≡ None
   quotas_walked None none = refl
   quotas_walked (Some root) none =
       (none_of_three (tree_failure Quotas super old (root_told root) root.bytenr)
-      (unless (is_quota (keys_of (subvolume_roots (roots_in super old))) (quota_parts super old)) rule.Quota root.bytenr)
+      (unless (is_quota (keys_of (subvolume_roots (roots_in super old))) (quota_parts super old)) rule.Quota
+      root.bytenr)
       (unless (are_few (quota_parts super old)) rule.Limits root.bytenr) none).0
 
   quotas_kept : root_failure Quotas super old (quota_root super old) ≡ None
@@ -234,20 +268,24 @@ module _ (super : Super) (old new : List ℕ) (rules : KeepsRules super old)
   quota_parts_same : quota_parts super new ≡ quota_parts super old
   unfolding quota_parts
   quota_parts_same =
-      ap (λ (root : Option RootItem). filter_map quota_part (of_tree (items_of_root Quotas super new) root)) quota_root_same
+      ap (λ (root : Option RootItem). filter_map quota_part (of_tree (items_of_root Quotas super new) root))
+      quota_root_same
       ∙ ap (filter_map quota_part) (option_items super old new Quotas (quota_root super old) quotas_kept quotas_agree)
 
   quota_same : quota_in super new ≡ quota_in super old
   quota_same =
-      ap (λ (root : Option RootItem). option_map (λ (some : RootItem). quota_told (quota_parts super new)) root) quota_root_same
-      ∙ ap (λ (parts : List QuotaPart). option_map (λ (some : RootItem). quota_told parts) (quota_root super old)) quota_parts_same
+      ap (λ (root : Option RootItem). option_map (λ (some : RootItem). quota_told (quota_parts super new)) root)
+      quota_root_same
+      ∙ ap (λ (parts : List QuotaPart). option_map (λ (some : RootItem). quota_told parts) (quota_root super old))
+      quota_parts_same
 
   quotas_at : (root : Option RootItem) → root_failure Quotas super new root ≡ root_failure Quotas super old root
       → quota_failure super new (roots_in super new) root ≡ quota_failure super old (roots_in super old) root
   quotas_at None walked = refl
   quotas_at (Some root) walked =
       ap (λ (failure : Option Failure). first_failure
-      (failure ∷ unless (is_quota (keys_of (subvolume_roots (roots_in super new))) (quota_parts super new)) rule.Quota root.bytenr
+      (failure ∷ unless (is_quota (keys_of (subvolume_roots (roots_in super new))) (quota_parts super new)) rule.Quota
+      root.bytenr
       ∷ unless (are_few (quota_parts super new)) rule.Limits root.bytenr ∷ [])) walked
       ∙ ap (λ (roots : List (ℕ × RootItem)). first_failure
       (tree_failure Quotas super old (root_told root) root.bytenr
@@ -258,10 +296,12 @@ module _ (super : Super) (old new : List ℕ) (rules : KeepsRules super old)
       ∷ unless (is_quota (keys_of (subvolume_roots (roots_in super old))) parts) rule.Quota root.bytenr
       ∷ unless (are_few parts) rule.Limits root.bytenr ∷ [])) quota_parts_same
 
-  quotas_failure_same : quota_failure super new (roots_in super new) (quota_root super new) ≡ quota_failure super old (roots_in super old) (quota_root super old)
+  quotas_failure_same : quota_failure super new (roots_in super new) (quota_root super new) ≡ quota_failure super old
+      (roots_in super old) (quota_root super old)
   quotas_failure_same =
       ap (λ (root : Option RootItem). quota_failure super new (roots_in super new) root) quota_root_same
-      ∙ quotas_at (quota_root super old) (option_failure super old new Quotas (quota_root super old) quotas_kept quotas_agree)
+      ∙ quotas_at (quota_root super old)
+      (option_failure super old new Quotas (quota_root super old) quotas_kept quotas_agree)
 
   -- ---- the other nodes
 
@@ -275,7 +315,8 @@ module _ (super : Super) (old new : List ℕ) (rules : KeepsRules super old)
       ∙ option_nodes super old new Quotas (quota_root super old) quotas_kept quotas_agree in
       ap (λ (nodes : List Node). nodes ++ of_tree (nodes_of_root Extents super new) (extent_root super new)
       ++ of_tree (nodes_of_root Quotas super new) (quota_root super new)) root_nodes_same
-      ∙ ap (λ (nodes : List Node). root_nodes super old ++ nodes ++ of_tree (nodes_of_root Quotas super new) (quota_root super new)) extents
+      ∙ ap (λ (nodes : List Node). root_nodes super old ++ nodes ++ of_tree (nodes_of_root Quotas super new)
+      (quota_root super new)) extents
       ∙ ap (λ (nodes : List Node). root_nodes super old ++ extents_there ++ nodes) quotas
 
   -- ---- subvolumes
@@ -285,7 +326,8 @@ module _ (super : Super) (old new : List ℕ) (rules : KeepsRules super old)
     walked : tree_failure Files super old (root_told entry.1) entry.1.bytenr ≡ None
     same : Same (nodes_of_root Files super old entry.1)
 
-  carried : (entries : List (ℕ × RootItem)) → AllByRecursion (λ entry. subvolume_failure super old entry.1 ≡ None) entries
+  carried : (entries : List (ℕ × RootItem))
+      → AllByRecursion (λ entry. subvolume_failure super old entry.1 ≡ None) entries
       → AllByRecursion (λ entry. Same (file_nodes super old entry)) entries → AllByRecursion IsCarried entries
   carried [] none same = tt
   carried (entry ∷ entries) none same = (
@@ -299,28 +341,36 @@ module _ (super : Super) (old new : List ℕ) (rules : KeepsRules super old)
 
   all_carried : AllByRecursion IsCarried (subvolume_roots (roots_in super old))
   all_carried =
-      carried (subvolume_roots (roots_in super old)) (each_walked super old (subvolume_roots (roots_in super old)) rules.files)
-      (each_of_joined (λ (node : Node). node_found super new (header_of node).address ≡ node_found super old (header_of node).address)
+      carried (subvolume_roots (roots_in super old))
+      (each_walked super old (subvolume_roots (roots_in super old)) rules.files)
+      (each_of_joined (λ (node : Node). node_found super new (header_of node).address ≡ node_found super old
+      (header_of node).address)
       (λ (entry : ℕ × RootItem). file_nodes super old entry) (subvolume_roots (roots_in super old)) files_same)
 
-  each_same : {A : Type 0} (one other : ℕ × RootItem → A) → ((entry : ℕ × RootItem) → IsCarried entry → one entry ≡ other entry)
-      → (entries : List (ℕ × RootItem)) → AllByRecursion IsCarried entries → AllByRecursion (λ entry. one entry ≡ other entry) entries
+  each_same : {A : Type 0} (one other : ℕ × RootItem → A)
+      → ((entry : ℕ × RootItem) → IsCarried entry → one entry ≡ other entry)
+      → (entries : List (ℕ × RootItem)) → AllByRecursion IsCarried entries
+      → AllByRecursion (λ entry. one entry ≡ other entry) entries
   each_same one other each [] are = tt
   each_same one other each (entry ∷ entries) are = (each entry are.0, each_same one other each entries are.1)
 
-  items_same_of : (entry : ℕ × RootItem) → IsCarried entry → items_of_root Files super new entry.1 ≡ items_of_root Files super old entry.1
+  items_same_of : (entry : ℕ × RootItem) → IsCarried entry
+      → items_of_root Files super new entry.1 ≡ items_of_root Files super old entry.1
   items_same_of entry is = same_items super old new Files (root_told entry.1) entry.1.bytenr is.walked is.same
 
-  nodes_same_of : (entry : ℕ × RootItem) → IsCarried entry → nodes_of_root Files super new entry.1 ≡ nodes_of_root Files super old entry.1
+  nodes_same_of : (entry : ℕ × RootItem) → IsCarried entry
+      → nodes_of_root Files super new entry.1 ≡ nodes_of_root Files super old entry.1
   nodes_same_of entry is = same_nodes super old new Files (root_told entry.1) entry.1.bytenr is.walked is.same
 
-  failure_same_of : (entry : ℕ × RootItem) → IsCarried entry → subvolume_failure super new entry.1 ≡ subvolume_failure super old entry.1
+  failure_same_of : (entry : ℕ × RootItem) → IsCarried entry
+      → subvolume_failure super new entry.1 ≡ subvolume_failure super old entry.1
   failure_same_of entry is =
       ap (λ (failure : Option Failure). first_failure
       (failure ∷ unless (are_files (file_parts (items_of_root Files super new entry.1))) rule.File entry.1.bytenr ∷ []))
       (same_failure super old new Files (root_told entry.1) entry.1.bytenr is.walked is.same)
       ∙ ap (λ (items : List Item). first_failure
-      (tree_failure Files super old (root_told entry.1) entry.1.bytenr ∷ unless (are_files (file_parts items)) rule.File entry.1.bytenr ∷ []))
+      (tree_failure Files super old (root_told entry.1) entry.1.bytenr ∷ unless (are_files (file_parts items)) rule.File
+      entry.1.bytenr ∷ []))
       (items_same_of entry is)
 
   abbrev told_in : List ℕ → ℕ × RootItem → ℕ × Subvolume
@@ -338,20 +388,25 @@ module _ (super : Super) (old new : List ℕ) (rules : KeepsRules super old)
       ) in
       ap make (items_same_of entry is)
 
-  files_failure_same : first_failure (map (λ entry. subvolume_failure super new entry.1) (subvolume_roots (roots_in super new)))
+  files_failure_same : first_failure
+      (map (λ entry. subvolume_failure super new entry.1) (subvolume_roots (roots_in super new)))
       ≡ first_failure (map (λ entry. subvolume_failure super old entry.1) (subvolume_roots (roots_in super old)))
   files_failure_same =
-      ap (λ (roots : List (ℕ × RootItem)). first_failure (map (λ (entry : ℕ × RootItem). subvolume_failure super new entry.1) (subvolume_roots roots))) roots_same
+      ap (λ (roots : List (ℕ × RootItem)). first_failure
+      (map (λ (entry : ℕ × RootItem). subvolume_failure super new entry.1) (subvolume_roots roots))) roots_same
       ∙ ap (λ (failures : List (Option Failure)). first_failure failures)
-      (mapped_same (λ (entry : ℕ × RootItem). subvolume_failure super new entry.1) (λ (entry : ℕ × RootItem). subvolume_failure super old entry.1)
+      (mapped_same (λ (entry : ℕ × RootItem). subvolume_failure super new entry.1)
+      (λ (entry : ℕ × RootItem). subvolume_failure super old entry.1)
       (subvolume_roots (roots_in super old))
-      (each_same (λ (entry : ℕ × RootItem). subvolume_failure super new entry.1) (λ (entry : ℕ × RootItem). subvolume_failure super old entry.1) failure_same_of
+      (each_same (λ (entry : ℕ × RootItem). subvolume_failure super new entry.1)
+      (λ (entry : ℕ × RootItem). subvolume_failure super old entry.1) failure_same_of
       (subvolume_roots (roots_in super old)) all_carried))
 
   subvolumes_same : subvolumes_in super new ≡ subvolumes_in super old
   unfolding subvolumes_in
   subvolumes_same =
-      ap (λ (roots : List (ℕ × RootItem)). map (λ (entry : ℕ × RootItem). told_in new entry) (subvolume_roots roots)) roots_same
+      ap (λ (roots : List (ℕ × RootItem)). map (λ (entry : ℕ × RootItem). told_in new entry) (subvolume_roots roots))
+      roots_same
       ∙ mapped_same (told_in new) (told_in old) (subvolume_roots (roots_in super old))
       (each_same (told_in new) (told_in old) told_same_of (subvolume_roots (roots_in super old)) all_carried)
 
@@ -362,10 +417,13 @@ module _ (super : Super) (old new : List ℕ) (rules : KeepsRules super old)
 
   all_nodes_same : all_file_nodes super new ≡ all_file_nodes super old
   all_nodes_same =
-      ap (λ (roots : List (ℕ × RootItem)). flat_map (λ (entry : ℕ × RootItem). file_nodes super new entry) (subvolume_roots roots)) roots_same
-      ∙ joined_same (λ (entry : ℕ × RootItem). file_nodes super new entry) (λ (entry : ℕ × RootItem). file_nodes super old entry)
+      ap (λ (roots : List (ℕ × RootItem)). flat_map (λ (entry : ℕ × RootItem). file_nodes super new entry)
+      (subvolume_roots roots)) roots_same
+      ∙ joined_same (λ (entry : ℕ × RootItem). file_nodes super new entry)
+      (λ (entry : ℕ × RootItem). file_nodes super old entry)
       (subvolume_roots (roots_in super old))
-      (each_same (λ (entry : ℕ × RootItem). file_nodes super new entry) (λ (entry : ℕ × RootItem). file_nodes super old entry) nodes_same_of
+      (each_same (λ (entry : ℕ × RootItem). file_nodes super new entry)
+      (λ (entry : ℕ × RootItem). file_nodes super old entry) nodes_same_of
       (subvolume_roots (roots_in super old)) all_carried)
 
   layout_same : layout_in super new ≡ layout_in super old
@@ -379,15 +437,20 @@ module _ (super : Super) (old new : List ℕ) (rules : KeepsRules super old)
   state_same : state_in super new ≡ state_in super old
   unfolding state_in
   state_same =
-      ap (λ (others : List Node). state_with super others (subvolumes_in super new) (layout_in super new) (quota_in super new)) other_nodes_same
-      ∙ ap (λ (subvolumes : List (ℕ × Subvolume)). state_with super (other_nodes super old) subvolumes (layout_in super new) (quota_in super new)) subvolumes_same
-      ∙ ap (λ (layout : List (ℕ × Placed)). state_with super (other_nodes super old) (subvolumes_in super old) layout (quota_in super new)) layout_same
-      ∙ ap (λ (quota : Option Quota). state_with super (other_nodes super old) (subvolumes_in super old) (layout_in super old) quota) quota_same
+      ap (λ (others : List Node). state_with super others (subvolumes_in super new) (layout_in super new)
+      (quota_in super new)) other_nodes_same
+      ∙ ap (λ (subvolumes : List (ℕ × Subvolume)). state_with super (other_nodes super old) subvolumes
+      (layout_in super new) (quota_in super new)) subvolumes_same
+      ∙ ap (λ (layout : List (ℕ × Placed)). state_with super (other_nodes super old) (subvolumes_in super old) layout
+      (quota_in super new)) layout_same
+      ∙ ap (λ (quota : Option Quota). state_with super (other_nodes super old) (subvolumes_in super old)
+      (layout_in super old) quota) quota_same
 
   abbrev said_together : State → List ExtentPart → Option Failure
   said_together state parts = first_failure
       (space_failure (sizes_of super) (extent_set (present_extents state))
-      ∷ first_failure (option_map (Broken rule.Refs) (disagreement (layout_of state) parts) ∷ option_map (Broken rule.Home) (homeless (layout_of state)) ∷ [])
+      ∷ first_failure (option_map (Broken rule.Refs) (disagreement (layout_of state) parts)
+      ∷ option_map (Broken rule.Home) (homeless (layout_of state)) ∷ [])
       ∷ counts_failure (layout_of state) state.quota ∷ [])
 
   together_same : together_failure super new ≡ together_failure super old
@@ -396,7 +459,8 @@ module _ (super : Super) (old new : List ℕ) (rules : KeepsRules super old)
       ap (λ (state : State). said_together state (extent_parts super new)) state_same
       ∙ ap (λ (parts : List ExtentPart). said_together (state_in super old) parts) extent_parts_same
 
-  rules_same : places_failure super (super_in new first_place) (super_in new second_place) (length new) ≡ None → KeepsRules super new
+  rules_same : places_failure super (super_in new first_place) (super_in new second_place) (length new) ≡ None
+      → KeepsRules super new
   rules_same places = record {
     places = places;
     roots = all_roots_same ∙ rules.roots;
@@ -408,11 +472,13 @@ module _ (super : Super) (old new : List ℕ) (rules : KeepsRules super old)
 
 -- ---- an image by the superblock that counts
 
-sound_by : (image : List ℕ) (super : Super) → super_of image ≡ Some super → image_failure super image ≡ None → IsSound image
+sound_by : (image : List ℕ) (super : Super) → super_of image ≡ Some super → image_failure super image ≡ None
+    → IsSound image
 unfolding verdict
 sound_by image super counts none = rw counts none
 
-pub rules_by : (image : List ℕ) (super : Super) → super_of image ≡ Some super → IsSound image → image_failure super image ≡ None
+pub rules_by : (image : List ℕ) (super : Super) → super_of image ≡ Some super → IsSound image
+    → image_failure super image ≡ None
 unfolding verdict
 rules_by image super counts sound = rw counts at sound
 
@@ -426,7 +492,8 @@ places_kept : (super : Super) (image : List ℕ) → total_bytes (sizes_of super
     → are_mirrored (super_in image first_place) (super_in image second_place) ≡ true
     → places_failure super (super_in image first_place) (super_in image second_place) (length image) ≡ None
 places_kept super image long mirrored =
-    tests_kept (nat_le (total_bytes (sizes_of super)) (length image)) (are_mirrored (super_in image first_place) (super_in image second_place)) (length image)
+    tests_kept (nat_le (total_bytes (sizes_of super)) (length image))
+    (are_mirrored (super_in image first_place) (super_in image second_place)) (length image)
     (le-leb (total_bytes (sizes_of super)) (length image) long) mirrored
 
 -- a sound image is as long as its superblock says, and its superblocks are no two that differ
@@ -434,16 +501,19 @@ pub record IsLongAndMirrored (super : Super) (image : List ℕ) : Type 0 where
   pub long : total_bytes (sizes_of super) ≤ length image
   pub mirrored : are_mirrored (super_in image first_place) (super_in image second_place) ≡ true
 
-kept_test : (long mirrored : Bool) (n : ℕ) → first_failure (unless long rule.Length n ∷ unless mirrored rule.Mirror second_place ∷ []) ≡ None
+kept_test : (long mirrored : Bool) (n : ℕ)
+    → first_failure (unless long rule.Length n ∷ unless mirrored rule.Mirror second_place ∷ []) ≡ None
     → (long ≡ true) × (mirrored ≡ true)
 kept_test true true n none = (refl, refl)
 kept_test true false n none = absurd cc
 kept_test false mirrored n none = absurd cc
 
-pub sound_places : (image : List ℕ) (super : Super) → super_of image ≡ Some super → IsSound image → IsLongAndMirrored super image
+pub sound_places : (image : List ℕ) (super : Super) → super_of image ≡ Some super → IsSound image
+    → IsLongAndMirrored super image
 sound_places image super counts sound =
     let rules = keeps_rules super image (rules_by image super counts sound) in
-    let tests = kept_test (nat_le (total_bytes (sizes_of super)) (length image)) (are_mirrored (super_in image first_place) (super_in image second_place))
+    let tests = kept_test (nat_le (total_bytes (sizes_of super)) (length image))
+    (are_mirrored (super_in image first_place) (super_in image second_place))
     (length image) rules.places in
     record { long = leb-true (total_bytes (sizes_of super)) (length image) tests.0; mirrored = tests.1 }
 
@@ -451,7 +521,8 @@ pub reads_what_is_held : ReadsWhatIsHeld
 reads_what_is_held state image other stands has =
     let super = stands.super in
     let rules = keeps_rules super image (rules_by image super stands.chosen stands.sound) in
-    let found : (address : ℕ) → Contains (state_in super image).held.nodes address → node_found super other address ≡ node_found super image address =
+    let found : (address : ℕ) → Contains (state_in super image).held.nodes address
+    → node_found super other address ≡ node_found super image address =
     λ address held. has.found address (subst (λ (s : State). Contains s.held.nodes address) (sym stands.stands) held) in
     let kept = rules_same super image other rules found (places_kept super other has.long has.mirrored) in
     record {

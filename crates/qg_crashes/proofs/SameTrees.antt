@@ -29,7 +29,8 @@ module _ (super : Super) (old new : List ℕ) where
 
   -- both images have these nodes where they lie
   abbrev pub HaveSame : List Node → Type 0
-  HaveSame nodes = (node : Node) → Contains nodes node → node_found super new (header_of node).address ≡ node_found super old (header_of node).address
+  HaveSame nodes = (node : Node) → Contains nodes node
+      → node_found super new (header_of node).address ≡ node_found super old (header_of node).address
 
   placed : (address : ℕ) (node : Node) → node_found super old address ≡ Ok node → (header_of node).address ≡ address
   placed address node is = (found_there super old address node is).placed
@@ -42,17 +43,20 @@ module _ (super : Super) (old new : List ℕ) where
     abbrev nodes : List Node
     nodes = tree_nodes tree super old expected root
 
-    are : nodes_below (nodes_of (node_found super old)) (level_in super old root) root ≡ Some (tree_nodes tree super old expected root)
+    are : nodes_below (nodes_of (node_found super old)) (level_in super old root) root
+        ≡ Some (tree_nodes tree super old expected root)
     are = whole_nodes tree super old expected root none
 
-    walks : (judge : Judge) → walk_failure judge (node_found super new) deepest expected root ≡ walk_failure judge (node_found super old) deepest expected root
+    walks : (judge : Judge) → walk_failure judge (node_found super new) deepest expected root ≡ walk_failure judge
+        (node_found super old) deepest expected root
     walks judge = walk_same in_old in_new placed judge level deepest expected root nodes are same
 
     pub same_failure : tree_failure tree super new expected root ≡ tree_failure tree super old expected root
     unfolding tree_failure
     same_failure = walks (node_failure tree super)
 
-    same_way : is_way tree super (node_found super new) expected root ≡ is_way tree super (node_found super old) expected root
+    same_way : is_way tree super (node_found super new) expected root ≡ is_way tree super
+        (node_found super old) expected root
     unfolding is_way
     same_way = ap is_none (walks (way_failure tree super))
 
@@ -65,32 +69,39 @@ module _ (super : Super) (old new : List ℕ) where
     pub same_items : tree_items tree super new expected root ≡ tree_items tree super old expected root
     unfolding tree_items
     same_items =
-        ap (λ (way : Bool). unwrap_or (when way (items_below (nodes_of in_new) (level_in super new root) root)) []) same_way
-        ∙ ap (λ (n : ℕ). unwrap_or (when (is_way tree super in_old expected root) (items_below (nodes_of in_new) n root)) []) same_level
+        ap (λ (way : Bool). unwrap_or (when way (items_below (nodes_of in_new) (level_in super new root) root)) [])
+        same_way
+        ∙ ap (λ (n : ℕ). unwrap_or
+        (when (is_way tree super in_old expected root) (items_below (nodes_of in_new) n root)) []) same_level
         ∙ ap (λ (found : Option (List Item)). unwrap_or (when (is_way tree super in_old expected root) found) [])
         (items_same in_old in_new placed level root nodes are same)
 
     pub same_nodes : tree_nodes tree super new expected root ≡ tree_nodes tree super old expected root
     unfolding tree_nodes
     same_nodes =
-        ap (λ (way : Bool). unwrap_or (when way (nodes_below (nodes_of in_new) (level_in super new root) root)) []) same_way
-        ∙ ap (λ (n : ℕ). unwrap_or (when (is_way tree super in_old expected root) (nodes_below (nodes_of in_new) n root)) []) same_level
+        ap (λ (way : Bool). unwrap_or (when way (nodes_below (nodes_of in_new) (level_in super new root) root)) [])
+        same_way
+        ∙ ap (λ (n : ℕ). unwrap_or
+        (when (is_way tree super in_old expected root) (nodes_below (nodes_of in_new) n root)) []) same_level
         ∙ ap (λ (found : Option (List Node)). unwrap_or (when (is_way tree super in_old expected root) found) [])
         (nodes_same in_old in_new placed level root nodes are same)
 
   -- ---- a tree that may not be there
 
-  pub option_failure : (tree : Tree) (root : Option RootItem) → root_failure tree super old root ≡ None → HaveSame (of_tree (nodes_of_root tree super old) root)
+  pub option_failure : (tree : Tree) (root : Option RootItem) → root_failure tree super old root ≡ None
+      → HaveSame (of_tree (nodes_of_root tree super old) root)
       → root_failure tree super new root ≡ root_failure tree super old root
   option_failure tree None none same = refl
   option_failure tree (Some root) none same = same_failure tree (root_told root) root.bytenr none same
 
-  pub option_items : (tree : Tree) (root : Option RootItem) → root_failure tree super old root ≡ None → HaveSame (of_tree (nodes_of_root tree super old) root)
+  pub option_items : (tree : Tree) (root : Option RootItem) → root_failure tree super old root ≡ None
+      → HaveSame (of_tree (nodes_of_root tree super old) root)
       → of_tree (items_of_root tree super new) root ≡ of_tree (items_of_root tree super old) root
   option_items tree None none same = refl
   option_items tree (Some root) none same = same_items tree (root_told root) root.bytenr none same
 
-  pub option_nodes : (tree : Tree) (root : Option RootItem) → root_failure tree super old root ≡ None → HaveSame (of_tree (nodes_of_root tree super old) root)
+  pub option_nodes : (tree : Tree) (root : Option RootItem) → root_failure tree super old root ≡ None
+      → HaveSame (of_tree (nodes_of_root tree super old) root)
       → of_tree (nodes_of_root tree super new) root ≡ of_tree (nodes_of_root tree super old) root
   option_nodes tree None none same = refl
   option_nodes tree (Some root) none same = same_nodes tree (root_told root) root.bytenr none same

@@ -10,9 +10,11 @@ use Rattle.qg_crashes.specs.Slots.{with_whole}
 use Rattle.qg_crashes.specs.States.{first_synced}
 use Rattle.qg_crashes.specs.Outcomes.{Commit, behind, dated_by}
 
--- without nodes, on a disk to which nothing was done but a sync: a sync, the first place, a sync, the second place, a sync; the newest first
+-- without nodes, on a disk to which nothing was done but a sync: a sync, the first place, a sync, the second place, a
+-- sync; the newest first
 whole_commit : (super : Super) → with_whole [] super [] ≡
-    Synced ∷ Wrote second_place (super_text second_place super) ∷ Synced ∷ Wrote first_place (super_text first_place super) ∷ Synced ∷ Synced ∷ []
+    Synced ∷ Wrote second_place (super_text second_place super) ∷ Synced ∷ Wrote first_place
+    (super_text first_place super) ∷ Synced ∷ Synced ∷ []
 whole_commit super = refl
 
 -- it began at moment 1, the nodes were made sure of at 2, and the first place at 4
@@ -33,5 +35,6 @@ next_begins_at_six : (super : Super) (state : State) → begin_of (behind (witho
 next_begins_at_six super state = refl
 
 both_are_dated : (super : Super) (first second : State) →
-    dated_by [] (without_nodes super first ∷ without_nodes super second ∷ []) ≡ record { state = first; sure = 4 } ∷ record { state = second; sure = 9 } ∷ []
+    dated_by [] (without_nodes super first ∷ without_nodes super second ∷ []) ≡ record { state = first; sure = 4 }
+    ∷ record { state = second; sure = 9 } ∷ []
 both_are_dated super first second = refl

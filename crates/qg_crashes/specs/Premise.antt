@@ -13,7 +13,8 @@ IsDone (Cut len) = ⊥
 IsDone (CutShort len left) = ⊥
 IsDone Synced = Unit {0}
 
--- where such events alone came since a moment at which the disk had n bytes from `place` on, it holds there the new bytes of the last write since
+-- where such events alone came since a moment at which the disk had n bytes from `place` on, it holds there the new
+-- bytes of the last write since
 abbrev pub HoldsTheNew : Type 0
 HoldsTheNew = (place n : ℕ) (newer older : List Event) → All IsDone newer → place + n ≤ length (content older)
     → range place n (content (newer ++ older)) ≡ (last_rewriting place n (length older) (newer ++ older)).new

@@ -1,4 +1,5 @@
--- How far the repair of a superblock place came as an image was opened, and what a crash in its midst leaves (this project's own).
+-- How far the repair of a superblock place came as an image was opened, and what a crash in its midst leaves (this
+-- project's own).
 use Rattle.std.specs.Prelude.{◌≡◌, ◌⊎◌, ℕ, ◌+◌, ◌≤◌, List, [], ◌∷◌, length, Some}
 use Rattle.qg_device.specs.History.{Event, Wrote, Synced, content}
 use Rattle.qg_super.specs.declared.superblock.Super.{Super}
@@ -8,8 +9,8 @@ use Rattle.qg_super.specs.NoChance.{super_bytes}
 use Rattle.qg_image.specs.ImageState.{super_in, super_of}
 use Rattle.qg_crashes.specs.Committing.{IsFront, Crashing}
 
--- The superblock that counts stands at one place and is written at the other, and made sure of. That came so far, on a disk that reaches past both
--- places and had made sure of all that it held.
+-- The superblock that counts stands at one place and is written at the other, and made sure of. That came so far, on a
+-- disk that reaches past both places and had made sure of all that it held.
 pub record Repairing (before : List Event) (place other : ℕ) (super : Super) (after : List Event) : Type 0 where
   pub long : second_place + super_bytes ≤ length (content before)
   pub counts : super_of (content before) ≡ Some super

@@ -1,4 +1,5 @@
--- What a crash leaves of bytes that no event since a sync has touched (this project's own). Places and lengths are in bytes.
+-- What a crash leaves of bytes that no event since a sync has touched (this project's own). Places and lengths are in
+-- bytes.
 use Rattle.std.specs.Prelude.{◌≡◌, ℕ, ◌+◌, ◌≤◌, false, All, max, List, ◌∷◌, ◌++◌, length}
 use Rattle.qg_device.specs.History.{Event, Wrote, Tore, Cut, CutShort, Synced, content, range}
 use Rattle.qg_device.specs.Crash.{Leaves}
@@ -12,7 +13,9 @@ Spares place n (Cut len) = place + n ≤ len
 Spares place n (CutShort len left) = place + n ≤ len
 Spares place n Synced = Unit {0}
 
--- where events that touch none of these bytes came behind a sync, and the disk had the bytes then, any image that a crash may leave has them
+-- where events that touch none of these bytes came behind a sync, and the disk had the bytes then, any image that a
+-- crash may leave has them
 abbrev pub SparedStays : Type 0
-SparedStays = (place n : ℕ) (newer older : List Event) (image : List ℕ) → All (Spares place n) newer → place + n ≤ length (content older)
+SparedStays = (place n : ℕ) (newer older : List Event) (image : List ℕ) → All (Spares place n) newer
+    → place + n ≤ length (content older)
     → Leaves (newer ++ Synced ∷ older) image → range place n image ≡ range place n (content older)

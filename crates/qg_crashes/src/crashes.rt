@@ -30,8 +30,8 @@ pub fn what_is_held_is_no_chance()
     ensures premise { MeetsThePremise }
 {}
 
-/// A law: writes and syncs came behind a sync of a disk that reaches past both superblock places. Where no superblock that
-/// was torn since some earlier moment matches its checksum by chance, none does that was torn since the sync (this
+/// A law: writes and syncs came behind a sync of a disk that reaches past both superblock places. Where no superblock
+/// that was torn since some earlier moment matches its checksum by chance, none does that was torn since the sync (this
 /// project's own).
 pub fn the_premise_from_a_later_moment()
     ensures { PremiseFromLater }

@@ -1,5 +1,5 @@
-//! Laws over definitions: what a crash leaves of a disk, of the two superblocks, of slots, and of the state that an image
-//! stands for. It has no code.
+//! Laws over definitions: what a crash leaves of a disk, of the two superblocks, of slots, and of the state that an
+//! image stands for. It has no code.
 #![tactic(auto)]
 
 mod crashes;

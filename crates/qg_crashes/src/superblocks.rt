@@ -15,8 +15,8 @@ pub fn two_places_leave_a_valid_one()
     ensures new { LeavesTheNew }
 {}
 
-/// A law: where the superblock that counts stands at one place, and is written at the other and made sure of, as opening
-/// an image does, it counts at any moment of that, under the same premise (this project's own).
+/// A law: where the superblock that counts stands at one place, and is written at the other and made sure of, as
+/// opening an image does, it counts at any moment of that, under the same premise (this project's own).
 pub fn a_repair_keeps_what_counts()
     ensures { KeepsWhatCounts }
 {}

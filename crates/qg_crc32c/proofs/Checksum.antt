@@ -22,8 +22,10 @@ unfolding remainder
 remainder-lt r [] small fits = small
 remainder-lt r (b ∷ bs) small fits =
     let byte : b < 256 = fits 0 in
-    remainder-lt (shifts 8 (bit_xor r b)) bs (shifts-lt 8 (bit_xor r b) (xor_lt 32 r b small (omega arith))) (λ k. fits (suc k))
+    remainder-lt (shifts 8 (bit_xor r b)) bs (shifts-lt 8 (bit_xor r b) (xor_lt 32 r b small (omega arith)))
+    (λ k. fits (suc k))
 
 pub crc32c_of-lt : (bytes : List ℕ) → ((k : ℕ) → get_or bytes k 0 < 256) → crc32c_of bytes < 2 ^ 32
 unfolding crc32c_of
-crc32c_of-lt bytes fits = xor_lt 32 (remainder 0xFFFFFFFF bytes) 0xFFFFFFFF (remainder-lt 0xFFFFFFFF bytes (omega arith) fits) (omega arith)
+crc32c_of-lt bytes fits =
+    xor_lt 32 (remainder 0xFFFFFFFF bytes) 0xFFFFFFFF (remainder-lt 0xFFFFFFFF bytes (omega arith) fits) (omega arith)

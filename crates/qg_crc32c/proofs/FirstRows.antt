@@ -1,5 +1,6 @@
 -- The first four rows of a text, with a register laid over them.
-use Rattle.std.proofs.Common.{◌≡◌, ℕ, zero, suc, ◌+◌, ◌*◌, ◌^◌, ◌<◌, ◌≤◌, inl, inr, List, ◌++◌, length, drop, get_or, replicate, refl, sym, ap, ◌∙◌, arith, w32}
+use Rattle.std.proofs.Common.{◌≡◌, ℕ, zero, suc, ◌+◌, ◌*◌, ◌^◌, ◌<◌, ◌≤◌, inl, inr, List, ◌++◌, length, drop, get_or}
+use Rattle.std.proofs.Common.{replicate, refl, sym, ap, ◌∙◌, arith, w32}
 use Rattle.std.specs.Prelude.{bit_xor}
 use Rattle.std.specs.Int.{to_le_bytes}
 use Rattle.std.specs.Int.Bits.{xor_assoc, xor_zero_l, xor_zero_r}
@@ -57,20 +58,30 @@ remainder-zeros r n =
     let long : length zeros ≡ n = length-replicate n 0 in
     remainder-apart r zeros ∙ rw (remainder-only_zeros n, xor_zero_r (shifts (8 * length zeros) r), long) refl
 
-pub remainder-row_of_register : (register : ℕ) → register < 2 ^ 32 → remainder 0 (row_of_register register) ≡ shifts 256 register
+pub remainder-row_of_register : (register : ℕ) → register < 2 ^ 32
+    → remainder 0 (row_of_register register) ≡ shifts 256 register
 remainder-row_of_register register fits =
     let whole : number (to_le_bytes w32 register) ≡ register = omega arith in
-    remainder-append 0 (to_le_bytes w32 register) (replicate 28 0) ∙ remainder-zeros (remainder 0 (to_le_bytes w32 register)) 28
-    ∙ ap (shifts 224) (remainder-number 0 (to_le_bytes w32 register) (register_fits register) ∙ ap (shifts 32) (xor_zero_l (number (to_le_bytes w32 register)) ∙ whole)) ∙ sym (shifts-add 32 224 register)
+    remainder-append 0 (to_le_bytes w32 register) (replicate 28 0)
+    ∙ remainder-zeros (remainder 0 (to_le_bytes w32 register)) 28
+    ∙ ap (shifts 224) (remainder-number 0 (to_le_bytes w32 register) (register_fits register)
+    ∙ ap (shifts 32) (xor_zero_l (number (to_le_bytes w32 register)) ∙ whole)) ∙ sym (shifts-add 32 224 register)
 
-four_chunks : (front : List ℕ) → length front ≡ 128 → chunk 0 32 front ++ (chunk 32 32 front ++ (chunk 64 32 front ++ chunk 96 32 front)) ≡ front
+four_chunks : (front : List ℕ) → length front ≡ 128
+    → chunk 0 32 front ++ (chunk 32 32 front ++ (chunk 64 32 front ++ chunk 96 32 front)) ≡ front
 four_chunks front long =
-    let last : drop 96 front ≡ chunk 96 32 front = chunk-drop 96 32 front ∙ ap (λ (l : List ℕ). chunk 96 32 front ++ l) (drop_all 128 front (omega arith)) ∙ append-nil (chunk 96 32 front) in
-    sym (chunk-drop 0 32 front ∙ ap (λ (l : List ℕ). chunk 0 32 front ++ l) (chunk-drop 32 32 front ∙ ap (λ (l : List ℕ). chunk 32 32 front ++ l) (chunk-drop 64 32 front ∙ ap (λ (l : List ℕ). chunk 64 32 front ++ l) last)))
+    let last : drop 96 front ≡ chunk 96 32 front = chunk-drop 96 32 front
+    ∙ ap (λ (l : List ℕ). chunk 96 32 front ++ l) (drop_all 128 front (omega arith))
+    ∙ append-nil (chunk 96 32 front) in
+    sym (chunk-drop 0 32 front ∙ ap (λ (l : List ℕ). chunk 0 32 front ++ l) (chunk-drop 32 32 front
+    ∙ ap (λ (l : List ℕ). chunk 32 32 front ++ l) (chunk-drop 64 32 front
+    ∙ ap (λ (l : List ℕ). chunk 64 32 front ++ l) last)))
 
 -- what is laid over the first row is what was there before the text
-pub remainder-first_rows : (register : ℕ) (over front : List ℕ) → IsRow over → remainder 0 over ≡ shifts 256 register → ((k : ℕ) → get_or front k 0 < 256) → length front ≡ 128
-    → remainder 0 (zip2 bit_xor over (chunk 0 32 front) ++ (chunk 32 32 front ++ (chunk 64 32 front ++ chunk 96 32 front))) ≡ remainder register front
+pub remainder-first_rows : (register : ℕ) (over front : List ℕ) → IsRow over → remainder 0 over ≡ shifts 256 register
+    → ((k : ℕ) → get_or front k 0 < 256) → length front ≡ 128
+    → remainder 0 (zip2 bit_xor over (chunk 0 32 front)
+    ++ (chunk 32 32 front ++ (chunk 64 32 front ++ chunk 96 32 front))) ≡ remainder register front
 remainder-first_rows register over front is worth fits long =
     let first = row-chunk 0 front fits (omega arith) in
     let second = row-chunk 32 front fits (omega arith) in
@@ -81,8 +92,13 @@ remainder-first_rows register over front is worth fits long =
     let r3 = remainder 0 (chunk 64 32 front) in
     let r4 = remainder 0 (chunk 96 32 front) in
     let bits : 8 * length front ≡ 1024 = omega arith in
-    remainder-spread (zip2 bit_xor over (chunk 0 32 front)) (chunk 32 32 front) (chunk 64 32 front) (chunk 96 32 front) second.len third.len fourth.len
-    ∙ ap (λ (z : ℕ). spread z r2 r3 r4) (remainder-zip2 over (chunk 0 32 front) (is.len ∙ sym first.len) ∙ ap (λ (z : ℕ). bit_xor z r1) worth)
-    ∙ rw (shifts-xor 768 (shifts 256 register) r1, ← shifts-add 256 768 register) (xor_assoc (shifts 1024 register) (shifts 768 r1) (bit_xor (shifts 512 r2) (bit_xor (shifts 256 r3) r4)))
-    ∙ ap (bit_xor (shifts 1024 register)) (sym (remainder-spread (chunk 0 32 front) (chunk 32 32 front) (chunk 64 32 front) (chunk 96 32 front) second.len third.len fourth.len) ∙ ap (remainder 0) (four_chunks front long))
+    remainder-spread (zip2 bit_xor over (chunk 0 32 front)) (chunk 32 32 front) (chunk 64 32 front)
+    (chunk 96 32 front) second.len third.len fourth.len
+    ∙ ap (λ (z : ℕ). spread z r2 r3 r4) (remainder-zip2 over (chunk 0 32 front) (is.len ∙ sym first.len)
+    ∙ ap (λ (z : ℕ). bit_xor z r1) worth)
+    ∙ rw (shifts-xor 768 (shifts 256 register) r1, ← shifts-add 256 768 register)
+    (xor_assoc (shifts 1024 register) (shifts 768 r1) (bit_xor (shifts 512 r2) (bit_xor (shifts 256 r3) r4)))
+    ∙ ap (bit_xor (shifts 1024 register))
+    (sym (remainder-spread (chunk 0 32 front) (chunk 32 32 front) (chunk 64 32 front) (chunk 96 32 front) second.len
+    third.len fourth.len) ∙ ap (remainder 0) (four_chunks front long))
     ∙ ap (λ (n : ℕ). bit_xor (shifts n register) (remainder 0 front)) (sym bits) ∙ sym (remainder-apart register front)

@@ -9,7 +9,9 @@ use Rattle.qg_crc32c.specs.Crc32c.{shift, shifts}
 
 pub xor_swap : (a b c d : ℕ) → bit_xor (bit_xor a b) (bit_xor c d) ≡ bit_xor (bit_xor a c) (bit_xor b d)
 xor_swap a b c d =
-    xor_assoc a b (bit_xor c d) ∙ ap (λ (z : ℕ). bit_xor a z) (sym (xor_assoc b c d) ∙ ap (λ (z : ℕ). bit_xor z d) (xor_comm b c) ∙ xor_assoc c b d) ∙ sym (xor_assoc a c (bit_xor b d))
+    xor_assoc a b (bit_xor c d)
+    ∙ ap (λ (z : ℕ). bit_xor a z) (sym (xor_assoc b c d) ∙ ap (λ (z : ℕ). bit_xor z d) (xor_comm b c)
+    ∙ xor_assoc c b d) ∙ sym (xor_assoc a c (bit_xor b d))
 
 -- ---- one shift
 
@@ -38,12 +40,16 @@ shift-xor : (a b : ℕ) → shift (bit_xor a b) ≡ bit_xor (shift a) (shift b)
 shift-xor a b =
     elim (parity a) [
       | inl p ↦ elim (parity b) [
-        | inl q ↦ shift-even (bit_xor a b) (mod-xor a b 0 0 p q) ∙ half-xor a b ∙ rw (shift-even a p, shift-even b q) refl
-        | inr q ↦ shift-odd (bit_xor a b) (mod-xor a b 0 1 p q) ∙ rw (half-xor a b, shift-even a p, shift-odd b q) (xor_assoc (a / 2) (b / 2) 0x82F63B78)
+        | inl q ↦ shift-even (bit_xor a b) (mod-xor a b 0 0 p q) ∙ half-xor a b
+            ∙ rw (shift-even a p, shift-even b q) refl
+        | inr q ↦ shift-odd (bit_xor a b) (mod-xor a b 0 1 p q)
+            ∙ rw (half-xor a b, shift-even a p, shift-odd b q) (xor_assoc (a / 2) (b / 2) 0x82F63B78)
       ]
       | inr p ↦ elim (parity b) [
-        | inl q ↦ shift-odd (bit_xor a b) (mod-xor a b 1 0 p q) ∙ rw (half-xor a b, shift-odd a p, shift-even b q) (turn (a / 2) (b / 2) 0x82F63B78)
-        | inr q ↦ shift-even (bit_xor a b) (mod-xor a b 1 1 p q) ∙ rw (half-xor a b, shift-odd a p, shift-odd b q) (twice (a / 2) (b / 2) 0x82F63B78)
+        | inl q ↦ shift-odd (bit_xor a b) (mod-xor a b 1 0 p q)
+            ∙ rw (half-xor a b, shift-odd a p, shift-even b q) (turn (a / 2) (b / 2) 0x82F63B78)
+        | inr q ↦ shift-even (bit_xor a b) (mod-xor a b 1 1 p q)
+            ∙ rw (half-xor a b, shift-odd a p, shift-odd b q) (twice (a / 2) (b / 2) 0x82F63B78)
       ]
     ] where
       turn : (x y p : ℕ) → bit_xor (bit_xor x y) p ≡ bit_xor (bit_xor x p) y
@@ -75,7 +81,8 @@ shifts-add (suc m) n r = let e : suc m + n ≡ suc (m + n) = omega arith in rw e
 
 -- the two in either order
 pub shifts-turn : (m n r : ℕ) → shifts m (shifts n r) ≡ shifts n (shifts m r)
-shifts-turn m n r = let e : n + m ≡ m + n = omega arith in sym (shifts-add n m r) ∙ ap (λ (z : ℕ). shifts z r) e ∙ shifts-add m n r
+shifts-turn m n r = let e : n + m ≡ m + n = omega arith in sym (shifts-add n m r) ∙ ap (λ (z : ℕ). shifts z r) e
+    ∙ shifts-add m n r
 
 -- ---- a byte and what stands above it
 
@@ -87,7 +94,18 @@ pub shifts-byte_of_zeros : (h : ℕ) → shifts 8 (h * 256) ≡ h
 unfolding shifts
 shifts-byte_of_zeros h =
     let e : h * 256 ≡ 2 * (2 * (2 * (2 * (2 * (2 * (2 * (2 * h))))))) = omega arith in
-    rw (e, shift-twice (2 * (2 * (2 * (2 * (2 * (2 * (2 * h))))))), shift-twice (2 * (2 * (2 * (2 * (2 * (2 * h)))))), shift-twice (2 * (2 * (2 * (2 * (2 * h))))), shift-twice (2 * (2 * (2 * (2 * h)))), shift-twice (2 * (2 * (2 * h))), shift-twice (2 * (2 * h)), shift-twice (2 * h), shift-twice h) refl
+    rw (
+      e,
+      shift-twice (2 * (2 * (2 * (2 * (2 * (2 * (2 * h))))))),
+      shift-twice (2 * (2 * (2 * (2 * (2 * (2 * h)))))),
+      shift-twice (2 * (2 * (2 * (2 * (2 * h))))),
+      shift-twice (2 * (2 * (2 * (2 * h)))),
+      shift-twice
+          (2 * (2 * (2 * h))),
+      shift-twice (2 * (2 * h)),
+      shift-twice (2 * h),
+      shift-twice h,
+    ) refl
 
 -- a byte and what stands above it
 pub xor-above_byte : (b h : ℕ) → b < 256 → bit_xor b (h * 256) ≡ b + 256 * h
@@ -109,5 +127,9 @@ xor-above_half b h fits =
 pub shifts-split : (n r : ℕ) → shifts (n + 8) r ≡ bit_xor (shifts (n + 8) (r % 256)) (shifts n (r / 256))
 shifts-split n r =
     let e : n + 8 ≡ 8 + n = omega arith in
-    rw e (shifts-add 8 n r ∙ ap (shifts n) (ap (shifts 8) (sym (xor-above_byte (r % 256) (r / 256) (omega arith) ∙ omega arith)) ∙ shifts-xor 8 (r % 256) (r / 256 * 256) ∙ ap (λ (z : ℕ). bit_xor (shifts 8 (r % 256)) z) (shifts-byte_of_zeros (r / 256)))
-    ∙ shifts-xor n (shifts 8 (r % 256)) (r / 256) ∙ ap (λ (z : ℕ). bit_xor z (shifts n (r / 256))) (sym (shifts-add 8 n (r % 256))))
+    rw e (shifts-add 8 n r ∙ ap (shifts n)
+    (ap (shifts 8) (sym (xor-above_byte (r % 256) (r / 256) (omega arith) ∙ omega arith))
+    ∙ shifts-xor 8 (r % 256) (r / 256 * 256)
+    ∙ ap (λ (z : ℕ). bit_xor (shifts 8 (r % 256)) z) (shifts-byte_of_zeros (r / 256)))
+    ∙ shifts-xor n (shifts 8 (r % 256)) (r / 256)
+    ∙ ap (λ (z : ℕ). bit_xor z (shifts n (r / 256))) (sym (shifts-add 8 n (r % 256))))

@@ -26,7 +26,8 @@ pub record IsAsExpected (tree : Tree) (super : Super) (expected : Expected) (nod
   pub shaped : is_shaped super.nodesize expected.from node ≡ true
 
 four_kept : (a b c d : Bool) (address : ℕ)
-    → first_failure (unless a rule.Depth address ∷ unless b rule.Owner address ∷ unless c rule.Gen address ∷ unless d rule.Range address ∷ []) ≡ None
+    → first_failure (unless a rule.Depth address ∷ unless b rule.Owner address ∷ unless c rule.Gen address
+    ∷ unless d rule.Range address ∷ []) ≡ None
     → (a ≡ true) × (b ≡ true) × (c ≡ true) × (d ≡ true)
 four_kept true true true true address h = (refl, refl, refl, refl)
 four_kept true true true false address h = absurd cc
@@ -34,13 +35,15 @@ four_kept true true false d address h = absurd cc
 four_kept true false c d address h = absurd cc
 four_kept false b c d address h = absurd cc
 
-pub form-expected : (tree : Tree) (super : Super) (expected : Expected) (address : ℕ) (node : Node) → form_failure tree super expected address node ≡ None
+pub form-expected : (tree : Tree) (super : Super) (expected : Expected) (address : ℕ) (node : Node)
+    → form_failure tree super expected address node ≡ None
     → IsAsExpected tree super expected node
 unfolding way_failure
 form-expected tree super expected address node none =
     let begins = begins_at expected.from (own_keys node) in
     let ends = ends_before expected.to (own_keys node) in
-    let parts = neither (way_failure tree super expected address node) (shape_failure super.nodesize expected address node) none in
+    let parts = neither (way_failure tree super expected address node)
+    (shape_failure super.nodesize expected address node) none in
     let way = four_kept (is_told expected.level (header_of node).level) (is_owner tree (header_of node).owner)
     (is_generation super.generation expected.generation (header_of node).generation) (begins && ends) address parts.0 in
     let range = and_parts begins ends way.3 in
@@ -53,11 +56,13 @@ form-expected tree super expected address node none =
       shaped = kept-none (is_shaped super.nodesize expected.from node) rule.Shape address parts.1;
     }
 
-pub expected-form : (tree : Tree) (super : Super) (expected : Expected) (address : ℕ) (node : Node) → IsAsExpected tree super expected node
+pub expected-form : (tree : Tree) (super : Super) (expected : Expected) (address : ℕ) (node : Node)
+    → IsAsExpected tree super expected node
     → form_failure tree super expected address node ≡ None
 unfolding way_failure
 expected-form tree super expected address node is =
-    let range = and_from (begins_at expected.from (own_keys node)) (ends_before expected.to (own_keys node)) is.begins is.ends in
+    let range = and_from (begins_at expected.from (own_keys node)) (ends_before expected.to (own_keys node)) is.begins
+    is.ends in
     none_of_two (way_failure tree super expected address node) (shape_failure super.nodesize expected address node)
     (rw (is.level, is.owner, is.generation, range) refl) (rw is.shaped refl)
 
@@ -70,20 +75,25 @@ generation-parts last told generation is =
     let inner = and_parts (is_told told generation) (nat_lt 0 generation) outer.0 in
     (inner.0, and_from (nat_lt 0 generation) (nat_le generation last) inner.1 outer.1)
 
-pub generation-told : (last : ℕ) (told : Option ℕ) (generation : ℕ) → is_told told generation ≡ true → is_generation last None generation ≡ true
+pub generation-told : (last : ℕ) (told : Option ℕ) (generation : ℕ) → is_told told generation ≡ true
+    → is_generation last None generation ≡ true
     → is_generation last told generation ≡ true
 generation-told last told generation here is =
     let parts = and_parts (nat_lt 0 generation) (nat_le generation last) is in
-    and_from (is_told told generation && nat_lt 0 generation) (nat_le generation last) (and_from (is_told told generation) (nat_lt 0 generation) here parts.0) parts.1
+    and_from (is_told told generation && nat_lt 0 generation) (nat_le generation last)
+    (and_from (is_told told generation) (nat_lt 0 generation) here parts.0) parts.1
 
 -- ---- its shape, below a pointer
 
 pub shape-parts : (nodesize : ℕ) (key : Key) (node : Node) → is_shaped nodesize (Some key) node ≡ true
     → (nat_le (capacity nodesize) (4 * used_bytes node) ≡ true) × (is_first key (own_keys node) ≡ true)
 unfolding is_shaped
-shape-parts nodesize key node shaped = and_parts (nat_le (capacity nodesize) (4 * used_bytes node)) (is_first key (own_keys node)) shaped
+shape-parts nodesize key node shaped = and_parts (nat_le (capacity nodesize) (4 * used_bytes node))
+    (is_first key (own_keys node)) shaped
 
-pub shape-whole : (nodesize : ℕ) (key : Key) (node : Node) → nat_le (capacity nodesize) (4 * used_bytes node) ≡ true → is_first key (own_keys node) ≡ true
+pub shape-whole : (nodesize : ℕ) (key : Key) (node : Node) → nat_le (capacity nodesize) (4 * used_bytes node) ≡ true
+    → is_first key (own_keys node) ≡ true
     → is_shaped nodesize (Some key) node ≡ true
 unfolding is_shaped
-shape-whole nodesize key node full first = and_from (nat_le (capacity nodesize) (4 * used_bytes node)) (is_first key (own_keys node)) full first
+shape-whole nodesize key node full first = and_from (nat_le (capacity nodesize) (4 * used_bytes node))
+    (is_first key (own_keys node)) full first

@@ -1,5 +1,6 @@
 -- One node, loaded and judged.
-use Rattle.std.proofs.Common.{◌≡◌, ℕ, ◌<◌, true, false, List, [], ◌∷◌, length, arith, refl, sym, ap, subst, ◌∙◌, Option, Some, None}
+use Rattle.std.proofs.Common.{◌≡◌, ℕ, ◌<◌, true, false, List, [], ◌∷◌, length, arith, refl, sym, ap, subst, ◌∙◌, Option}
+use Rattle.std.proofs.Common.{Some, None}
 use Rattle.std.specs.Prelude.{Bool, Result, Ok, Err, IsOk}
 use Rattle.std.specs.Result.{result_ok}
 use Rattle.std.specs.Ordering.{nat_cmp}
@@ -45,32 +46,40 @@ unless_at : (test : Bool) (broken : Rule) (address : ℕ) → IsAt address (unle
 unless_at true broken address failure is = absurd cc
 unless_at false broken address failure is = (broken, cc)
 
-two_at : (address : ℕ) (a b : Option Failure) → IsAt address a → IsAt address b → IsAt address (first_failure (a ∷ b ∷ []))
+two_at : (address : ℕ) (a b : Option Failure) → IsAt address a → IsAt address b
+    → IsAt address (first_failure (a ∷ b ∷ []))
 two_at address None None h k failure is = absurd cc
 two_at address None (Some other) h k failure is = k failure is
 two_at address (Some other) b h k failure is = h failure is
 
-four_at : (address : ℕ) (a b c d : Option Failure) → IsAt address a → IsAt address b → IsAt address c → IsAt address d → IsAt address (first_failure (a ∷ b ∷ c ∷ d ∷ []))
+four_at : (address : ℕ) (a b c d : Option Failure) → IsAt address a → IsAt address b → IsAt address c → IsAt address d
+    → IsAt address (first_failure (a ∷ b ∷ c ∷ d ∷ []))
 four_at address (Some other) b c d h k l m failure is = h failure is
 four_at address None (Some other) c d h k l m failure is = k failure is
 four_at address None None c d h k l m failure is = two_at address c d l m failure is
 
-way_at : (tree : Tree) (super : Super) (expected : Expected) (address : ℕ) (node : Node) → IsAt address (way_failure tree super expected address node)
+way_at : (tree : Tree) (super : Super) (expected : Expected) (address : ℕ) (node : Node)
+    → IsAt address (way_failure tree super expected address node)
 unfolding way_failure
 way_at tree super expected address node =
-    four_at address _ _ _ _ (unless_at (is_told expected.level (header_of node).level) rule.Depth address) (unless_at (is_owner tree (header_of node).owner) rule.Owner address)
+    four_at address _ _ _ _ (unless_at (is_told expected.level (header_of node).level) rule.Depth address)
+    (unless_at (is_owner tree (header_of node).owner) rule.Owner address)
     (unless_at (is_generation super.generation expected.generation (header_of node).generation) rule.Gen address)
     (unless_at _ rule.Range address)
 
-pub form-at : (tree : Tree) (super : Super) (expected : Expected) (address : ℕ) (node : Node) → IsAt address (form_failure tree super expected address node)
+pub form-at : (tree : Tree) (super : Super) (expected : Expected) (address : ℕ) (node : Node)
+    → IsAt address (form_failure tree super expected address node)
 form-at tree super expected address node =
-    two_at address (way_failure tree super expected address node) (shape_failure super.nodesize expected address node) (way_at tree super expected address node)
+    two_at address (way_failure tree super expected address node) (shape_failure super.nodesize expected address node)
+    (way_at tree super expected address node)
     (unless_at (is_shaped super.nodesize expected.from node) rule.Shape address)
 
-differs_not : (broken : Rule) (address : ℕ) (failure : Failure) → failure ≡ Broken broken address → (address' : ℕ) (broken' : Rule) → failure ≡ Broken broken' address' → address' ≡ address
+differs_not : (broken : Rule) (address : ℕ) (failure : Failure) → failure ≡ Broken broken address
+    → (address' : ℕ) (broken' : Rule) → failure ≡ Broken broken' address' → address' ≡ address
 differs_not broken address failure is address' broken' is' = cc
 
-pub broken-only : (tree : Tree) (super : Super) (expected : Expected) (address : ℕ) (node : Node) (group : GroupId) (which : Which) (stored counted : ℕ)
+pub broken-only : (tree : Tree) (super : Super) (expected : Expected) (address : ℕ) (node : Node) (group : GroupId)
+    (which : Which) (stored counted : ℕ)
     → form_failure tree super expected address node ≡ Some (Differs group which stored counted) → ⊥
 broken-only tree super expected address node group which stored counted is =
     let there = form-at tree super expected address node (Differs group which stored counted) is in
@@ -82,38 +91,49 @@ ok_found : (found : Result Node Rule) → IsOk found → (node : Node) × (found
 ok_found (Ok node) ok = (node, refl)
 ok_found (Err broken) ok = absurd cc
 
-told_from : (fresh : Option Node) (sizes : Sizes) (events : List Event) (address : ℕ) (node : Node) → fresh_or fresh (standing sizes (content events) address) ≡ Ok node
+told_from : (fresh : Option Node) (sizes : Sizes) (events : List Event) (address : ℕ) (node : Node)
+    → fresh_or fresh (standing sizes (content events) address) ≡ Ok node
     → told_or fresh sizes (Some events) address ≡ Some node
 told_from (Some n) sizes events address node is = cc
 told_from None sizes events address node is = ap result_ok is
 
-pub told-found : (draft : Draft) (events : List Event) (address : ℕ) (node : Node) → found draft (content events) address ≡ Ok node → told draft (Some events) address ≡ Some node
+pub told-found : (draft : Draft) (events : List Event) (address : ℕ) (node : Node)
+    → found draft (content events) address ≡ Ok node → told draft (Some events) address ≡ Some node
 unfolding told
 told-found draft events address node is = told_from (fresh_at draft address) draft.sizes events address node is
 
 -- where a disk tells, the node in memory is the one that is found
-pub loaded-found : (draft : Draft) (history : Option (List Event)) (events : List Event) (address : ℕ) (held : Held) (node : Node) → history ≡ Some events
-    → IsOk (found draft (content events) address) → ((other : Node) → told draft history address ≡ Some other → held_at held address ≡ Some other)
+pub loaded-found : (draft : Draft) (history : Option (List Event)) (events : List Event) (address : ℕ) (held : Held)
+    (node : Node) → history ≡ Some events
+    → IsOk (found draft (content events) address) → ((other : Node) → told draft history address ≡ Some other
+    → held_at held address ≡ Some other)
     → held_at held address ≡ Some node → found draft (content events) address ≡ Ok node
 loaded-found draft history events address held node is ok loaded here =
     let there = ok_found (found draft (content events) address) ok in
-    let tells = subst (λ (h : Option (List Event)). told draft h address ≡ Some there.0) (sym is) (told-found draft events address there.0 there.1) in
+    let tells = subst (λ (h : Option (List Event)). told draft h address ≡ Some there.0) (sym is)
+    (told-found draft events address there.0 there.1) in
     let same : there.0 ≡ node = let e = sym (loaded there.0 tells) ∙ here in cc in
     subst (λ (n : Node). found draft (content events) address ≡ Ok n) same there.1
 
-pub loaded-told : (draft : Draft) (history : Option (List Event)) (events : List Event) (address : ℕ) (held : Held) (node : Node) → history ≡ Some events
-    → IsOk (found draft (content events) address) → ((other : Node) → told draft history address ≡ Some other → held_at held address ≡ Some other)
+pub loaded-told : (draft : Draft) (history : Option (List Event)) (events : List Event) (address : ℕ) (held : Held)
+    (node : Node) → history ≡ Some events
+    → IsOk (found draft (content events) address) → ((other : Node) → told draft history address ≡ Some other
+    → held_at held address ≡ Some other)
     → held_at held address ≡ Some node → told draft history address ≡ Some node
 loaded-told draft history events address held node is ok loaded here =
-    subst (λ (h : Option (List Event)). told draft h address ≡ Some node) (sym is) (told-found draft events address node (loaded-found draft history events address held node is ok loaded here))
+    subst (λ (h : Option (List Event)). told draft h address ≡ Some node) (sym is)
+    (told-found draft events address node (loaded-found draft history events address held node is ok loaded here))
 
-kept_from : (fresh : Option Node) (node : Node) (P : Type 0) → ((other : Node) → fresh ≡ Some other → (node ≡ other) × P) → (fresh ≡ None → P) → P
+kept_from : (fresh : Option Node) (node : Node) (P : Type 0)
+    → ((other : Node) → fresh ≡ Some other → (node ≡ other) × P) → (fresh ≡ None → P) → P
 kept_from (Some other) node P some none = (some other refl).1
 kept_from None node P some none = none refl
 
 -- a node that was loaded has a text and names its address
-pub loaded-kept : (draft : Draft) (bytes address : ℕ) (held : Held) (node : Node) → ArePlaced draft bytes → held.draft ≡ draft → held_at held address ≡ Some node
-    → ((other : Node) → fresh_at draft address ≡ None → held_at held address ≡ Some other → IsNodeAt draft.sizes.nodesize address other)
+pub loaded-kept : (draft : Draft) (bytes address : ℕ) (held : Held) (node : Node) → ArePlaced draft bytes
+    → held.draft ≡ draft → held_at held address ≡ Some node
+    → ((other : Node) → fresh_at draft address ≡ None → held_at held address ≡ Some other
+    → IsNodeAt draft.sizes.nodesize address other)
     → IsNodeAt draft.sizes.nodesize address node
 loaded-kept draft bytes address held node placed same here kept =
     kept_from (fresh_at draft address) node (IsNodeAt draft.sizes.nodesize address node)
@@ -125,15 +145,19 @@ loaded-kept draft bytes address held node placed same here kept =
 -- ---- answers
 
 -- what is answered where nothing could be loaded
-pub fails-there : (A : Type 0) (tree : Tree) (super : Super) (expected : Expected) (address : ℕ) (wanted : Result Node Rule) (fault : BlockFault)
+pub fails-there : (A : Type 0) (tree : Tree) (super : Super) (expected : Expected) (address : ℕ)
+    (wanted : Result Node Rule) (fault : BlockFault)
     → Answers {A = A} (Err fault) address wanted → FailsThere {A = A} tree super expected address wanted (Err fault)
-fails-there A tree super expected address wanted (Image broken at) answers = (answers.0, subst (λ (w : Result Node Rule). BreaksThere tree super expected address broken w) (sym answers.1) refl)
+fails-there A tree super expected address wanted (Image broken at) answers =
+    (answers.0, subst (λ (w : Result Node Rule). BreaksThere tree super expected address broken w) (sym answers.1) refl)
 fails-there A tree super expected address wanted Disk answers = tt
 fails-there A tree super expected address wanted NoMemory answers = tt
 
 -- what is answered where a node is not such as is expected
-pub fails-formed : (tree : Tree) (super : Super) (expected : Expected) (address : ℕ) (wanted : Result Node Rule) (node : Node) (broken : Rule) (at : ℕ)
-    → wanted ≡ Ok node → form_failure tree super expected address node ≡ Some (Broken broken at) → BreaksThere tree super expected address broken wanted
+pub fails-formed : (tree : Tree) (super : Super) (expected : Expected) (address : ℕ) (wanted : Result Node Rule)
+    (node : Node) (broken : Rule) (at : ℕ)
+    → wanted ≡ Ok node → form_failure tree super expected address node ≡ Some (Broken broken at)
+    → BreaksThere tree super expected address broken wanted
 fails-formed tree super expected address wanted node broken at is fails =
     let there = form-at tree super expected address node (Broken broken at) fails in
     let same : at ≡ address = differs_not there.0 address (Broken broken at) there.1 at broken refl in
@@ -142,7 +166,8 @@ fails-formed tree super expected address wanted node broken at is fails =
 
 -- ---- what a reading leaves
 
-pub HasRead-after : (a b c : Held) (h k l : Option (List Event)) (m n o : ℕ) → HasRead a b h k m n → HasRead b c k l n o → HasRead a c h l m o
+pub HasRead-after : (a b c : Held) (h k l : Option (List Event)) (m n o : ℕ) → HasRead a b h k m n → HasRead b c k l n o
+    → HasRead a c h l m o
 HasRead-after a b c h k l m n o first later = record {
   draft = later.draft ∙ first.draft;
   bound = later.bound ∙ first.bound;
@@ -151,15 +176,19 @@ HasRead-after a b c h k l m n o first later = record {
 }
 
 -- what can be read before can be read after it
-pub IsReadable-read : (old new : Held) (before after : Option (List Event)) (bytes left : ℕ) → ArePlaced old.draft bytes → new.draft ≡ old.draft → left ≡ bytes → IsBacked new after
+pub IsReadable-read : (old new : Held) (before after : Option (List Event)) (bytes left : ℕ) → ArePlaced old.draft bytes
+    → new.draft ≡ old.draft → left ≡ bytes → IsBacked new after
     → IsReadable new after left
-IsReadable-read old new before after bytes left placed draft size backed = record { backed = backed; placed = rw (draft, size) placed }
+IsReadable-read old new before after bytes left placed draft size backed =
+    record { backed = backed; placed = rw (draft, size) placed }
 
-placed_none : (fresh : List (ℕ × Node)) (address : ℕ) (node : Node) → fresh ≡ [] → lookup (is_at (nat_cmp address)) fresh ≡ Some node → ⊥
+placed_none : (fresh : List (ℕ × Node)) (address : ℕ) (node : Node) → fresh ≡ []
+    → lookup (is_at (nat_cmp address)) fresh ≡ Some node → ⊥
 placed_none fresh address node none is = let is' = rw none at is in cc
 
 -- where no node is fresh all can be read that is the disk's
-pub IsReadable-none : (held : Held) (history : Option (List Event)) (bytes : ℕ) → held.draft.fresh ≡ [] → IsBacked held history → IsReadable held history bytes
+pub IsReadable-none : (held : Held) (history : Option (List Event)) (bytes : ℕ) → held.draft.fresh ≡ []
+    → IsBacked held history → IsReadable held history bytes
 IsReadable-none held history bytes none backed = record {
   backed = backed;
   placed = record { each = λ address node is. absurd (placed_none held.draft.fresh address node none is) };
@@ -167,13 +196,18 @@ IsReadable-none held history bytes none backed = record {
 
 -- ---- a node above level 0
 
-inner_pointers_from : (nodesize : ℕ) (node : Node) (level : ℕ) → IsNode nodesize node → (header_of node).level ≡ level → 0 < level → 0 < length (own_pointers node)
-inner_pointers_from nodesize (Leaf header items) level kept is above = absurd (let low = kept.levelled in omega (arith, low, is, above))
-inner_pointers_from nodesize (Inner header pointers) level kept is above = let some = kept.levelled.2 in omega (arith, some)
+inner_pointers_from : (nodesize : ℕ) (node : Node) (level : ℕ) → IsNode nodesize node → (header_of node).level ≡ level
+    → 0 < level → 0 < length (own_pointers node)
+inner_pointers_from nodesize (Leaf header items) level kept is above =
+    absurd (let low = kept.levelled in omega (arith, low, is, above))
+inner_pointers_from nodesize (Inner header pointers) level kept is above = let some = kept.levelled.2 in
+    omega (arith, some)
 
 -- it has a pointer
-pub visited-inner : (tree : Tree) (super : Super) (expected : Expected) (address nodesize level : ℕ) (node : Node) → IsNode nodesize node → expected.level ≡ Some level
+pub visited-inner : (tree : Tree) (super : Super) (expected : Expected) (address nodesize level : ℕ) (node : Node)
+    → IsNode nodesize node → expected.level ≡ Some level
     → form_failure tree super expected address node ≡ None → 0 < level → 0 < length (own_pointers node)
 visited-inner tree super expected address nodesize level node kept told formed above =
-    let is = level-told expected.level level (header_of node).level told (IsFormed-form tree super expected address node formed).level in
+    let is = level-told expected.level level (header_of node).level told
+    (IsFormed-form tree super expected address node formed).level in
     inner_pointers_from nodesize node level kept is above

@@ -1,4 +1,5 @@
--- A part of a tree: the node of a level at an address, and all that stands below it (on-disk format, "B-tree"). Addresses are in bytes.
+-- A part of a tree: the node of a level at an address, and all that stands below it (on-disk format, "B-tree").
+-- Addresses are in bytes.
 use Rattle.std.specs.Prelude.{◌≡◌, ℕ, zero, suc, ◌*◌, ◌++◌, List, [], ◌∷◌, Option, Some, None, IsTrue, nat_le}
 use Rattle.qg_node.specs.declared.item.Item.{Item}
 use Rattle.qg_node.specs.declared.pointer.Pointer.{Pointer}
@@ -18,7 +19,8 @@ pub record IsMember (tree : Tree) (super : Super) (level : ℕ) (header : Header
   pub owned : IsTrue (is_owner tree header.owner)
   pub dated : IsTrue (is_generation super.generation None header.generation)
 
--- what a pointer leads to: a node of the pointer's generation, a quarter full at least, that begins at the pointer's key
+-- what a pointer leads to: a node of the pointer's generation, a quarter full at least, that begins at the pointer's
+-- key
 pub record IsPointed (super : Super) (nodes : ℕ → Option Node) (pointer : Pointer) : Type 0 where
   pub node : Node
   pub there : nodes pointer.child ≡ Some node
@@ -30,16 +32,19 @@ pub record IsPointed (super : Super) (nodes : ℕ → Option Node) (pointer : Po
 abbrev pub UnderEach : (Pointer → List Item → Type 0) → List Pointer → List Item → Type 0
 UnderEach Under [] items = items ≡ []
 UnderEach Under (pointer ∷ pointers) items =
-    (first : List Item) × (others : List Item) × (items ≡ first ++ others) × Under pointer first × UnderEach Under pointers others
+    (first : List Item) × (others : List Item) × (items ≡ first ++ others) × Under pointer first
+    × UnderEach Under pointers others
 
--- The node of a level at an address, and those below it, are nodes of a tree, and these are the items under it. What range their keys are
--- in, and how full the first one is, is not said
+-- The node of a level at an address, and those below it, are nodes of a tree, and these are the items under it. What
+-- range their keys are in, and how full the first one is, is not said
 unfoldable pub IsBranch : Tree → Super → (ℕ → Option Node) → ℕ → ℕ → List Item → Type 0
 IsBranch tree super nodes zero address items =
     (header : Header) × (nodes address ≡ Some (Leaf header items)) × IsMember tree super zero header
 IsBranch tree super nodes (suc level) address items =
-    (header : Header) × (pointers : List Pointer) × (nodes address ≡ Some (Inner header pointers)) × IsMember tree super (suc level) header
-    × UnderEach (λ pointer under. IsPointed super nodes pointer × IsBranch tree super nodes level pointer.child under) pointers items
+    (header : Header) × (pointers : List Pointer) × (nodes address ≡ Some (Inner header pointers))
+    × IsMember tree super (suc level) header
+    × UnderEach (λ pointer under. IsPointed super nodes pointer × IsBranch tree super nodes level pointer.child under)
+    pointers items
 
 -- pointers to nodes of a level, and the items under them
 abbrev pub AreBranches : Tree → Super → (ℕ → Option Node) → ℕ → List Pointer → List Item → Type 0

@@ -15,25 +15,36 @@ use Rattle.qg_device.specs.History.{Event}
 use Rattle.qg_blocks.specs.Held.{Draft}
 use Rattle.qg_blocks.specs.Told.{told}
 
--- where a tree stands: its root's address and level, the number of the tree that makes its nodes, and the generation to come
+-- where a tree stands: its root's address and level, the number of the tree that makes its nodes, and the generation to
+-- come
 pub record Root : Type 0 where
   pub address : ℕ
   pub height : ℕ
   pub owner : ℕ
   pub next : ℕ
 
--- the superblock that the rules of a node ask: they ask the generation, which is the one to come, and the bytes of a node, and nothing else
+-- the superblock that the rules of a node ask: they ask the generation, which is the one to come, and the bytes of a
+-- node, and nothing else
 abbrev pub super_for : ℕ → ℕ → Super
-super_for next nodesize = record { generation = next; root = 0; nodesize = nodesize; slots = 0; sectors = 0; format = 1 }
+super_for next nodesize = record {
+  generation = next;
+  root = 0;
+  nodesize = nodesize;
+  slots = 0;
+  sectors = 0;
+  format = 1;
+}
 
 -- what a walk finds where this map tells the nodes
 abbrev pub found_in : (ℕ → Option Node) → ℕ → Result Node Failure
 found_in map address = found_there (map address) address
 
--- The node at an address is the root of a tree of this height, and these are its items, from left to right. The walk meets no failure of
--- the rules from `slot` to `shape`
-pub record IsTree (tree : Tree) (super : Super) (map : ℕ → Option Node) (height address : ℕ) (items : List Item) : Type 0 where
-  pub walked : walk_failure (form_failure tree super) (found_in map) height (root_expected (Some height) None) address ≡ None
+-- The node at an address is the root of a tree of this height, and these are its items, from left to right. The walk
+-- meets no failure of the rules from `slot` to `shape`
+pub record IsTree (tree : Tree) (super : Super) (map : ℕ → Option Node) (height address : ℕ)
+    (items : List Item) : Type 0 where
+  pub walked : walk_failure (form_failure tree super) (found_in map) height (root_expected (Some height) None) address
+      ≡ None
   pub items_are : items_below map height address ≡ Some items
 
 -- that of a tree over what nodes in memory tell
@@ -49,5 +60,6 @@ TellsTree tree root draft history items =
 unfoldable pub Reaches : (ℕ → Option Node) → ℕ → ℕ → ℕ → Type 0
 Reaches map zero from address = address ≡ from
 Reaches map (suc level) from address = (address ≡ from)
-    ⊎ ((node : Node) × (map from ≡ Some node) × (place : ℕ) × (pointer : Pointer) × (slice_get (own_pointers node) place ≡ Some pointer)
+    ⊎ ((node : Node) × (map from ≡ Some node) × (place : ℕ) × (pointer : Pointer)
+    × (slice_get (own_pointers node) place ≡ Some pointer)
     × Reaches map level pointer.child address)

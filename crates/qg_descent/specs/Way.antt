@@ -1,5 +1,7 @@
 -- The way from a root down, and how a reading answers (this project's own). Addresses are in bytes.
-use Rattle.std.specs.Prelude.{◌≡◌, ⊤, ◌⊎◌, ℕ, zero, suc, ◌+◌, ◌-◌, List, [], ◌∷◌, ◌++◌, map, drop, length, not, true, if◌then◌else◌, ◌<◌, Option, Some, None, Result, Ok, Err, slice_get, IfSome, IsSome, IsTrue}
+use Rattle.std.specs.Prelude.{◌≡◌, ⊤, ◌⊎◌, ℕ, zero, suc, ◌+◌, ◌-◌, List, [], ◌∷◌, ◌++◌, map, drop, length, not, true}
+use Rattle.std.specs.Prelude.{if◌then◌else◌, ◌<◌, Option, Some, None, Result, Ok, Err, slice_get, IfSome, IsSome}
+use Rattle.std.specs.Prelude.{IsTrue}
 use Rattle.std.specs.List.{list_all}
 use Rattle.std.specs.Ordering.{is_lt}
 use Rattle.qg_device.specs.History.{Event, content}
@@ -37,10 +39,11 @@ pub record LeadsOn (node : Node) (above below : Expected) (address : ℕ) : Type
   pub pointer : Pointer
   pub there : slice_get (own_pointers node) place ≡ Some pointer
   pub child : address ≡ pointer.child
-  pub expects : below ≡ expected_below ((header_of node).level - 1) above.to pointer (drop (place + 1) (own_pointers node))
+  pub expects : below ≡ expected_below ((header_of node).level - 1) above.to pointer
+      (drop (place + 1) (own_pointers node))
 
--- The walk from a root comes to an address so many levels below, and expects this there. No node above breaks a rule from `depth` to
--- `shape`
+-- The walk from a root comes to an address so many levels below, and expects this there. No node above breaks a rule
+-- from `depth` to `shape`
 unfoldable pub ComesTo : Tree → Super → (ℕ → Option Node) → Expected → ℕ → ℕ → Expected → ℕ → Type 0
 ComesTo tree super nodes expected root zero below address = (below ≡ expected) × (address ≡ root)
 ComesTo tree super nodes expected root (suc depth) below address =
@@ -50,13 +53,16 @@ ComesTo tree super nodes expected root (suc depth) below address =
 -- what was found at an address breaks a rule: there is no node, or it is none such as is expected there
 abbrev pub BreaksThere : Tree → Super → Expected → ℕ → Rule → Result Node Rule → Type 0
 BreaksThere tree super expected address rule (Err broken) = broken ≡ rule
-BreaksThere tree super expected address rule (Ok node) = form_failure tree super expected address node ≡ Some (Broken rule address)
+BreaksThere tree super expected address rule (Ok node) = form_failure tree super expected address node
+    ≡ Some (Broken rule address)
 
 -- a rule is broken at an address that the walk of a tree comes to, over what these events told
-pub record BreaksOnWay (tree : Tree) (root : Root) (draft : Draft) (events : List Event) (rule : Rule) (address : ℕ) : Type 0 where
+pub record BreaksOnWay (tree : Tree) (root : Root) (draft : Draft) (events : List Event) (rule : Rule)
+    (address : ℕ) : Type 0 where
   pub depth : ℕ
   pub expected : Expected
-  pub comes : ComesTo tree (super_of root draft) (told draft (Some events)) (root_expected (Some root.height) None) root.address depth expected address
+  pub comes : ComesTo tree (super_of root draft) (told draft (Some events)) (root_expected (Some root.height) None)
+      root.address depth expected address
   pub breaks : BreaksThere tree (super_of root draft) expected address rule (found draft (content events) address)
 
 -- a call answers a rule and an address only where that rule is broken there
@@ -68,7 +74,8 @@ FailsOnWay tree root draft events (Err NoMemory) = ⊤
 
 -- ---- what a reading leaves
 
--- what a reading asks: each clean node in memory is the disk's, and each fresh one has a text and a slot inside the disk
+-- what a reading asks: each clean node in memory is the disk's, and each fresh one has a text and a slot inside the
+-- disk
 pub record IsReadable (held : Held) (history : Option (List Event)) (bytes : ℕ) : Type 0 where
   pub backed : IsBacked held history
   pub placed : ArePlaced held.draft bytes
@@ -82,8 +89,10 @@ pub record HasRead (old new : Held) (before after : Option (List Event)) (bytes 
 
 -- ---- one node
 
--- a node is in memory at an address, which breaks no rule from `depth` to `shape`. It is the one told there, where one is told
-pub record IsVisited (tree : Tree) (super : Super) (expected : Expected) (draft : Draft) (history : Option (List Event)) (held : Held) (address : ℕ) : Type 0 where
+-- a node is in memory at an address, which breaks no rule from `depth` to `shape`. It is the one told there, where one
+-- is told
+pub record IsVisited (tree : Tree) (super : Super) (expected : Expected) (draft : Draft) (history : Option (List Event))
+    (held : Held) (address : ℕ) : Type 0 where
   pub node : Node
   pub is : held_at held address ≡ Some node
   pub formed : form_failure tree super expected address node ≡ None
@@ -94,7 +103,8 @@ pub record IsVisited (tree : Tree) (super : Super) (expected : Expected) (draft 
 -- a call that looks at one address answers a rule only where it is broken there
 abbrev pub FailsThere : {A : Type 0} → Tree → Super → Expected → ℕ → Result Node Rule → Result A BlockFault → Type 0
 FailsThere tree super expected address wanted (Ok x) = ⊤
-FailsThere tree super expected address wanted (Err (Image rule at)) = (at ≡ address) × BreaksThere tree super expected address rule wanted
+FailsThere tree super expected address wanted (Err (Image rule at)) = (at ≡ address)
+    × BreaksThere tree super expected address rule wanted
 FailsThere tree super expected address wanted (Err Disk) = ⊤
 FailsThere tree super expected address wanted (Err NoMemory) = ⊤
 
@@ -113,10 +123,12 @@ pub record LeadsFor (pointers : List Pointer) (to : Option Key) (level : ℕ) (k
 abbrev pub Follow : Option Key → List Item → Type 0
 Follow None items = items ≡ []
 Follow (Some key) [] = ⊥
-Follow (Some key) (item ∷ items) = (item.key ≡ key) × IsTrue (list_all (λ later. not (is_lt (key_cmp later.key key))) (item ∷ items))
+Follow (Some key) (item ∷ items) = (item.key ≡ key)
+    × IsTrue (list_all (λ later. not (is_lt (key_cmp later.key key))) (item ∷ items))
 
--- Some of a tree's items stand in the leaf that a key leads to. Those in front have lesser keys, and where there are any the leaf has one
--- whose key is not greater. Those behind begin at the key `to`, which all of the leaf are less than
+-- Some of a tree's items stand in the leaf that a key leads to. Those in front have lesser keys, and where there are
+-- any the leaf has one whose key is not greater. Those behind begin at the key `to`, which all of the leaf are less
+-- than
 pub record IsPartFor (key : Key) (to : Option Key) (whole part : List Item) : Type 0 where
   pub front : List Item
   pub back : List Item
@@ -127,7 +139,8 @@ pub record IsPartFor (key : Key) (to : Option Key) (whole part : List Item) : Ty
   pub behind : Follow to back
 
 -- a way has come to the leaf that a key leads to, which is in memory
-pub record IsReached (tree : Tree) (root : Root) (draft : Draft) (history : Option (List Event)) (key : Key) (held : Held) (way : Way) : Type 0 where
+pub record IsReached (tree : Tree) (root : Root) (draft : Draft) (history : Option (List Event)) (key : Key)
+    (held : Held) (way : Way) : Type 0 where
   pub header : Header
   pub items : List Item
   pub is : held_at held way.address ≡ Some (Leaf header items)
@@ -140,8 +153,8 @@ abbrev pub next_within : Key → Option Key → Option Key
 next_within to None = None
 next_within to (Some key) = if is_upto to key then Some key else None
 
--- The items of one leaf from one key to another were put behind others. The rest of those of the tree are the ones from `next` on, which is
--- a key of the tree, if it is told. Where `from` is one too, there was an item
+-- The items of one leaf from one key to another were put behind others. The rest of those of the tree are the ones from
+-- `next` on, which is a key of the tree, if it is told. Where `from` is one too, there was an item
 pub record Gathers (from to : Key) (whole old new : List Item) (next : Option Key) : Type 0 where
   pub added : List Item
   pub more : new ≡ old ++ added

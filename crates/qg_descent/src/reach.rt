@@ -20,7 +20,8 @@ use qg_walk::form_failure;
 use std::sync::ledger::Ledger;
 
 impl Tree {
-    /// Sees to it that the node that a way has come to is in memory, and that it is what the way leads to expect. It takes a step.
+    /// Sees to it that the node that a way has come to is in memory, and that it is what the way leads to expect. It
+    /// takes a step.
     pub fn visit<P: TreePart, D: Disk, L: Ledger>(
         &self,
         blocks: &mut Blocks,
@@ -29,15 +30,18 @@ impl Tree {
         reads: &mut Steps<L>,
     ) -> Result<(), BlockFault>
         requires readable { IsReadable blocks.old (D.history disk.old) (D.size disk.old) }
-        ensures visited { OnOk result (IsVisited P.tree (super_of self.now blocks.old.draft) way.now.expected blocks.old.draft
+        ensures visited { OnOk result
+            (IsVisited P.tree (super_of self.now blocks.old.draft) way.now.expected blocks.old.draft
             (D.history disk.old) blocks.new way.now.address) }
         ensures sound { (node : NodeValue) → told blocks.old.draft (D.history disk.old) way.now.address ≡ Some node
-            → form_failure P.tree (super_of self.now blocks.old.draft) way.now.expected way.now.address node ≡ None → BreaksNone result }
+            → form_failure P.tree (super_of self.now blocks.old.draft) way.now.expected way.now.address node ≡ None
+            → BreaksNone result }
         ensures broken { (events : List Event) → D.history disk.old ≡ Some events
             → FailsThere P.tree (super_of self.now blocks.old.draft) way.now.expected way.now.address
             (found blocks.old.draft (content events) way.now.address) result }
         ensures readable { IsReadable blocks.new (D.history disk.new) (D.size disk.new) }
-        ensures read { HasRead blocks.old blocks.new (D.history disk.old) (D.history disk.new) (D.size disk.old) (D.size disk.new) }
+        ensures read { HasRead blocks.old blocks.new (D.history disk.old) (D.history disk.new) (D.size disk.old)
+            (D.size disk.new) }
         ensures cause { HasCause BlockFault.Disk (D.faults disk.old) (D.faults disk.new) result }
         ensures reads { reads.new ≡ reads.old + 1 }
     {
@@ -60,12 +64,15 @@ impl Tree {
         reads: &mut Steps<L>,
     ) -> Result<Way, BlockFault>
         requires readable { IsReadable blocks.old (D.history disk.old) (D.size disk.old) }
-        ensures reached { IfOk result (λ way. IsReached P.tree self.now blocks.old.draft (D.history disk.old) key blocks.new way) }
-        ensures sound { (items : List ItemValue) → TellsTree P.tree self.now blocks.old.draft (D.history disk.old) items → BreaksNone result }
+        ensures reached { IfOk result
+            (λ way. IsReached P.tree self.now blocks.old.draft (D.history disk.old) key blocks.new way) }
+        ensures sound { (items : List ItemValue) → TellsTree P.tree self.now blocks.old.draft (D.history disk.old) items
+            → BreaksNone result }
         ensures broken { (events : List Event) → D.history disk.old ≡ Some events
             → FailsOnWay P.tree self.now blocks.old.draft events result }
         ensures readable { IsReadable blocks.new (D.history disk.new) (D.size disk.new) }
-        ensures read { HasRead blocks.old blocks.new (D.history disk.old) (D.history disk.new) (D.size disk.old) (D.size disk.new) }
+        ensures read { HasRead blocks.old blocks.new (D.history disk.old) (D.history disk.new) (D.size disk.old)
+            (D.size disk.new) }
         ensures cause { HasCause BlockFault.Disk (D.faults disk.old) (D.faults disk.new) result }
         ensures reads { reads.new ≤ reads.old + self.now.height + 1 }
     {

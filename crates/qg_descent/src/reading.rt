@@ -19,7 +19,8 @@ use std::alloc::Global;
 use std::sync::ledger::Ledger;
 
 impl Tree {
-    /// The body under a key; none exactly where no item has the key. It takes at most a step for each level, and copies no node.
+    /// The body under a key; none exactly where no item has the key. It takes at most a step for each level, and copies
+    /// no node.
     ///
     /// `P` says which tree it is, and so which owners a node may have. What does not fit a tree is answered as `Image`.
     pub fn get<P: TreePart, D: Disk, L: Ledger>(
@@ -33,11 +34,13 @@ impl Tree {
         requires readable { IsReadable blocks.old (D.history disk.old) (D.size disk.old) }
         ensures found { (items : List ItemValue) → TellsTree P.tree self.now blocks.old.draft (D.history disk.old) items
             → IfOk result (λ body. body ≡ body_at key items) }
-        ensures sound { (items : List ItemValue) → TellsTree P.tree self.now blocks.old.draft (D.history disk.old) items → BreaksNone result }
+        ensures sound { (items : List ItemValue) → TellsTree P.tree self.now blocks.old.draft (D.history disk.old) items
+            → BreaksNone result }
         ensures broken { (events : List Event) → D.history disk.old ≡ Some events
             → FailsOnWay P.tree self.now blocks.old.draft events result }
         ensures readable { IsReadable blocks.new (D.history disk.new) (D.size disk.new) }
-        ensures read { HasRead blocks.old blocks.new (D.history disk.old) (D.history disk.new) (D.size disk.old) (D.size disk.new) }
+        ensures read { HasRead blocks.old blocks.new (D.history disk.old) (D.history disk.new) (D.size disk.old)
+            (D.size disk.new) }
         ensures cause { HasCause BlockFault.Disk (D.faults disk.old) (D.faults disk.new) result }
         ensures reads { reads.new ≤ reads.old + self.now.height + 1 }
     {
@@ -46,8 +49,8 @@ impl Tree {
         Ok(body_of(alloc, items, key)?)
     }
 
-    /// The last item whose key is not greater than another; none exactly where there is none. It takes at most a step for each level, and
-    /// copies no node.
+    /// The last item whose key is not greater than another; none exactly where there is none. It takes at most a step
+    /// for each level, and copies no node.
     pub fn last_to<P: TreePart, D: Disk, L: Ledger>(
         &self,
         alloc: Global,
@@ -59,11 +62,13 @@ impl Tree {
         requires readable { IsReadable blocks.old (D.history disk.old) (D.size disk.old) }
         ensures found { (items : List ItemValue) → TellsTree P.tree self.now blocks.old.draft (D.history disk.old) items
             → IfOk result (λ item. item ≡ last_upto to items) }
-        ensures sound { (items : List ItemValue) → TellsTree P.tree self.now blocks.old.draft (D.history disk.old) items → BreaksNone result }
+        ensures sound { (items : List ItemValue) → TellsTree P.tree self.now blocks.old.draft (D.history disk.old) items
+            → BreaksNone result }
         ensures broken { (events : List Event) → D.history disk.old ≡ Some events
             → FailsOnWay P.tree self.now blocks.old.draft events result }
         ensures readable { IsReadable blocks.new (D.history disk.new) (D.size disk.new) }
-        ensures read { HasRead blocks.old blocks.new (D.history disk.old) (D.history disk.new) (D.size disk.old) (D.size disk.new) }
+        ensures read { HasRead blocks.old blocks.new (D.history disk.old) (D.history disk.new) (D.size disk.old)
+            (D.size disk.new) }
         ensures cause { HasCause BlockFault.Disk (D.faults disk.old) (D.faults disk.new) result }
         ensures reads { reads.new ≤ reads.old + self.now.height + 1 }
     {
@@ -72,8 +77,9 @@ impl Tree {
         Ok(last_of(alloc, items, to)?)
     }
 
-    /// The items from one key to another, both included, in the order of their keys. It reads nodes on the way to the leaves where they
-    /// stand, and no others: at most a step for each level, and again for each item. It copies no node.
+    /// The items from one key to another, both included, in the order of their keys. It reads nodes on the way to the
+    /// leaves where they stand, and no others: at most a step for each level, and again for each item. It copies no
+    /// node.
     pub fn range<P: TreePart, D: Disk, L: Ledger>(
         &self,
         alloc: Global,
@@ -86,11 +92,13 @@ impl Tree {
         requires readable { IsReadable blocks.old (D.history disk.old) (D.size disk.old) }
         ensures found { (items : List ItemValue) → TellsTree P.tree self.now blocks.old.draft (D.history disk.old) items
             → IfOk result (λ found. found ≡ items_within from to items) }
-        ensures sound { (items : List ItemValue) → TellsTree P.tree self.now blocks.old.draft (D.history disk.old) items → BreaksNone result }
+        ensures sound { (items : List ItemValue) → TellsTree P.tree self.now blocks.old.draft (D.history disk.old) items
+            → BreaksNone result }
         ensures broken { (events : List Event) → D.history disk.old ≡ Some events
             → FailsOnWay P.tree self.now blocks.old.draft events result }
         ensures readable { IsReadable blocks.new (D.history disk.new) (D.size disk.new) }
-        ensures read { HasRead blocks.old blocks.new (D.history disk.old) (D.history disk.new) (D.size disk.old) (D.size disk.new) }
+        ensures read { HasRead blocks.old blocks.new (D.history disk.old) (D.history disk.new) (D.size disk.old)
+            (D.size disk.new) }
         ensures cause { HasCause BlockFault.Disk (D.faults disk.old) (D.faults disk.new) result }
         ensures reads { (items : List ItemValue) → TellsTree P.tree self.now blocks.old.draft (D.history disk.old) items
             → reads.new ≤ reads.old + (self.now.height + 1) * (1 + length (items_within from to items)) }
@@ -103,8 +111,8 @@ impl Tree {
         Ok(found)
     }
 
-    // Puts the items from one key to another in the leaf that the first key leads to behind others, and answers the key from which more
-    // may stand in the leaves behind.
+    // Puts the items from one key to another in the leaf that the first key leads to behind others, and answers the key
+    // from which more may stand in the leaves behind.
     fn gather<P: TreePart, D: Disk, L: Ledger>(
         &self,
         blocks: &mut Blocks,
@@ -117,11 +125,13 @@ impl Tree {
         requires readable { IsReadable blocks.old (D.history disk.old) (D.size disk.old) }
         ensures found { (items : List ItemValue) → TellsTree P.tree self.now blocks.old.draft (D.history disk.old) items
             → IfOk result (λ next. Gathers from to items found.old found.new next) }
-        ensures sound { (items : List ItemValue) → TellsTree P.tree self.now blocks.old.draft (D.history disk.old) items → BreaksNone result }
+        ensures sound { (items : List ItemValue) → TellsTree P.tree self.now blocks.old.draft (D.history disk.old) items
+            → BreaksNone result }
         ensures broken { (events : List Event) → D.history disk.old ≡ Some events
             → FailsOnWay P.tree self.now blocks.old.draft events result }
         ensures readable { IsReadable blocks.new (D.history disk.new) (D.size disk.new) }
-        ensures read { HasRead blocks.old blocks.new (D.history disk.old) (D.history disk.new) (D.size disk.old) (D.size disk.new) }
+        ensures read { HasRead blocks.old blocks.new (D.history disk.old) (D.history disk.new) (D.size disk.old)
+            (D.size disk.new) }
         ensures cause { HasCause BlockFault.Disk (D.faults disk.old) (D.faults disk.new) result }
         ensures further { IfOk result (λ next. IsFurther from to next) }
         ensures reads { reads.new ≤ reads.old + self.now.height + 1 }

@@ -10,7 +10,8 @@ use qg_num::{Address, Generation, RootId};
 use qg_super::Super;
 use std::marker::Model;
 
-/// A tree over nodes by address (on-disk format, "B-tree"): where its root lies, and its height, which is the root's level.
+/// A tree over nodes by address (on-disk format, "B-tree"): where its root lies, and its height, which is the root's
+/// level.
 #[derive(Drop)]
 pub struct Tree {
     root: Address,
@@ -28,8 +29,8 @@ impl Model for Tree {
 }
 
 impl Tree {
-    /// The tree whose root lies at an address in bytes and has this level. Nodes that are made for it have this owner, and the generation
-    /// `next`, which is the one to come. No node of it has a later one.
+    /// The tree whose root lies at an address in bytes and has this level. Nodes that are made for it have this owner,
+    /// and the generation `next`, which is the one to come. No node of it has a later one.
     pub fn at(root: Address, height: u8, owner: RootId, next: Generation) -> Tree
         ensures { result ≡ record { address = root; height = height; owner = owner; next = next } }
     {

@@ -16,7 +16,8 @@ pub struct Way {
     pub expected: Expected,
 }
 
-// The child of a node that leads on to a key. The children are of a level, and `to` is the next key on the way to the node.
+// The child of a node that leads on to a key. The children are of a level, and `to` is the next key on the way to the
+// node.
 pub(crate) fn next_way(node: &Node, to: Option<Key>, level: u8, key: Key) -> Way
     requires some { 0 < length (own_pointers node.now) }
     requires ascending { IsTrue (is_ascending (own_keys node.now)) }

@@ -23,5 +23,8 @@ failed_write_has_begun : begun (Tore 0 (4 ∷ []) [] ∷ Synced ∷ []) ≡ reco
 failed_write_has_begun = refl
 
 -- a sync keeps what was there at its moment, and no later write
-sync_keeps_its_moment : synced (Wrote 0 (6 ∷ []) ∷ Synced ∷ Wrote 0 (5 ∷ []) ∷ []) ≡ record { moment = 2; content = 5 ∷ [] } ∷ []
+sync_keeps_its_moment : synced (Wrote 0 (6 ∷ []) ∷ Synced ∷ Wrote 0 (5 ∷ []) ∷ []) ≡ record {
+  moment = 2;
+  content = 5 ∷ [];
+} ∷ []
 sync_keeps_its_moment = refl

@@ -1,5 +1,5 @@
--- A disk of four bytes, in two places of two bytes each, that were written one after the other; and the images that a crash at each moment may
--- have left. The bytes of a place are valid where both are the same.
+-- A disk of four bytes, in two places of two bytes each, that were written one after the other; and the images that a
+-- crash at each moment may have left. The bytes of a place are valid where both are the same.
 use Rattle.std.specs.Prelude.{◌≡◌, ◌⊎◌, ℕ, zero, suc, ◌≤◌, ◌<◌, Bool, false, ◌==◌, List, [], ◌∷◌, slice_index, refl}
 use Rattle.std.proofs.Common.{arith}
 use Rattle.std.proofs.lemmas.Bool.{true≢false}
@@ -48,7 +48,10 @@ failed_write : last_rewriting 0 2 2 (Tore 0 (2 ∷ 2 ∷ []) [] ∷ ones) ≡ fr
 failed_write = refl
 
 -- a write over the border is to both places
-write_over_the_border : last_rewriting 0 2 2 (Wrote 1 (2 ∷ 2 ∷ []) ∷ ones) ≡ record { old = 1 ∷ 1 ∷ []; new = 1 ∷ 2 ∷ [] }
+write_over_the_border : last_rewriting 0 2 2 (Wrote 1 (2 ∷ 2 ∷ []) ∷ ones) ≡ record {
+  old = 1 ∷ 1 ∷ [];
+  new = 1 ∷ 2 ∷ [];
+}
 write_over_the_border = refl
 
 -- a write of no bytes is to no place, and neither is a cut
@@ -63,7 +66,8 @@ cut_is_no_write = refl
 -- a write to the first place may leave any bytes there, and leaves the others
 torn_first : (x y a b c d : ℕ) → Torn 0 2 (x ∷ y ∷ c ∷ d ∷ []) (a ∷ b ∷ c ∷ d ∷ [])
 torn_first x y a b c d = record { same = same; no_shorter = omega arith; no_longer = omega arith } where
-  same : (place : ℕ) → place < 4 → (place < 0) ⊎ (2 ≤ place) → slice_index (a ∷ b ∷ c ∷ d ∷ []) place ≡ slice_index (x ∷ y ∷ c ∷ d ∷ []) place
+  same : (place : ℕ) → place < 4 → (place < 0) ⊎ (2 ≤ place)
+      → slice_index (a ∷ b ∷ c ∷ d ∷ []) place ≡ slice_index (x ∷ y ∷ c ∷ d ∷ []) place
   same zero inside apart = absurd (omega (arith, apart))
   same (suc zero) inside apart = absurd (omega (arith, apart))
   same (suc (suc zero)) inside apart = refl
@@ -73,7 +77,8 @@ torn_first x y a b c d = record { same = same; no_shorter = omega arith; no_long
 -- so does a write to the second
 torn_second : (a b x y c d : ℕ) → Torn 2 2 (a ∷ b ∷ x ∷ y ∷ []) (a ∷ b ∷ c ∷ d ∷ [])
 torn_second a b x y c d = record { same = same; no_shorter = omega arith; no_longer = omega arith } where
-  same : (place : ℕ) → place < 4 → (place < 2) ⊎ (4 ≤ place) → slice_index (a ∷ b ∷ c ∷ d ∷ []) place ≡ slice_index (a ∷ b ∷ x ∷ y ∷ []) place
+  same : (place : ℕ) → place < 4 → (place < 2) ⊎ (4 ≤ place)
+      → slice_index (a ∷ b ∷ c ∷ d ∷ []) place ≡ slice_index (a ∷ b ∷ x ∷ y ∷ []) place
   same zero inside apart = refl
   same (suc zero) inside apart = refl
   same (suc (suc zero)) inside apart = absurd (omega (arith, apart))
@@ -129,7 +134,8 @@ cut_may_leave_bytes c d = record {
   no_later = omega arith;
   leaves = (1 ∷ 1 ∷ 1 ∷ 1 ∷ [], refl, record { same = same; no_shorter = omega arith; no_longer = omega arith });
 } where
-  same : (place : ℕ) → place < 2 → place < 4 → slice_index (1 ∷ 1 ∷ c ∷ d ∷ []) place ≡ slice_index (1 ∷ 1 ∷ 1 ∷ 1 ∷ []) place
+  same : (place : ℕ) → place < 2 → place < 4
+      → slice_index (1 ∷ 1 ∷ c ∷ d ∷ []) place ≡ slice_index (1 ∷ 1 ∷ 1 ∷ 1 ∷ []) place
   same zero inside before = refl
   same (suc zero) inside before = refl
   same (suc (suc place)) inside before = absurd (omega (arith, inside))

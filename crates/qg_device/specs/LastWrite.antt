@@ -20,8 +20,8 @@ pub record Rewriting : Type 0 where
   pub old : List ℕ
   pub new : List ℕ
 
--- of a write that has begun, what n bytes from `place` on were before it, and what they are with its bytes over them; where it is a write of
--- the whole place, these are its bytes
+-- of a write that has begun, what n bytes from `place` on were before it, and what they are with its bytes over them;
+-- where it is a write of the whole place, these are its bytes
 abbrev pub rewriting_by : ℕ → ℕ → List Event → Begun → Rewriting
 rewriting_by place n events write =
     let before = content (events_by (write.moment - 1) events) in
@@ -32,8 +32,11 @@ abbrev pub unwritten : ℕ → ℕ → ℕ → List Event → Rewriting
 unwritten place n since events =
     let bytes = range place n (content (events_by since events)) in record { old = bytes; new = bytes }
 
--- what n bytes from `place` on were before the last write to them, and are once it is done; where none has begun since that moment, both are
--- what they were then
+-- what n bytes from `place` on were before the last write to them, and are once it is done; where none has begun since
+-- that moment, both are what they were then
 abbrev pub last_rewriting : ℕ → ℕ → ℕ → List Event → Rewriting
 last_rewriting place n since events =
-    elim (last_write place n since events) [ None ↦ unwritten place n since events | Some write ↦ rewriting_by place n events write ]
+    elim (last_write place n since events) [
+      | None ↦ unwritten place n since events
+      | Some write ↦ rewriting_by place n events write
+    ]

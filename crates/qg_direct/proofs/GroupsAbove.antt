@@ -1,5 +1,6 @@
 -- The indices of groups, one group and one subvolume after the other.
-use Rattle.std.proofs.Common.{◌≡◌, ℕ, ◌+◌, ◌<◌, ◌≤◌, Bool, true, false, not, List, [], ◌∷◌, ◌++◌, length, take, get_or, Option, Some, None, Result, Ok, Err, refl, sym, ap}
+use Rattle.std.proofs.Common.{◌≡◌, ℕ, ◌+◌, ◌<◌, ◌≤◌, Bool, true, false, not, List, [], ◌∷◌, ◌++◌, length, take, get_or}
+use Rattle.std.proofs.Common.{Option, Some, None, Result, Ok, Err, refl, sym, ap}
 use Rattle.std.proofs.Common.{subst, ◌∙◌, arith, ◌⊎◌, inl, inr, length-take}
 use Rattle.std.specs.Prelude.{◌==◌, ◌&&◌, ◌||◌, slice_get}
 use Rattle.std.specs.Bool.{then_some}
@@ -9,7 +10,8 @@ use Rattle.std.specs.Option.{MatchOption}
 use Rattle.std.specs.Ordering.{nat_cmp}
 use Rattle.std.specs.Result.{result_ok}
 use Rattle.std.proofs.lemmas.Bool.{cases_eq, cases_lt, cases_order, eq-eqb, eqb-true, ne_eqb, true≢false}
-use Rattle.std.proofs.lemmas.List.{get_or-append-add, get_or_append_left, get_or_default, get_or_past, get_or-take, length_push, take_all}
+use Rattle.std.proofs.lemmas.List.{get_or-append-add, get_or_append_left, get_or_default, get_or_past, get_or-take}
+use Rattle.std.proofs.lemmas.List.{length_push, take_all}
 use Rattle.std.proofs.lemmas.List.Elements.{All-from_get_or}
 use Rattle.std.proofs.lemmas.List.Folds.{list_any-append, list_any_at, list_any_more, list_any_none}
 use Rattle.std.proofs.lemmas.List.Kept.{AllPairs-from_increasing}
@@ -31,7 +33,8 @@ use Rattle.qg_hier.proofs.Agreements.{member_is_below}
 use Rattle.qg_hier.proofs.Order.{has_end, has_filter, sorted_end}
 use Rattle.qg_direct.specs.Above.{AreMemberships, ArePlaces}
 
-pub there_number : (groups : List ℕ) (place group : ℕ) → slice_get groups place ≡ Some group → has_number group groups ≡ true
+pub there_number : (groups : List ℕ) (place group : ℕ) → slice_get groups place ≡ Some group
+    → has_number group groups ≡ true
 there_number groups place group at =
     list_any_at (λ number. number == group) groups place 0 (slice_get_within groups place group at)
     (eq-eqb (get_or groups place 0) group (get_or_from_slice_get groups place group 0 at))
@@ -136,7 +139,8 @@ module _ (groups : List ℕ) (up : IsStrictlyIncreasing groups) where
         has place group at =
             let differ =
             ne_eqb (get_or above i 0) group
-            (λ is. true≢false (sym (there_number groups place group at) ∙ ap (λ n. has_number n groups) (sym is) ∙ absent))
+            (λ is. true≢false (sym (there_number groups place group at) ∙ ap (λ n. has_number n groups) (sym is)
+            ∙ absent))
             in
             are.has place group at
             ∙ sym (list_any_more (λ number. number == group) above i 0 short
@@ -255,7 +259,8 @@ places_lone hierarchy sub number groups places same none cause =
 -- ---- one subvolume after the other
 
 -- the first subvolumes' groups are told
-pub record MembershipsFirst (roots : List (ℕ × ℕ)) (hierarchy : Hierarchy) (n : ℕ) (above : List (List ℕ)) : Type 0 where
+pub record MembershipsFirst (roots : List (ℕ × ℕ)) (hierarchy : Hierarchy) (n : ℕ) (above : List (List ℕ)) : Type
+    0 where
   pub most : n ≤ length roots
   pub same : length above ≡ n
   pub each : (index : ℕ) (root : ℕ × ℕ) → index < n → slice_get roots index ≡ Some root

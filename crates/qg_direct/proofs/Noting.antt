@@ -1,5 +1,6 @@
 -- Indices of nodes in the lists of the extents that they name, one extent and one node after the other.
-use Rattle.std.proofs.Common.{◌≡◌, ◌≢◌, ℕ, ◌+◌, ◌<◌, ◌≤◌, List, [], ◌∷◌, ◌++◌, length, map, take, get_or, set, Some, None, Result, Ok, Err}
+use Rattle.std.proofs.Common.{◌≡◌, ◌≢◌, ℕ, ◌+◌, ◌<◌, ◌≤◌, List, [], ◌∷◌, ◌++◌, length, map, take, get_or, set, Some}
+use Rattle.std.proofs.Common.{None, Result, Ok, Err}
 use Rattle.std.proofs.Common.{IfOk, sym, ap, subst, ◌∙◌, arith, ◌⊎◌, inl, inr, ◌↔◌}
 use Rattle.std.specs.Prelude.{slice_get}
 use Rattle.std.specs.List.{Contains}
@@ -89,7 +90,8 @@ module _ (extents : List Element) (named : List ℕ) (i address : ℕ) (short : 
       where
         into : Contains (list_at mid place) other ⊎ ((at ≡ place) × (index ≡ other))
             → Contains (list_at old place) other ⊎ (Contains (take (i + 1) named) extent.address × (index ≡ other))
-        into (inl has) = earlier other extent (Contains (list_at old place) other) ((noted place other extent there).0 has)
+        into (inl has) = earlier other extent (Contains (list_at old place) other)
+            ((noted place other extent there).0 has)
         into (inr here) =
             let one = at_one extents place stands.0 extent (at_along extents at place stands.0 here.0 stands.1) there in
             inr (
@@ -103,7 +105,8 @@ module _ (extents : List Element) (named : List ℕ) (i address : ℕ) (short : 
         by (inl before) same =
             push_keeps mid at index inside place other ((noted place other extent there).1 (inr (before, same)))
         by (inr now) same =
-            let one = one_place (λ (e : Element). e.address) extents up at place stands.0 extent stands.1 there (stands.2 ∙ now) in
+            let one = one_place (λ (e : Element). e.address) extents up at place stands.0 extent stands.1 there
+            (stands.2 ∙ now) in
             subst (λ k. Contains (list_at new k) other) one
             (subst (Contains (list_at new at)) same (push_there mid at index inside))
 

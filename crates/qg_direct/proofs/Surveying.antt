@@ -9,7 +9,8 @@ use Rattle.std.specs.declared.cmp.Ordering.TheVariants.{Less}
 use Rattle.std.proofs.lemmas.Bool.Decides.{nat_tests}
 use Rattle.std.proofs.lemmas.Bool.{eq-eqb, eqb-true, or_cases, or_left, or_right, both_ways}
 use Rattle.std.proofs.lemmas.List.{length-map}
-use Rattle.std.proofs.lemmas.List.Elements.{All-contains, All-from_recursion, Contains-append_cases, Contains-append_left, Contains-append_right}
+use Rattle.std.proofs.lemmas.List.Elements.{All-contains, All-from_recursion, Contains-append_cases}
+use Rattle.std.proofs.lemmas.List.Elements.{Contains-append_left, Contains-append_right}
 use Rattle.std.proofs.lemmas.Map.Keys.{IsDistinct-tail, sorted_from_strictly_increasing, sorted_head, sorted_tail}
 use Rattle.std.proofs.lemmas.Option.{same_Some, none-some, slice_get_within}
 use Rattle.qg_num.specs.declared.counters.Counters.{Counters}
@@ -79,7 +80,8 @@ one_among (x ∷ xs) address is = elim (or_cases (x.address == address) (is_amon
 less-later : (x : ℕ) (xs : List ℕ) (y : ℕ) → IsStrictlySortedBy nat_cmp (x ∷ xs) → Contains xs y → x < y
 less-later x xs y sorted has =
     is_less x y
-    (All-contains (λ z. nat_cmp x z ≡ Less) xs y (All-from_recursion (λ z. nat_cmp x z ≡ Less) xs (sorted_head nat_cmp x xs sorted)) has)
+    (All-contains (λ z. nat_cmp x z ≡ Less) xs y
+    (All-from_recursion (λ z. nat_cmp x z ≡ Less) xs (sorted_head nat_cmp x xs sorted)) has)
   where
     is_less : (a b : ℕ) → nat_cmp a b ≡ Less → a < b
     is_less a b less = grind (arith, nat_tests)
@@ -120,7 +122,8 @@ each_portion layout rows [] (portion ∷ portions) same each = absurd (omega (ar
 each_portion layout rows (element ∷ elements) [] same each = absurd (omega (arith, same))
 each_portion layout rows (element ∷ elements) (portion ∷ portions) same each = (
   each 0 element portion refl refl,
-  each_portion layout rows elements portions (omega (arith, same)) (λ place e p at there. each (suc place) e p at there),
+  each_portion layout rows elements portions (omega (arith, same))
+      (λ place e p at there. each (suc place) e p at there),
 )
 
 both_portions : (layout : Layout) (rows : List (List ℕ)) (elements others : List Element) (portions more : List Portion)
@@ -205,7 +208,8 @@ module _ (layout : Layout) (roots : List (ℕ × ℕ)) (nodes : List Surveyed) (
   own_cases node has y in' =
       let p = placed_in node has in
       let list =
-      subst (λ (list : List Element). Contains list y) (own_is layout roots links are.links up node.linked.address p.0 p.1) in'
+      subst (λ (list : List Element). Contains list y)
+      (own_is layout roots links are.links up node.linked.address p.0 p.1) in'
       in
       by p list
     where
@@ -213,19 +217,20 @@ module _ (layout : Layout) (roots : List (ℕ × ℕ)) (nodes : List Surveyed) (
           × (node.extents ≡ map (λ (piece : Piece). piece.extent) (pieces_of placed.node)))
           → Contains (node_element layout.nodesize node.linked.address ∷ map extent_of (pieces_of p.0.node)) y
           → (element_of node ≡ y) ⊎ (Contains (layout_extents layout) y × Contains node.extents y.address)
-      by p list = elim (contains_cases (node_element layout.nodesize node.linked.address) (map extent_of (pieces_of p.0.node)) y list) [
-        | inl is ↦ inl (ap (λ n. node_element n node.linked.address) are.bytes ∙ is)
-        | inr later ↦
-            let piece = one_mapped extent_of (pieces_of p.0.node) y later in
-            inr (
-              contains_flat_map (λ (entry : ℕ × Placed). map extent_of (pieces_of entry.1.node)) layout.nodes
-                  (node.linked.address, p.0) y (entry_of_value node.linked.address p.0 layout.nodes p.1) later,
-              subst (λ (list : List ℕ). Contains list y.address) (sym p.2)
-                  (subst (Contains (map (λ (q : Piece). q.extent) (pieces_of p.0.node)))
-                  (ap (λ (e : Element). e.address) piece.2)
-                  (contains_map (λ (q : Piece). q.extent) (pieces_of p.0.node) piece.0 piece.1)),
-            )
-      ]
+      by p list = elim (contains_cases (node_element layout.nodesize node.linked.address)
+          (map extent_of (pieces_of p.0.node)) y list) [
+            | inl is ↦ inl (ap (λ n. node_element n node.linked.address) are.bytes ∙ is)
+            | inr later ↦
+                let piece = one_mapped extent_of (pieces_of p.0.node) y later in
+                inr (
+                  contains_flat_map (λ (entry : ℕ × Placed). map extent_of (pieces_of entry.1.node)) layout.nodes
+                      (node.linked.address, p.0) y (entry_of_value node.linked.address p.0 layout.nodes p.1) later,
+                  subst (λ (list : List ℕ). Contains list y.address) (sym p.2)
+                      (subst (Contains (map (λ (q : Piece). q.extent) (pieces_of p.0.node)))
+                      (ap (λ (e : Element). e.address) piece.2)
+                      (contains_map (λ (q : Piece). q.extent) (pieces_of p.0.node) piece.0 piece.1)),
+                )
+          ]
 
   own_self : (node : Surveyed) → Contains nodes node
       → Contains (own node.linked.address) (node_element layout.nodesize node.linked.address)
@@ -354,30 +359,32 @@ module _ (layout : Layout) (roots : List (ℕ × ℕ)) (nodes : List Surveyed) (
 
       tells : (index : ℕ) (root : ℕ × ℕ) → slice_get layout.roots index ≡ Some root
           → is_in rows index set ≡ reaches layout root.0 node.linked.address
-      tells index root there = same_truth (is_in rows index set) (reaches layout root.0 node.linked.address) into back where
-        into : is_in rows index set ≡ true → reaches layout root.0 node.linked.address ≡ true
-        into is =
-            let member : HasMember (row_of rows set) index = eqb-true _ _ is in
-            reaches_own index root node.linked (node_element layout.nodesize node.linked.address) there
-            ((told.tells place index node.linked link_at).0
-            (subst (λ (row : List ℕ). HasMember row index) (sym row_is) member)) (own_self node has)
+      tells index root there = same_truth (is_in rows index set) (reaches layout root.0 node.linked.address) into
+          back where
+            into : is_in rows index set ≡ true → reaches layout root.0 node.linked.address ≡ true
+            into is =
+                let member : HasMember (row_of rows set) index = eqb-true _ _ is in
+                reaches_own index root node.linked (node_element layout.nodesize node.linked.address) there
+                ((told.tells place index node.linked link_at).0
+                (subst (λ (row : List ℕ). HasMember row index) (sym row_is) member)) (own_self node has)
 
-        is_reached : (other : Surveyed) → Contains nodes other → IsReachedFrom links roots index other.linked
-            → other.linked.address ≡ node.linked.address → is_in rows index set ≡ true
-        is_reached other has' reached' same =
-            let one = one_link other.linked node.linked (linked_in other has') (linked_in node has) same in
-            let member =
-            subst (λ (row : List ℕ). HasMember row index) row_is
-            ((told.tells place index node.linked link_at).1 (subst (IsReachedFrom links roots index) one reached')) in
-            eq-eqb _ _ member
+            is_reached : (other : Surveyed) → Contains nodes other → IsReachedFrom links roots index other.linked
+                → other.linked.address ≡ node.linked.address → is_in rows index set ≡ true
+            is_reached other has' reached' same =
+                let one = one_link other.linked node.linked (linked_in other has') (linked_in node has) same in
+                let member =
+                subst (λ (row : List ℕ). HasMember row index) row_is
+                ((told.tells place index node.linked link_at).1
+                (subst (IsReachedFrom links roots index) one reached')) in
+                eq-eqb _ _ member
 
-        back : reaches layout root.0 node.linked.address ≡ true → is_in rows index set ≡ true
-        back is =
-            let one = own_reaches index root node.linked.address there is in
-            elim (own_cases one.0 one.2 one.1 one.4) [
-              | inl same ↦ is_reached one.0 one.2 one.3 (ap (λ (e : Element). e.address) same ∙ one.5)
-              | inr named ↦ absurd (elsewhere node.linked (linked_in node has) one.1 named.0 one.5)
-            ]
+            back : reaches layout root.0 node.linked.address ≡ true → is_in rows index set ≡ true
+            back is =
+                let one = own_reaches index root node.linked.address there is in
+                elim (own_cases one.0 one.2 one.1 one.4) [
+                  | inl same ↦ is_reached one.0 one.2 one.3 (ap (λ (e : Element). e.address) same ∙ one.5)
+                  | inr named ↦ absurd (elsewhere node.linked (linked_in node has) one.1 named.0 one.5)
+                ]
 
     module _ (namers : List (List ℕ)) (are_namers : AreNamers nodes extents namers) where
       extent_portion : (place : ℕ) (extent : Element) (portion : Portion) → slice_get extents place ≡ Some extent
@@ -389,7 +396,8 @@ module _ (layout : Layout) (roots : List (ℕ × ℕ)) (nodes : List Surveyed) (
 
         tells : (index : ℕ) (root : ℕ × ℕ) → slice_get layout.roots index ≡ Some root
             → is_in rows index portion.set ≡ reaches layout root.0 extent.address
-        tells index root there = same_truth (is_in rows index portion.set) (reaches layout root.0 extent.address) into back
+        tells index root there = same_truth (is_in rows index portion.set) (reaches layout root.0 extent.address) into
+            back
           where
             into : is_in rows index portion.set ≡ true → reaches layout root.0 extent.address ≡ true
             into has =
@@ -401,7 +409,8 @@ module _ (layout : Layout) (roots : List (ℕ × ℕ)) (nodes : List Surveyed) (
                 (mapped_at (λ (s : Surveyed). s.linked) nodes one.0 node.0 node.1) in
                 let y = own_named node.0 (contains_at nodes one.0 node.0 node.1) extent.address node.2 in
                 let there' =
-                reaches_own index root node.0.linked y.0 there (subst (IsReachedFrom links roots index) link one.4) y.1 in
+                reaches_own index root node.0.linked y.0 there (subst (IsReachedFrom links roots index) link one.4)
+                y.1 in
                 subst (λ a. reaches layout root.0 a ≡ true) y.2 there'
 
             back : reaches layout root.0 extent.address ≡ true → is_in rows index portion.set ≡ true
@@ -421,7 +430,8 @@ module _ (layout : Layout) (roots : List (ℕ × ℕ)) (nodes : List Surveyed) (
                       eq-eqb _ _ member
                 ]
 
-      module _ (portions : List Portion) (theirs : AreOfNamers (links_in nodes) roots rows namers extents portions) where
+      module _ (portions : List Portion)
+          (theirs : AreOfNamers (links_in nodes) roots rows namers extents portions) where
         abbrev all : List Portion
         all = portions ++ node_portions nodesize reached.numbers.items
 
@@ -430,7 +440,8 @@ module _ (layout : Layout) (roots : List (ℕ × ℕ)) (nodes : List Surveyed) (
             both_portions layout rows extents (map element_of nodes) portions
             (node_portions nodesize reached.numbers.items)
             (each_portion layout rows extents portions theirs.same
-            (λ place extent portion at there. extent_portion place extent portion at (theirs.each place extent portion at there)))
+            (λ place extent portion at there. extent_portion place extent portion at
+            (theirs.each place extent portion at there)))
             (each_portion layout rows (map element_of nodes) (node_portions nodesize reached.numbers.items) long
             (λ place element portion at there.
             let node = at_mapped element_of nodes place element at in
@@ -448,7 +459,8 @@ module _ (layout : Layout) (roots : List (ℕ × ℕ)) (nodes : List Surveyed) (
                 ∙ sym (length-map nodes element_of)
 
         -- whether a subvolume is a member of a group, by its index
-        module _ (hierarchy : Hierarchy) (above : List (List ℕ)) (memberships : AreMemberships roots hierarchy above) where
+        module _ (hierarchy : Hierarchy) (above : List (List ℕ))
+            (memberships : AreMemberships roots hierarchy above) where
           is_above-is : (place group : ℕ) → slice_get hierarchy.groups place ≡ Some group → (i : ℕ)
               → i < length layout.roots
               → is_above above place i ≡ is_member hierarchy group (number_at layout.roots i)
@@ -459,7 +471,8 @@ module _ (layout : Layout) (roots : List (ℕ × ℕ)) (nodes : List Surveyed) (
 
           pub groups_direct : (counters : List Counters)
               → ((place : ℕ) → place < length hierarchy.groups → slice_get counters place
-              ≡ Some (counted_for rows (length above) (portions ++ node_portions nodesize reached.numbers.items) (is_above above place)))
+              ≡ Some (counted_for rows (length above) (portions ++ node_portions nodesize reached.numbers.items)
+              (is_above above place)))
               → AreGroupCounts layout hierarchy counters
           groups_direct counters each place group at =
               let same = memberships.same ∙ ap (λ (list : List (ℕ × ℕ)). length list) are.links.roots in

@@ -73,7 +73,12 @@ module _ (links : List Linked) (roots : List (ℕ × ℕ)) (old : Reached) (told
     back : ReachesOne links roots places subvolume → HasMember (row_of rows set) subvolume
     back one =
         (union.members subvolume).1
-        (inr (of_place one.0, contains_map of_place places one.0 one.2, (told.tells one.0 subvolume one.1 one.3).1 one.4))
+        (inr (
+          of_place one.0,
+          contains_map of_place places one.0 one.2,
+          (told.tells one.0 subvolume one.1 one.3).1
+              one.4,
+        ))
 
 -- ---- as sets grow
 

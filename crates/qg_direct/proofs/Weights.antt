@@ -1,5 +1,6 @@
 -- The bytes of portions, and their sets' numbers.
-use Rattle.std.proofs.Common.{◌≡◌, ℕ, suc, ◌+◌, ◌*◌, ◌<◌, true, List, [], ◌∷◌, ◌++◌, length, map, take, get_or, Some, refl, sym, ap}
+use Rattle.std.proofs.Common.{◌≡◌, ℕ, suc, ◌+◌, ◌*◌, ◌<◌, true, List, [], ◌∷◌, ◌++◌, length, map, take, get_or, Some}
+use Rattle.std.proofs.Common.{refl, sym, ap}
 use Rattle.std.proofs.Common.{subst, ◌∙◌, arith, Result, Ok, Err, IfOk}
 use Rattle.std.specs.Prelude.{slice_get}
 use Rattle.std.specs.List.{All}
@@ -63,7 +64,8 @@ extents_bytes [] [] same each = bytes_nil
 extents_bytes [] (portion ∷ portions) same each = absurd (omega (arith, same))
 extents_bytes (extent ∷ extents) [] same each = absurd (omega (arith, same))
 extents_bytes (extent ∷ extents) (portion ∷ portions) same each =
-    let rest = extents_bytes extents portions (omega (arith, same)) (λ place e p at there. each (suc place) e p at there)
+    let rest = extents_bytes extents portions (omega (arith, same))
+    (λ place e p at there. each (suc place) e p at there)
     in
     let here : portion.bytes ≡ extent.bytes = each 0 extent portion refl refl in
     let sum = sum_by-cons (λ (e : Element). e.bytes) extent extents in
@@ -86,7 +88,8 @@ module _ (links : List Linked) (roots : List (ℕ × ℕ)) (rows : List (List �
       ≡ nodesize * length sets + bytes_of extents
   all_bytes =
       let first =
-      extents_bytes extents portions are.same (λ place extent portion at there. (are.each place extent portion at there).bytes)
+      extents_bytes extents portions are.same
+      (λ place extent portion at there. (are.each place extent portion at there).bytes)
       in
       omega (arith, bytes_append portions (node_portions nodesize sets), first, nodes_bytes nodesize sets)
 
@@ -119,7 +122,8 @@ nodes_more nodesize sets i short =
       told : ℕ → Portion
       told set = record { bytes = nodesize; set = set }
 
-pub pushed_more : (nodesize : ℕ) (sets : List ℕ) (i : ℕ) → i < length sets → (before now : List Portion) (portion : Portion)
+pub pushed_more : (nodesize : ℕ) (sets : List ℕ) (i : ℕ) → i < length sets
+    → (before now : List Portion) (portion : Portion)
     → now ≡ before ++ node_portions nodesize (take i sets) → portion.bytes ≡ nodesize → portion.set ≡ get_or sets i 0
     → now ++ portion ∷ [] ≡ before ++ node_portions nodesize (take (i + 1) sets)
 pushed_more nodesize sets i short before now portion so_far bytes number =
@@ -133,6 +137,7 @@ pushed_more nodesize sets i short before now portion so_far bytes number =
     made n set = record { bytes = n; set = set }
 
 -- what holds of what came holds in other words
-pub came : {A E : Type 0} (P Q : A → Type 0) (result : Result A E) → ((x : A) → P x → Q x) → IfOk result P → IfOk result Q
+pub came : {A E : Type 0} (P Q : A → Type 0) (result : Result A E) → ((x : A) → P x → Q x) → IfOk result P
+    → IfOk result Q
 came P Q (Ok x) turn holds = turn x holds
 came P Q (Err fault) turn holds = tt

@@ -19,7 +19,8 @@ pub record IsOfNodes (links : List Linked) (roots : List (ℕ × ℕ)) (rows : L
     (extent : Element) (portion : Portion) : Type 0 where
   pub bytes : portion.bytes ≡ extent.bytes
   pub inside : portion.set < length rows
-  pub members : (subvolume : ℕ) → HasMember (row_of rows portion.set) subvolume ↔ ReachesOne links roots places subvolume
+  pub members : (subvolume : ℕ) → HasMember (row_of rows portion.set) subvolume
+      ↔ ReachesOne links roots places subvolume
 
 -- so it is of each extent, by the nodes in its list
 pub record AreOfNamers (links : List Linked) (roots : List (ℕ × ℕ)) (rows : List (List ℕ)) (namers : List (List ℕ))

@@ -19,8 +19,8 @@ use qg_image::Element;
 use qg_num::{Address, Counters, NoMemory, RootId};
 use std::alloc::Global;
 
-/// The direct count of each group, in the order of the groups: the bytes of what its members reach, and of what no other
-/// subvolume reaches (btrfs-qgroup(8), "referenced" and "exclusive").
+/// The direct count of each group, in the order of the groups: the bytes of what its members reach, and of what no
+/// other subvolume reaches (btrfs-qgroup(8), "referenced" and "exclusive").
 ///
 /// `nodes` are all that subvolumes reach, ascending by address, of `nodesize` bytes each; `extents` are those that
 /// leaves name, ascending by address. An extent that is named and isn't among those is passed by. The numbers of

@@ -65,8 +65,8 @@ fn note(
     Ok(())
 }
 
-/// The same as [`place_of_extent`]; where a file's pieces follow each other in its extents as in the file, the next place is
-/// the one.
+/// The same as [`place_of_extent`]; where a file's pieces follow each other in its extents as in the file, the next
+/// place is the one.
 fn place_from(extents: &[Element], next: usize, address: Address) -> Option<usize>
     ensures there { IfSome result (λ place. StandsAt (λ extent. extent.address) extents.now address place) }
     ensures absent { IsStrictlyIncreasing (map (λ extent. extent.address) extents.now)

@@ -42,7 +42,8 @@ fn portion_of(
 ) -> Result<Portion, NoMemory>
     ensures bytes { IfOk result (λ portion. portion.bytes ≡ extent.now.bytes) }
     ensures union { IfOk result (λ portion. IsUnionOf reached.old.sets.rows.items []
-        (map (λ place. slice_index reached.old.numbers.items place) places.now) reached.new.sets.rows.items portion.set) }
+        (map (λ place. slice_index reached.old.numbers.items place) places.now) reached.new.sets.rows.items
+        portion.set) }
     ensures reach { IfOk result (λ _. (links : List Link) (roots : List (ℕ × ℕ))
         → TellsReach links roots reached.old → TellsReach links roots reached.new) }
 {

@@ -15,7 +15,8 @@ use qg_node::{Item, Node};
 use qg_num::{Address, NoMemory, Piece, Sequence};
 use std::alloc::{AllocError, Global};
 
-/// A node that subvolumes reach, and where the extents begin that it names (this project's own). Addresses are in bytes.
+/// A node that subvolumes reach, and where the extents begin that it names (this project's own). Addresses are in
+/// bytes.
 #[derive(Debug, Drop)]
 pub struct Surveyed {
     /// What the rule `home` needs of it.

@@ -19,14 +19,19 @@ Torn-overlay at n bytes old fits = record {
 
 -- so does one that failed
 pub Torn-torn : (at n : ℕ) (left old : List ℕ) → length left ≤ n → Torn at n old (torn at left old)
-Torn-torn at n [] old fits = record { same = λ place inside apart. refl; no_shorter = omega arith; no_longer = omega arith }
+Torn-torn at n [] old fits = record {
+  same = λ place inside apart. refl;
+  no_shorter = omega arith;
+  no_longer = omega arith;
+}
 Torn-torn at n (byte ∷ bytes) old fits = Torn-overlay at n (byte ∷ bytes) old fits
 
 -- a cut that failed keeps what is in front of its length
 pub Shortened-cut : (len : ℕ) (left old : List ℕ) → Shortened len (length left) old (take len old ++ left)
 Shortened-cut len left old = record {
   same = λ place before inside.
-      get_or_append_left (take len old) left 0 place (omega (arith, length-take len old)) ∙ get_or-take len old place 0 before;
+      get_or_append_left (take len old) left 0 place (omega (arith, length-take len old))
+      ∙ get_or-take len old place 0 before;
   no_shorter = omega (arith, length-append (take len old) left, length-take len old);
   no_longer = omega (arith, length-append (take len old) left, length-take len old);
 }
@@ -42,8 +47,15 @@ Shortened-take len old = record {
 -- nothing that was written needs to be lost
 pub Leaves-content : (events : List Event) → Leaves events (content events)
 Leaves-content [] = refl
-Leaves-content (Wrote at bytes ∷ older) = (content older, Leaves-content older, Torn-overlay at (length bytes) bytes (content older) (omega arith))
-Leaves-content (Tore at asked left ∷ older) = (content older, Leaves-content older, Torn-torn at (max (length asked) (length left)) left (content older) (omega arith))
+Leaves-content (Wrote at bytes ∷ older) =
+    (content older, Leaves-content older, Torn-overlay at (length bytes) bytes (content older) (omega arith))
+Leaves-content (Tore at asked left ∷ older) = (
+  content older,
+  Leaves-content older,
+  Torn-torn at (max (length asked) (length left)) left (content older)
+      (omega arith),
+)
 Leaves-content (Cut len ∷ older) = (content older, Leaves-content older, Shortened-take len (content older))
-Leaves-content (CutShort len left ∷ older) = (content older, Leaves-content older, Shortened-cut len left (content older))
+Leaves-content (CutShort len left ∷ older) =
+    (content older, Leaves-content older, Shortened-cut len left (content older))
 Leaves-content (Synced ∷ older) = refl

@@ -1,13 +1,14 @@
 -- What the calls of a disk in memory did to it (this project's own).
-use Rattle.std.specs.Prelude.{◌≡◌, Option, Some, unwrap_or, ℕ, ◌+◌, ◌/◌, ◌<◌, ◌^◌, Bool, true, false, List, [], ◌∷◌, length, take, fold}
+use Rattle.std.specs.Prelude.{◌≡◌, Option, Some, unwrap_or, ℕ, ◌+◌, ◌/◌, ◌<◌, ◌^◌, Bool, true, false, List, [], ◌∷◌}
+use Rattle.std.specs.Prelude.{length, take, fold}
 use Rattle.std.proofs.Common.{ap}
 use Rattle.qg_device.specs.History.{Event, Wrote, Tore, Cut, CutShort, Synced, content}
 use Rattle.qg_disk.specs.declared.call.Request.{Request}
 use Rattle.qg_disk.specs.declared.call.Request.TheVariants as request
 use Rattle.qg_disk.specs.declared.call.Call.{Call}
 
--- the history after one request more, which failed or not: a write that fails leaves the first half of its bytes, a cut that
--- fails leaves nothing behind its length, a read and a sync that fails do nothing
+-- the history after one request more, which failed or not: a write that fails leaves the first half of its bytes, a cut
+-- that fails leaves nothing behind its length, a read and a sync that fails do nothing
 abbrev pub after_request : Request → Bool → List Event → List Event
 after_request (request.Read at count) failed older = older
 after_request (request.Write at bytes) false older = Wrote at bytes ∷ older
@@ -33,7 +34,8 @@ Fits (request.Cut len) = Unit {0}
 Fits request.Sync = Unit {0}
 
 -- they leave as many bytes as the history that is told of them
-pub sized_as_told : (calls : List Call) (events : List Event) → Some (history_of calls) ≡ Some events → size_of calls ≡ length (content events)
+pub sized_as_told : (calls : List Call) (events : List Event) → Some (history_of calls) ≡ Some events
+    → size_of calls ≡ length (content events)
 unfolding history_of size_of
 sized_as_told calls events told =
     ap (λ (history : Option (List Event)). length (content (unwrap_or history []))) told

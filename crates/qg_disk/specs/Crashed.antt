@@ -16,8 +16,8 @@ with_torn Old at left old = old
 with_torn New at left old = torn at left old
 with_torn (Split n) at left old = torn at (take n left) old
 
--- what a cut leaves that left bytes behind its length: all that was there before, or what is in front of the length with these bytes or the
--- first n of them
+-- what a cut leaves that left bytes behind its length: all that was there before, or what is in front of the length
+-- with these bytes or the first n of them
 abbrev pub with_cut : Tear → ℕ → List ℕ → List ℕ → List ℕ
 with_cut Old len left old = old
 with_cut New len left old = take len old ++ left
@@ -31,7 +31,8 @@ with_tear tear (Cut len) old = with_cut tear len [] old
 with_tear tear (CutShort len left) old = with_cut tear len left old
 with_tear tear Synced old = old
 
--- what a crash leaves after these events, the newest first: what the disk held at the last sync, and of each event since then what the tear says
+-- what a crash leaves after these events, the newest first: what the disk held at the last sync, and of each event
+-- since then what the tear says
 abbrev pub crashed : Tear → List Event → List ℕ
 crashed tear [] = []
 crashed tear (Wrote at bytes ∷ older) = with_tear tear (Wrote at bytes) (crashed tear older)

@@ -1,5 +1,6 @@
 -- A disk in memory that fails where it is told to (this project's own).
-use Rattle.std.specs.Prelude.{◌≡◌, ℕ, ◌+◌, Bool, true, false, ◌||◌, nat_lt, ◌==◌, List, [], ◌∷◌, ◌++◌, length, count_by, Option, Some, Result, Ok, Err}
+use Rattle.std.specs.Prelude.{◌≡◌, ℕ, ◌+◌, Bool, true, false, ◌||◌, nat_lt, ◌==◌, List, [], ◌∷◌, ◌++◌, length, count_by}
+use Rattle.std.specs.Prelude.{Option, Some, Result, Ok, Err}
 use Rattle.std.specs.List.{list_any}
 use Rattle.qg_device.specs.History.{Event}
 use Rattle.qg_disk.specs.Call.{history_of, size_of}
@@ -37,10 +38,14 @@ fails_next disk =
 -- the disk once a call was answered
 abbrev pub with_call : Request → Bool → MemoryDisk → MemoryDisk
 with_call request failed disk =
-    record { calls = disk.calls ++ record { request = request; failed = failed } ∷ []; failing = disk.failing; last = disk.last }
+    record {
+      calls = disk.calls ++ record { request = request; failed = failed } ∷ [];
+      failing = disk.failing;
+      last = disk.last;
+    }
 
--- A call is answered by Failed exactly where it is to fail, and recorded with its answer. For want of memory it is not made: it
--- has no number, and the disk is as it was.
+-- A call is answered by Failed exactly where it is to fail, and recorded with its answer. For want of memory it is not
+-- made: it has no number, and the disk is as it was.
 abbrev pub Answers : MemoryDisk → MemoryDisk → Request → Result Unit DiskFault → Type 0
 Answers old new request (Ok _) = (fails_next old ≡ false) × (new ≡ with_call request false old)
 Answers old new request (Err Failed) = (fails_next old ≡ true) × (new ≡ with_call request true old)

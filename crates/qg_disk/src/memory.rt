@@ -1,7 +1,8 @@
 // A disk in memory that fails where it is told to, and keeps a record of its calls.
 #![tactic(auto, unfolding(crate::specs::Call::history_of, crate::specs::Call::size_of, crate::specs::MemDisk::fails_next))]
 
-ghost use Rattle.std.specs.Prelude.{◌≡◌, ℕ, ◌+◌, ◌-◌, ◌^◌, ◌<◌, ◌≤◌, List, [], length, max, take, Some, IfOk, OnOk, IsErrOf};
+ghost use Rattle.std.specs.Prelude.{◌≡◌, ℕ, ◌+◌, ◌-◌, ◌^◌, ◌<◌, ◌≤◌, List, [], length, max, take, Some, IfOk, OnOk};
+ghost use Rattle.std.specs.Prelude.{IsErrOf};
 ghost use Rattle.qg_device.specs.Cause.{HasCause};
 ghost use Rattle.qg_device.specs.History.{Event, content, range};
 ghost use Rattle.qg_device.specs.Crash.{Leaves};

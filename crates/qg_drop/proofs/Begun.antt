@@ -1,5 +1,6 @@
 -- The subvolume's tree, from its root down, is the first part that is dropped.
-use Rattle.std.proofs.Common.{◌≡◌, ℕ, zero, suc, ◌-◌, ◌≤◌, Bool, true, List, [], ◌∷◌, map, Option, Some, None, arith, refl, sym, ap, subst, ◌∙◌}
+use Rattle.std.proofs.Common.{◌≡◌, ℕ, zero, suc, ◌-◌, ◌≤◌, Bool, true, List, [], ◌∷◌, map, Option, Some, None, arith}
+use Rattle.std.proofs.Common.{refl, sym, ap, subst, ◌∙◌}
 use Rattle.std.specs.Prelude.{Ok, Err, Result}
 use Rattle.std.proofs.lemmas.Bool.{eq-eqb}
 use Rattle.qg_device.specs.History.{Event}
@@ -15,7 +16,8 @@ use Rattle.qg_image.specs.State.{Placed, State, Subvolume, next_generation, node
 use Rattle.qg_image.specs.declared.expected.Expected.{Expected}
 use Rattle.qg_image.specs.declared.failure.Failure.{Failure}
 use Rattle.qg_image.specs.declared.tree.Tree.TheVariants.{Files}
-use Rattle.qg_image.specs.Walk.{deepest, found_failure, is_told, node_failure, pointers_failure, root_expected, walk_failure, way_failure}
+use Rattle.qg_image.specs.Walk.{deepest, found_failure, is_told, node_failure, pointers_failure, root_expected}
+use Rattle.qg_image.specs.Walk.{walk_failure, way_failure}
 use Rattle.qg_machine.specs.Layout.{IsReached, IsTreeOf, found_in, super_to_come}
 use Rattle.qg_walk.specs.Standing.{expected_below}
 use Rattle.qg_walk.proofs.Failures.{neither, none_of_two}

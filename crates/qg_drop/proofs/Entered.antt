@@ -1,9 +1,11 @@
 -- Where a drop begins: a state is held, with the nodes of the subvolume's tree open.
-use Rattle.std.proofs.Common.{◌≡◌, ◌≢◌, ℕ, ◌+◌, ◌<◌, Bool, true, false, List, [], ◌∷◌, length, map, Option, Some, None, arith, refl, sym, ap, subst, ◌∙◌, inl, inr}
+use Rattle.std.proofs.Common.{◌≡◌, ◌≢◌, ℕ, ◌+◌, ◌<◌, Bool, true, false, List, [], ◌∷◌, length, map, Option, Some, None}
+use Rattle.std.proofs.Common.{arith, refl, sym, ap, subst, ◌∙◌, inl, inr}
 use Rattle.std.specs.Prelude.{◌==◌, ◌||◌, not, is_some, if◌then◌else◌}
 use Rattle.std.specs.List.{AllByRecursion, Contains, filter, flat_map}
 use Rattle.std.specs.Option.{option_map}
-use Rattle.std.proofs.lemmas.Bool.{cases_Bool, cond-false, cond-true, eq-eqb, eqb-true, or_cases, or_left, or_right, true≢false}
+use Rattle.std.proofs.lemmas.Bool.{cases_Bool, cond-false, cond-true, eq-eqb, eqb-true, or_cases, or_left, or_right}
+use Rattle.std.proofs.lemmas.Bool.{true≢false}
 use Rattle.std.proofs.lemmas.Bool.Decides.{eqb_tells}
 use Rattle.std.proofs.lemmas.Option.{same_Some}
 use Rattle.qg_device.specs.History.{Event}
@@ -16,7 +18,8 @@ use Rattle.qg_super.specs.Places.{is_run, is_slot}
 use Rattle.qg_image.specs.Table.{has_key, value_at, without_key}
 use Rattle.qg_image.specs.declared.element.Element.{Element}
 use Rattle.qg_image.specs.Owed.{Owing, layout_extents}
-use Rattle.qg_image.specs.Reach.{extent_of, is_among, is_reached, level_of, own_elements, pieces_of, reach, reach_of, reach_of_root, reach_under, reaches}
+use Rattle.qg_image.specs.Reach.{extent_of, is_among, is_reached, level_of, own_elements, pieces_of, reach, reach_of}
+use Rattle.qg_image.specs.Reach.{reach_of_root, reach_under, reaches}
 use Rattle.qg_image.specs.Space.{present_extents}
 use Rattle.qg_image.specs.State.{Placed, State, Subvolume, layout_of, next_generation, node_at}
 use Rattle.qg_image.proofs.Contained.{contains_here, contains_later}
@@ -46,11 +49,13 @@ use Rattle.qg_forest.proofs.Below.{met-reached, reached-met}
 use Rattle.qg_forest.proofs.Changed.{times-changed, times-kept, value-kept}
 use Rattle.qg_forest.proofs.Extents.{among-one, apart-held, extents-whole}
 use Rattle.qg_forest.proofs.Homes.{owner-reaches}
-use Rattle.qg_forest.proofs.Meeting.{IsMet, each-there, met-child, met-reached-itself, met-there, placed-there, root-valued}
+use Rattle.qg_forest.proofs.Meeting.{IsMet, each-there, met-child, met-reached-itself, met-there, placed-there}
+use Rattle.qg_forest.proofs.Meeting.{root-valued}
 use Rattle.qg_forest.proofs.Owing.{node_owes, owed-parts, root_owes, times-mapped}
 use Rattle.qg_forest.proofs.Referring.{extents-named}
 use Rattle.qg_forest.proofs.Snapshotted.{root_entry}
-use Rattle.qg_drop.specs.Dropping.{HoldsPart, HoldsPartly, IsClosed, is_below, layout_partly, nodes_partly, placed_partly}
+use Rattle.qg_drop.specs.Dropping.{HoldsPart, HoldsPartly, IsClosed, is_below, layout_partly, nodes_partly}
+use Rattle.qg_drop.specs.Dropping.{placed_partly}
 use Rattle.qg_drop.proofs.Opened.{key_of, node_of}
 use Rattle.qg_drop.proofs.Parted.{same_reached}
 use Rattle.qg_drop.proofs.Partly.{all_kept}

@@ -52,7 +52,8 @@ known_before : (had : Option What) (what : What) → option_or had None ≡ Some
 known_before None what is = is
 known_before (Some other) what is = is
 
-module _ (old new : TreeRefs) (exchange : Exchange) (exchanged : IsExchanged old exchange new) (fits : new.misfit ≡ None)
+module _ (old new : TreeRefs) (exchange : Exchange) (exchanged : IsExchanged old exchange new)
+    (fits : new.misfit ≡ None)
   where
     none_met : exchanged.misfit ≡ None
     none_met =

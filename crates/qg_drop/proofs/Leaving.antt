@@ -1,5 +1,6 @@
 -- What a node's step and its children's steps leave is what a part's step leaves.
-use Rattle.std.proofs.Common.{◌≡◌, ℕ, suc, ◌+◌, ◌<◌, Bool, true, List, [], ◌∷◌, map, Option, Some, arith, refl, sym, ap, subst, ◌∙◌, inl, inr}
+use Rattle.std.proofs.Common.{◌≡◌, ℕ, suc, ◌+◌, ◌<◌, Bool, true, List, [], ◌∷◌, map, Option, Some, arith, refl, sym, ap}
+use Rattle.std.proofs.Common.{subst, ◌∙◌, inl, inr}
 use Rattle.std.specs.Prelude.{◌==◌, ◌&&◌, not, slice_get}
 use Rattle.std.specs.List.{flat_map, sum_by}
 use Rattle.std.proofs.lemmas.Bool.{cases_Bool, eq-eqb, ne_eqb}
@@ -30,7 +31,8 @@ use Rattle.qg_descent.proofs.BranchFrames.{reach-top}
 use Rattle.qg_tree_refs.specs.declared.tree_refs.TreeRefs.{TreeRefs}
 use Rattle.qg_forest.proofs.Extents.{some-of}
 use Rattle.qg_drop.specs.declared.child.Child.{Child}
-use Rattle.qg_drop.specs.Dropping.{HoldsPartly, IsPart, children_told, is_below, parts_reached, without_part, without_parts}
+use Rattle.qg_drop.specs.Dropping.{HoldsPartly, IsPart, children_told, is_below, parts_reached, without_part}
+use Rattle.qg_drop.specs.Dropping.{without_parts}
 use Rattle.qg_drop.proofs.Again.{holds-again}
 use Rattle.qg_drop.proofs.Among.{among-some, nodes_among}
 use Rattle.qg_drop.proofs.Dropped.{count-inner, count-pointers, parts-sum, told-places, without-inner}

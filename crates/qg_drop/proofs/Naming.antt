@@ -1,5 +1,6 @@
 -- Extents that a node refers to, one after the other, and those of them that have no reference.
-use Rattle.std.proofs.Common.{◌≡◌, ◌≢◌, ℕ, get_or, take, length, ◌+◌, ◌<◌, ◌*◌, ◌/◌, Bool, true, false, List, [], ◌∷◌, ◌++◌, Option, Some, None, arith, refl, sym, ap, subst, ◌∙◌}
+use Rattle.std.proofs.Common.{◌≡◌, ◌≢◌, ℕ, get_or, take, length, ◌+◌, ◌<◌, ◌*◌, ◌/◌, Bool, true, false, List, [], ◌∷◌}
+use Rattle.std.proofs.Common.{◌++◌, Option, Some, None, arith, refl, sym, ap, subst, ◌∙◌}
 use Rattle.std.specs.Prelude.{◌==◌, if◌then◌else◌, option_to_list}
 use Rattle.std.specs.List.{All, Contains, cons_option}
 use Rattle.std.specs.Option.{option_and_then}

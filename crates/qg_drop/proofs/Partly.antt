@@ -1,5 +1,6 @@
 -- The layout while a subvolume's tree is dropped: its nodes, who owes what in it, where a node has a reference left.
-use Rattle.std.proofs.Common.{◌≡◌, ℕ, ◌<◌, Bool, true, false, List, [], ◌∷◌, length, map, Option, Some, None, refl, sym, ap, subst, ◌∙◌, ◌⊎◌, inl, inr}
+use Rattle.std.proofs.Common.{◌≡◌, ℕ, ◌<◌, Bool, true, false, List, [], ◌∷◌, length, map, Option, Some, None, refl, sym}
+use Rattle.std.proofs.Common.{ap, subst, ◌∙◌, ◌⊎◌, inl, inr}
 use Rattle.std.specs.Prelude.{◌||◌, ◌==◌, not, if◌then◌else◌}
 use Rattle.std.specs.List.{AllByRecursion, Contains, filter}
 use Rattle.std.specs.List.Sorted.{IsStrictlyIncreasing}
@@ -28,8 +29,10 @@ use Rattle.qg_extents.specs.Table.{book_of}
 use Rattle.qg_tree_refs.specs.declared.tree_refs.TreeRefs.{TreeRefs}
 use Rattle.qg_tree_refs.specs.Following.{references_to}
 use Rattle.qg_forest.proofs.Changed.{value-each, value-kept}
-use Rattle.qg_forest.proofs.Meeting.{IsMet, each-there, is-reached-met, met-back, met-child, met-reached-itself, met-there, placed-there, root-met}
-use Rattle.qg_forest.proofs.Referring.{OwesChild, OwesRoot, OwesRun, child-counted, children_of, extents-named, named_by, owed-referred, referred-owed, root-counted}
+use Rattle.qg_forest.proofs.Meeting.{IsMet, each-there, is-reached-met, met-back, met-child, met-reached-itself}
+use Rattle.qg_forest.proofs.Meeting.{met-there, placed-there, root-met}
+use Rattle.qg_forest.proofs.Referring.{OwesChild, OwesRoot, OwesRun, child-counted, children_of, extents-named}
+use Rattle.qg_forest.proofs.Referring.{named_by, owed-referred, referred-owed, root-counted}
 use Rattle.qg_forest.proofs.Snapshotted.{root_entry}
 use Rattle.qg_drop.specs.Dropping.{HoldsPartly, IsUnder, layout_partly, nodes_partly, placed_partly}
 

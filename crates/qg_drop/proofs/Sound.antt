@@ -1,5 +1,6 @@
 -- What a node that is parted with owes is there, and its children may get shared references in place of keyed ones.
-use Rattle.std.proofs.Common.{◌≡◌, ◌≢◌, ℕ, ◌+◌, ◌<◌, ◌≤◌, Bool, true, false, List, get_or, map, Option, Some, None, arith, refl, sym, ap, subst, ◌∙◌, inl, inr}
+use Rattle.std.proofs.Common.{◌≡◌, ◌≢◌, ℕ, ◌+◌, ◌<◌, ◌≤◌, Bool, true, false, List, get_or, map, Option, Some, None}
+use Rattle.std.proofs.Common.{arith, refl, sym, ap, subst, ◌∙◌, inl, inr}
 use Rattle.std.specs.Prelude.{◌&&◌, ◌==◌, not, is_some, nat_lt, IsTrue, if◌then◌else◌}
 use Rattle.std.specs.List.{All, Contains, filter, flat_map}
 use Rattle.std.specs.Option.{option_and_then, option_map}
@@ -43,7 +44,8 @@ use Rattle.qg_forest.proofs.Meeting.{each-there}
 use Rattle.qg_forest.proofs.Referring.{children_of, counted-times, one_filtered, owed-leads}
 use Rattle.qg_forest.proofs.Tables.{times-member}
 use Rattle.qg_drop.specs.Dropping.{HoldsPartly, extent_of_what, extents_known, layout_partly, nodes_partly}
-use Rattle.qg_drop.proofs.Partly.{entry-now, its-address, kept-entry, kept-value, known-referred, now, now-node, now-waiting}
+use Rattle.qg_drop.proofs.Partly.{entry-now, its-address, kept-entry, kept-value, known-referred, now, now-node}
+use Rattle.qg_drop.proofs.Partly.{now-waiting}
 use Rattle.qg_drop.proofs.Sharing.{owed-parent, owing-found, parent_of, shared-blocks, shared-few}
 use Rattle.qg_drop.proofs.Stepped.{named-has}
 

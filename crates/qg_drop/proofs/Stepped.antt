@@ -1,9 +1,11 @@
 -- What nodes, a disk and a book hold after one node's step of a drop.
-use Rattle.std.proofs.Common.{◌≡◌, ◌≢◌, ℕ, ◌<◌, Bool, true, false, List, map, Option, Some, None, arith, refl, sym, ap, subst, ◌∙◌, ◌⊎◌, inl, inr}
+use Rattle.std.proofs.Common.{◌≡◌, ◌≢◌, ℕ, ◌<◌, Bool, true, false, List, map, Option, Some, None, arith, refl, sym, ap}
+use Rattle.std.proofs.Common.{subst, ◌∙◌, ◌⊎◌, inl, inr}
 use Rattle.std.specs.Prelude.{◌&&◌, ◌||◌, ◌==◌, ◌↔◌, not, is_some, IsSome, IsTrue, if◌then◌else◌}
 use Rattle.std.specs.List.{Contains}
 use Rattle.std.specs.Option.{option_and_then, option_map}
-use Rattle.std.proofs.lemmas.Bool.{and_parts, cases_Bool, cond-false, cond-true, eq-eqb, eqb-false, eqb-true, ne_eqb, or_cases, or_left, or_right, true≢false}
+use Rattle.std.proofs.lemmas.Bool.{and_parts, cases_Bool, cond-false, cond-true, eq-eqb, eqb-false, eqb-true, ne_eqb}
+use Rattle.std.proofs.lemmas.Bool.{or_cases, or_left, or_right, true≢false}
 use Rattle.std.proofs.lemmas.Bool.Decides.{eqb_tells}
 use Rattle.std.proofs.lemmas.Option.{same_Some}
 use Rattle.qg_device.specs.History.{Event}
@@ -37,10 +39,15 @@ use Rattle.qg_tree_refs.specs.Following.{full_by_leaving, references_to}
 use Rattle.qg_tree_refs.specs.Settled.{what_of}
 use Rattle.qg_forest.specs.Standing.{IsKnownRun}
 use Rattle.qg_forest.proofs.Meeting.{IsMet, met-child}
-use Rattle.qg_forest.proofs.Referring.{OwesChild, OwesRun, children_of, element_owes, extents-named, filtered_one, named-extents, named_by, owed-referred, referred-owed, run-counted}
-use Rattle.qg_drop.specs.Dropping.{HoldsPart, HoldsPartly, IsClosed, IsUnder, extent_of_what, extents_known, layout_partly, nodes_partly, without_references}
-use Rattle.qg_drop.proofs.Partly.{bytes_in, entry-kept, keeps, kept-entry, kept-value, known-referred, met-stays, met-value, node-apart, now, now-node, now-waiting, reached-node, root-stays, trees, value-partly}
-use Rattle.qg_drop.proofs.Parted.{agrees-then, but, but_here, but_past, full-before, full-then, kept-then, known-before, reached-some, some-reached}
+use Rattle.qg_forest.proofs.Referring.{OwesChild, OwesRun, children_of, element_owes, extents-named, filtered_one}
+use Rattle.qg_forest.proofs.Referring.{named-extents, named_by, owed-referred, referred-owed, run-counted}
+use Rattle.qg_drop.specs.Dropping.{HoldsPart, HoldsPartly, IsClosed, IsUnder, extent_of_what, extents_known}
+use Rattle.qg_drop.specs.Dropping.{layout_partly, nodes_partly, without_references}
+use Rattle.qg_drop.proofs.Partly.{bytes_in, entry-kept, keeps, kept-entry, kept-value, known-referred, met-stays}
+use Rattle.qg_drop.proofs.Partly.{met-value, node-apart, now, now-node, now-waiting, reached-node, root-stays, trees}
+use Rattle.qg_drop.proofs.Partly.{value-partly}
+use Rattle.qg_drop.proofs.Parted.{agrees-then, but, but_here, but_past, full-before, full-then, kept-then, known-before}
+use Rattle.qg_drop.proofs.Parted.{reached-some, some-reached}
 
 -- a node has gone from memory with its slot, and runs are given back
 pub record LandGoes (land new : Ground) (history : Option (List Event)) (at : ℕ) (gone : List Element) : Type 0 where

@@ -18,7 +18,8 @@ use Rattle.qg_refs.specs.Book.{AgreesWithOwed, Book, IsBook}
 use Rattle.qg_tree_refs.specs.Following.{references_to}
 use Rattle.qg_forest.proofs.Extents.{AreApart, node-met, present-named, run-slot, some-of}
 use Rattle.qg_forest.proofs.Meeting.{IsMet, met-back, met-child, met-there, placed-there, root-met}
-use Rattle.qg_forest.proofs.Referring.{child-counted, children_of, extents-named, owed-referred, referred-owed, root-counted}
+use Rattle.qg_forest.proofs.Referring.{child-counted, children_of, extents-named, owed-referred, referred-owed}
+use Rattle.qg_forest.proofs.Referring.{root-counted}
 use Rattle.qg_forest.proofs.Snapshotted.{root_entry}
 use Rattle.qg_drop.proofs.Opened.{key_of, node_of}
 

@@ -2,7 +2,8 @@
 --
 -- A node is *open* that the subvolume reached, until it is dropped. What was dropped has gone where no other subvolume
 -- reaches it, and is full where its owner reaches it no more.
-use Rattle.std.specs.Prelude.{◌≡◌, ◌⊎◌, ◌↔◌, ⊤, ℕ, ◌<◌, ◌≤◌, Bool, ◌&&◌, ◌||◌, not, List, [], ◌∷◌, length, map, Option, Some, None, IsSome, IsTrue, Result, OnOk, Contains, ◌==◌, if◌then◌else◌}
+use Rattle.std.specs.Prelude.{◌≡◌, ◌⊎◌, ◌↔◌, ⊤, ℕ, ◌<◌, ◌≤◌, Bool, ◌&&◌, ◌||◌, not, List, [], ◌∷◌, length, map, Option}
+use Rattle.std.specs.Prelude.{Some, None, IsSome, IsTrue, Result, OnOk, Contains, ◌==◌, if◌then◌else◌}
 use Rattle.std.specs.List.{filter, filter_map, sum_by}
 use Rattle.std.specs.List.Sorted.{IsStrictlyIncreasing}
 use Rattle.std.specs.Option.{option_and_then}
@@ -138,8 +139,8 @@ pub record KnowsNoMore (old new : TreeRefs) : Type 0 where
   pub known : (at : ℕ) (what : What) → what_in (book_of new.refs at) ≡ Some what
       → what_in (book_of old.refs at) ≡ Some what
 
--- a book stays that of its subvolume, node size and generation to come, whatever a call answers; where it ends well, the
--- book knows nothing that it did not know
+-- a book stays that of its subvolume, node size and generation to come, whatever a call answers; where it ends well,
+-- the book knows nothing that it did not know
 pub record StaysBook {T E : Type 0} (old new : TreeRefs) (result : Result T E) : Type 0 where
   pub tree : new.tree ≡ old.tree
   pub nodesize : new.nodesize ≡ old.nodesize

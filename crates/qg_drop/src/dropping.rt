@@ -10,7 +10,8 @@ ghost use Rattle.qg_blocks.specs.Told.{BreaksNone};
 ghost use Rattle.qg_tree_edits.specs.Editing.{IsEditable};
 ghost use Rattle.qg_tree_refs.specs.Heavier.{BookGetsHeavier};
 ghost use Rattle.qg_forest.specs.Standing.{HoldsState, tree_of};
-ghost use Rattle.qg_drop.specs.Dropping.{AreParts, HoldsPartly, IsPart, RestsButRuns, StaysBook, parts_reached, without_part, without_parts};
+ghost use Rattle.qg_drop.specs.Dropping.{AreParts, HoldsPartly, IsPart, RestsButRuns, StaysBook, parts_reached};
+ghost use Rattle.qg_drop.specs.Dropping.{without_part, without_parts};
 
 use crate::child::{Child, children_of};
 use crate::extents::misfit_at;

@@ -1,5 +1,6 @@
 -- How far a piece is written to a writer.
-use Rattle.std.proofs.Common.{◌≡◌, ℕ, List, [], ◌++◌, length, take, drop, Option, Some, None, refl, sym, ap, ◌∙◌, subst, append_assoc, append-nil, take-append-drop}
+use Rattle.std.proofs.Common.{◌≡◌, ℕ, List, [], ◌++◌, length, take, drop, Option, Some, None, refl, sym, ap, ◌∙◌, subst}
+use Rattle.std.proofs.Common.{append_assoc, append-nil, take-append-drop}
 use Rattle.std.proofs.Math.Seq.{take-append_seam}
 use Rattle.std.specs.Io.KnownBytes.{Keeps, Appends}
 use Rattle.qg_edge.specs.Appended.{WritesFront}
@@ -53,13 +54,16 @@ none_more_written {old} {mid} new so_far same = record {
 }
 
 -- no rest is left
-pub all_written : {old new : Option (List ℕ)} {rest piece : List ℕ} → Written old new rest piece → rest ≡ [] → Appends old new piece
+pub all_written : {old new : Option (List ℕ)} {rest piece : List ℕ} → Written old new rest piece → rest ≡ []
+    → Appends old new piece
 all_written {old} {new} {rest} {piece} so_far over =
-    let whole : so_far.front ≡ piece = sym (append-nil so_far.front) ∙ ap (λ l. so_far.front ++ l) (sym over) ∙ so_far.parts in
+    let whole : so_far.front ≡ piece = sym (append-nil so_far.front) ∙ ap (λ l. so_far.front ++ l) (sym over)
+    ∙ so_far.parts in
     subst (λ l. Appends old new l) whole so_far.grown
 
 -- what is written is a front
-pub front_written : {old new : Option (List ℕ)} {rest piece : List ℕ} → Written old new rest piece → WritesFront old new piece
+pub front_written : {old new : Option (List ℕ)} {rest piece : List ℕ} → Written old new rest piece
+    → WritesFront old new piece
 front_written {old} {new} {rest} {piece} so_far =
     let n = length so_far.front in
     let front : so_far.front ≡ take n piece = sym (take-append_seam so_far.front rest) ∙ ap (take n) so_far.parts in

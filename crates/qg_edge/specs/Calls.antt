@@ -5,7 +5,8 @@ use Rattle.std.specs.Prelude.{ℕ, ◌+◌, ◌-◌, ◌^◌, min, List, [], Con
 abbrev pub raised : ℕ → ℕ
 raised count = min (count + 1) (2 ^ 64 - 1)
 
--- how many calls were made, how many of them failed, and the numbers of those that are to fail, where the first call is 1
+-- how many calls were made, how many of them failed, and the numbers of those that are to fail, where the first call is
+-- 1
 pub record Calls : Type 0 where
   pub made : ℕ
   pub faults : ℕ

@@ -1,5 +1,6 @@
 // A source and a sink in memory that fail where they are told to.
-ghost use Rattle.std.specs.Prelude.{◌≡◌, ◌<◌, ◌/◌, ◌++◌, ◌↔◌, [], length, take, drop, min, Err, Some, OnOk, OnErr, IfOk, IsErr, IsOkUnless};
+ghost use Rattle.std.specs.Prelude.{◌≡◌, ◌<◌, ◌/◌, ◌++◌, ◌↔◌, [], length, take, drop, min, Err, Some, OnOk, OnErr};
+ghost use Rattle.std.specs.Prelude.{IfOk, IsErr, IsOkUnless};
 ghost use Rattle.qg_device.specs.Cause.{HasCause};
 ghost use Rattle.qg_edge.specs.Calls.{no_calls, FailsNext, with_call, with_fault};
 

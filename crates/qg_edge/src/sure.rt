@@ -1,5 +1,6 @@
 // A source and a sink in memory that never fail.
-ghost use Rattle.std.specs.Prelude.{◌≡◌, ◌<◌, ◌++◌, [], length, take, drop, min, Ok, Some, OnOk, OnErr, IfOk, IsOkUnless};
+ghost use Rattle.std.specs.Prelude.{◌≡◌, ◌<◌, ◌++◌, [], length, take, drop, min, Ok, Some, OnOk, OnErr, IfOk};
+ghost use Rattle.std.specs.Prelude.{IsOkUnless};
 
 use crate::{EdgeFault, Sink, Source};
 use std::alloc::Global;

@@ -18,7 +18,8 @@ large nodesize size = elim size [ inl is ↦ omega (arith, is) | inr is ↦ omeg
 
 -- ---- a node that was cut
 
-pub front-cut : (nodesize address : ℕ) (old front rest : Node) → IsNodeSize nodesize → IsLevelled old → is_ascending (own_keys old) ≡ true → IsSplit nodesize address old front rest
+pub front-cut : (nodesize address : ℕ) (old front rest : Node) → IsNodeSize nodesize → IsLevelled old
+    → is_ascending (own_keys old) ≡ true → IsSplit nodesize address old front rest
     → IsNodeFor nodesize old front
 front-cut nodesize address old front rest size levelled ascending split =
     let sides = AreSides-split nodesize address old front rest (large nodesize size) split levelled ascending in
@@ -30,7 +31,8 @@ front-cut nodesize address old front rest size levelled ascending split =
       generation = ap (λ (h : Header). h.generation) header;
     }
 
-pub rest-of_cut : (nodesize address : ℕ) (old front rest : Node) → IsNodeSize nodesize → IsLevelled old → is_ascending (own_keys old) ≡ true → address ≡ (header_of old).address
+pub rest-of_cut : (nodesize address : ℕ) (old front rest : Node) → IsNodeSize nodesize → IsLevelled old
+    → is_ascending (own_keys old) ≡ true → address ≡ (header_of old).address
     → IsSplit nodesize address old front rest → IsNodeFor nodesize old rest
 rest-of_cut nodesize address old front rest size levelled ascending same split =
     let sides = AreSides-split nodesize address old front rest (large nodesize size) split levelled ascending in
@@ -43,18 +45,23 @@ rest-of_cut nodesize address old front rest size levelled ascending same split =
 
 -- ---- two nodes that were joined
 
-pub alike-levels : (nodesize : ℕ) (left right : Node) → IsNode nodesize left → IsNode nodesize right → (header_of left).level ≡ (header_of right).level → AreAlike left right
+pub alike-levels : (nodesize : ℕ) (left right : Node) → IsNode nodesize left → IsNode nodesize right
+    → (header_of left).level ≡ (header_of right).level → AreAlike left right
 alike-levels nodesize left right a b same = alike_on left right a.levelled b.levelled same
 
-pub nodes-joined : (nodesize : ℕ) (left right new_left new_right : Node) (joined : Joined) → IsNodeSize nodesize → IsNode nodesize left → IsNode nodesize right
-    → (header_of left).level ≡ (header_of right).level → IsInFront left right → IsJoined nodesize left right new_left new_right joined → AreNodesAfter nodesize left right new_left new_right joined
+pub nodes-joined : (nodesize : ℕ) (left right new_left new_right : Node) (joined : Joined) → IsNodeSize nodesize
+    → IsNode nodesize left → IsNode nodesize right
+    → (header_of left).level ≡ (header_of right).level → IsInFront left right
+    → IsJoined nodesize left right new_left new_right joined
+    → AreNodesAfter nodesize left right new_left new_right joined
 nodes-joined nodesize left right new_left new_right Whole size a b same front joined =
     let alike = alike-levels nodesize left right a b same in
     let header = ap header_of joined.all ∙ header_of-whole_of left right in
     record {
       sound = record {
         levelled = subst (λ (n : Node). IsLevelled n) (sym joined.all) (levelled_left left right a.levelled);
-        ascending = ap (λ (n : Node). is_ascending (own_keys n)) joined.all ∙ ap is_ascending (own_keys-whole_of left right alike) ∙ front;
+        ascending = ap (λ (n : Node). is_ascending (own_keys n)) joined.all
+            ∙ ap is_ascending (own_keys-whole_of left right alike) ∙ front;
         fits = joined.fits;
       };
       address = ap (λ (h : Header). h.address) header;
@@ -63,7 +70,8 @@ nodes-joined nodesize left right new_left new_right Whole size a b same front jo
     }
 nodes-joined nodesize left right new_left new_right Parted size a b same front joined =
     let alike = alike-levels nodesize left right a b same in
-    let sides = AreSides-parted nodesize left right new_left new_right (large nodesize size) joined (sym same) (levelled_left left right a.levelled)
+    let sides = AreSides-parted nodesize left right new_left new_right (large nodesize size) joined (sym same)
+    (levelled_left left right a.levelled)
     (ap is_ascending (own_keys-whole_of left right alike) ∙ front) in
     let header = header_of-parted nodesize left right new_left new_right joined in (
       record {

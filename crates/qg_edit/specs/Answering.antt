@@ -14,8 +14,8 @@ use Rattle.qg_edit.specs.declared.edit.Change.{Change}
 use Rattle.qg_edit.specs.Edits.{CanChange, changed}
 use Rattle.qg_edit.specs.Outcome.{IsInFront, spliced}
 
--- a call is done only where all is well, and names a rule at an address only where it is broken there. It tells of no disk, and memory
--- may be refused in place of any answer
+-- a call is done only where all is well, and names a rule at an address only where it is broken there. It tells of no
+-- disk, and memory may be refused in place of any answer
 abbrev pub AnswersBy : {A : Type 0} → Type 0 → (Rule → ℕ → Type 0) → Result A BlockFault → Type 0
 AnswersBy AllIsWell IsBroken (Ok x) = AllIsWell
 AnswersBy AllIsWell IsBroken (Err (Image rule at)) = IsBroken rule at
@@ -32,18 +32,21 @@ CanCut nodesize node = IsOverfull nodesize node → HasShortBodies node
 
 -- a leaf is what a change relies on, and what becomes of it can be cut where it has too much
 abbrev pub IsChangeable : ℕ → Key → Change → Node → Type 0
-IsChangeable nodesize key change leaf = CanChange key change (own_items leaf) × CanCut nodesize (with_items leaf (changed key change (own_items leaf)))
+IsChangeable nodesize key change leaf = CanChange key change (own_items leaf)
+    × CanCut nodesize (with_items leaf (changed key change (own_items leaf)))
 
--- which rule a change of a leaf breaks: `refs` where the leaf is not what the change relies on, and else `item` where it has too much then,
--- and a body of more than 1024 bytes
+-- which rule a change of a leaf breaks: `refs` where the leaf is not what the change relies on, and else `item` where
+-- it has too much then, and a body of more than 1024 bytes
 abbrev pub IsBrokenByChange : ℕ → Key → Change → Node → Rule → ℕ → Type 0
 IsBrokenByChange nodesize key change leaf rule at =
     IsBrokenUnless Refs leaf (CanChange key change (own_items leaf)) rule at
-    ⊎ (CanChange key change (own_items leaf) × IsBrokenUnless Item leaf (CanCut nodesize (with_items leaf (changed key change (own_items leaf)))) rule at)
+    ⊎ (CanChange key change (own_items leaf)
+    × IsBrokenUnless Item leaf (CanCut nodesize (with_items leaf (changed key change (own_items leaf)))) rule at)
 
 -- keys ascend with pointers in the place of others
 abbrev pub CanSplice : ℕ → ℕ → List Pointer → Node → Type 0
-CanSplice from to new node = IsTrue (is_ascending (map (λ pointer. pointer.key) (spliced from to new (own_pointers node))))
+CanSplice from to new node =
+    IsTrue (is_ascending (map (λ pointer. pointer.key) (spliced from to new (own_pointers node))))
 
 -- two neighbours follow each other, and no body has more than 1024 bytes
 pub record CanMerge (left right : Node) : Type 0 where
@@ -51,8 +54,8 @@ pub record CanMerge (left right : Node) : Type 0 where
   pub left_short : HasShortBodies left
   pub right_short : HasShortBodies right
 
--- which rule a merge of two neighbours breaks: `refs` at the left one where they don't follow each other, and else `item` at the first
--- that has a body of more than 1024 bytes
+-- which rule a merge of two neighbours breaks: `refs` at the left one where they don't follow each other, and else
+-- `item` at the first that has a body of more than 1024 bytes
 abbrev pub IsBrokenByMerge : Node → Node → Rule → ℕ → Type 0
 IsBrokenByMerge left right rule at =
     IsBrokenUnless Refs left (IsInFront left right) rule at

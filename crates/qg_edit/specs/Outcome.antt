@@ -10,7 +10,8 @@ use Rattle.qg_shape.specs.declared.joining.Joined.TheVariants.{Whole, Parted}
 use Rattle.qg_shape.specs.Filled.{IsOverfull}
 use Rattle.qg_shape.specs.Outcomes.{IsSplit}
 
--- a node holds the whole, or a front of it where it has too much; the rest is a node of its own, which names the same address
+-- a node holds the whole, or a front of it where it has too much; the rest is a node of its own, which names the same
+-- address
 abbrev pub IsCutOf : ℕ → Node → Node → Option Node → Type 0
 IsCutOf nodesize whole node None = node ≡ whole
 IsCutOf nodesize whole node (Some rest) = IsSplit nodesize (header_of whole).address whole node rest
@@ -27,8 +28,8 @@ abbrev pub RestIsNode : ℕ → Node → Option Node → Type 0
 RestIsNode nodesize old None = ⊤
 RestIsNode nodesize old (Some rest) = IsNodeFor nodesize old rest
 
--- a node is what is left of this whole in the place of an old one: all of it, or a front. There is a rest exactly where the whole has too
--- much, and it is a node too
+-- a node is what is left of this whole in the place of an old one: all of it, or a front. There is a rest exactly where
+-- the whole has too much, and it is a node too
 pub record IsLeftOf (nodesize : ℕ) (old whole node : Node) (more : Option Node) : Type 0 where
   pub cut : IsCutOf nodesize whole node more
   pub overfull : IsSome more ↔ IsOverfull nodesize whole
@@ -49,7 +50,8 @@ IsOldOrCleared old new = (new ≡ old) ⊎ (new ≡ cleared old)
 -- two neighbours are nodes after they were joined; where all is in the left one, the right one need not be
 abbrev pub AreNodesAfter : ℕ → Node → Node → Node → Node → Joined → Type 0
 AreNodesAfter nodesize left right new_left new_right Whole = IsNodeFor nodesize left new_left
-AreNodesAfter nodesize left right new_left new_right Parted = IsNodeFor nodesize left new_left × IsNodeFor nodesize right new_right
+AreNodesAfter nodesize left right new_left new_right Parted = IsNodeFor nodesize left new_left
+    × IsNodeFor nodesize right new_right
 
 -- the keys of one node are less than those of another
 abbrev pub IsInFront : Node → Node → Type 0

@@ -28,9 +28,11 @@ pub fn edit_leaf(leaf: &mut Node, nodesize: u32, edit: Edit) -> Result<Option<No
     requires size { IsNodeSize nodesize }
     requires leaf { IsLeaf leaf.old × IsNode nodesize leaf.old }
     requires short { IsShort edit.change }
-    ensures edited { IfOk result (IsLeftOf nodesize leaf.old (with_items leaf.old (edited edit (own_items leaf.old))) leaf.new) }
+    ensures edited { IfOk result (IsLeftOf nodesize leaf.old (with_items leaf.old (edited edit (own_items leaf.old)))
+        leaf.new) }
     ensures can { OnOk result (CanEdit edit (own_items leaf.old)) }
-    ensures answers { AnswersBy (IsChangeable nodesize edit.key edit.change leaf.old) (IsBrokenByChange nodesize edit.key edit.change leaf.old) result }
+    ensures answers { AnswersBy (IsChangeable nodesize edit.key edit.change leaf.old)
+        (IsBrokenByChange nodesize edit.key edit.change leaf.old) result }
     ensures node { IsNodeFor nodesize leaf.old leaf.new }
     ensures whole { growth_of edit.change ≡ 0 → IfOk result (λ rest. rest ≡ None) }
     ensures sound { CanEdit edit (own_items leaf.old) → HasShortBodies leaf.old → BreaksNone result }
@@ -66,9 +68,11 @@ fn insert(leaf: &mut Node, nodesize: u32, key: Key, body: Body) -> Result<Option
     requires leaf { IsLeaf leaf.old }
     requires sound { IsNode nodesize leaf.old }
     requires short { IsShort (Insert body) }
-    ensures edited { IfOk result (IsLeftOf nodesize leaf.old (with_items leaf.old (changed key (Insert body) (own_items leaf.old))) leaf.new) }
+    ensures edited { IfOk result
+        (IsLeftOf nodesize leaf.old (with_items leaf.old (changed key (Insert body) (own_items leaf.old))) leaf.new) }
     ensures can { OnOk result (CanChange key (Insert body) (own_items leaf.old)) }
-    ensures answers { AnswersBy (IsChangeable nodesize key (Insert body) leaf.old) (IsBrokenByChange nodesize key (Insert body) leaf.old) result }
+    ensures answers { AnswersBy (IsChangeable nodesize key (Insert body) leaf.old)
+        (IsBrokenByChange nodesize key (Insert body) leaf.old) result }
     ensures node { IsNodeFor nodesize leaf.old leaf.new }
     ensures sound { CanChange key (Insert body) (own_items leaf.old) → HasShortBodies leaf.old → BreaksNone result }
     ensures err { OnErr result (IsOldOrCleared leaf.old leaf.new) }
@@ -87,9 +91,11 @@ fn replace(leaf: &mut Node, nodesize: u32, key: Key, body: Body) -> Result<Optio
     requires leaf { IsLeaf leaf.old }
     requires sound { IsNode nodesize leaf.old }
     requires short { IsShort (Replace body) }
-    ensures edited { IfOk result (IsLeftOf nodesize leaf.old (with_items leaf.old (changed key (Replace body) (own_items leaf.old))) leaf.new) }
+    ensures edited { IfOk result
+        (IsLeftOf nodesize leaf.old (with_items leaf.old (changed key (Replace body) (own_items leaf.old))) leaf.new) }
     ensures can { OnOk result (CanChange key (Replace body) (own_items leaf.old)) }
-    ensures answers { AnswersBy (IsChangeable nodesize key (Replace body) leaf.old) (IsBrokenByChange nodesize key (Replace body) leaf.old) result }
+    ensures answers { AnswersBy (IsChangeable nodesize key (Replace body) leaf.old)
+        (IsBrokenByChange nodesize key (Replace body) leaf.old) result }
     ensures node { IsNodeFor nodesize leaf.old leaf.new }
     ensures sound { CanChange key (Replace body) (own_items leaf.old) → HasShortBodies leaf.old → BreaksNone result }
     ensures err { OnErr result (IsOldOrCleared leaf.old leaf.new) }
@@ -120,9 +126,11 @@ fn remove(leaf: &mut Node, nodesize: u32, key: Key) -> Result<Option<Node>, Bloc
     requires size { IsNodeSize nodesize }
     requires leaf { IsLeaf leaf.old }
     requires sound { IsNode nodesize leaf.old }
-    ensures edited { IfOk result (IsLeftOf nodesize leaf.old (with_items leaf.old (changed key Remove (own_items leaf.old))) leaf.new) }
+    ensures edited { IfOk result
+        (IsLeftOf nodesize leaf.old (with_items leaf.old (changed key Remove (own_items leaf.old))) leaf.new) }
     ensures can { OnOk result (CanChange key Remove (own_items leaf.old)) }
-    ensures answers { AnswersBy (IsChangeable nodesize key Remove leaf.old) (IsBrokenByChange nodesize key Remove leaf.old) result }
+    ensures answers { AnswersBy (IsChangeable nodesize key Remove leaf.old)
+        (IsBrokenByChange nodesize key Remove leaf.old) result }
     ensures node { IsNodeFor nodesize leaf.old leaf.new }
     ensures whole { IfOk result (λ rest. rest ≡ None) }
     ensures sound { CanChange key Remove (own_items leaf.old) → HasShortBodies leaf.old → BreaksNone result }

@@ -68,7 +68,8 @@ pub(crate) fn cut(
     requires by_one { 101 + used_bytes node.old ≤ nodesize + 1049 }
     requires kept { has_grown ≡ false → 101 + used_bytes node.old ≤ nodesize }
     ensures cut { IfOk result (IsLeftOf nodesize node.old node.old node.new) }
-    ensures answers { AnswersBy (CanCut nodesize node.old) (IsBrokenUnless rule.Item node.old (CanCut nodesize node.old)) result }
+    ensures answers { AnswersBy (CanCut nodesize node.old)
+        (IsBrokenUnless rule.Item node.old (CanCut nodesize node.old)) result }
     ensures node { IsNodeFor nodesize node.old node.new }
     ensures sound { HasShortBodies node.old → BreaksNone result }
     ensures err { OnErr result (node.new ≡ cleared node.old) }

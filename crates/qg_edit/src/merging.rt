@@ -18,8 +18,9 @@ use qg_shape::{Joined, join};
 /// Joins two neighbours of one level, of which one isn't a quarter full: into the left one where that fits, and else
 /// both take about a half.
 ///
-/// `Image` comes exactly where their keys don't follow each other, with the rule `refs` and the left node, and else where
-/// a body has more than 1024 bytes, with `item` and the first node that has one. After an `Err` both are as they were.
+/// `Image` comes exactly where their keys don't follow each other, with the rule `refs` and the left node, and else
+/// where a body has more than 1024 bytes, with `item` and the first node that has one. After an `Err` both are as they
+/// were.
 pub fn merge(left: &mut Node, right: &mut Node, nodesize: u32) -> Result<Joined, BlockFault>
     requires size { IsNodeSize nodesize }
     requires left { IsNode nodesize left.old }
@@ -29,7 +30,8 @@ pub fn merge(left: &mut Node, right: &mut Node, nodesize: u32) -> Result<Joined,
     ensures joined { IfOk result (λ joined. IsJoined nodesize left.old right.old left.new right.new joined) }
     ensures nodes { IfOk result (λ joined. AreNodesAfter nodesize left.old right.old left.new right.new joined) }
     ensures answers { AnswersBy (CanMerge left.old right.old) (IsBrokenByMerge left.old right.old) result }
-    ensures sound { IsInFront left.old right.old → HasShortBodies left.old → HasShortBodies right.old → BreaksNone result }
+    ensures sound { IsInFront left.old right.old → HasShortBodies left.old → HasShortBodies right.old
+        → BreaksNone result }
     ensures err { OnErr result ((left.new ≡ left.old) × (right.new ≡ right.old)) }
 {
     if !is_in_front(left, right) {

@@ -1,5 +1,6 @@
 // Pointers in the place of others.
-ghost use Rattle.std.specs.Prelude.{◌≡◌, ◌+◌, ◌-◌, ◌≤◌, ◌<◌, ◌++◌, ◌↔◌, length, map, take, drop, IfOk, OnOk, OnErr, IsTrue};
+ghost use Rattle.std.specs.Prelude.{◌≡◌, ◌+◌, ◌-◌, ◌≤◌, ◌<◌, ◌++◌, ◌↔◌, length, map, take, drop, IfOk, OnOk, OnErr};
+ghost use Rattle.std.specs.Prelude.{IsTrue};
 ghost use Rattle.qg_node.specs.NodeText.{IsNode, IsNodeSize};
 ghost use Rattle.qg_num.specs.declared.rule.Rule.TheVariants as rule;
 ghost use Rattle.qg_node.specs.Nodes.{is_ascending, own_pointers};
@@ -17,8 +18,8 @@ use qg_num::{BlockFault, NoMemory};
 /// Puts one pointer or two in the place of those from one index up to another, so that there is one more at most. Where
 /// the node then has too much it keeps a front, and the answer has the rest, which lies nowhere yet.
 ///
-/// `Image` comes exactly where keys would not ascend, with the rule `refs` and the node. After an `Err` the node is as it
-/// was, or an empty leaf.
+/// `Image` comes exactly where keys would not ascend, with the rule `refs` and the node. After an `Err` the node is as
+/// it was, or an empty leaf.
 pub fn splice(
     node: &mut Node,
     nodesize: u32,
@@ -31,10 +32,14 @@ pub fn splice(
     requires sound { IsNode nodesize node.old }
     requires within { (from ≤ to) × (to ≤ length (own_pointers node.old)) }
     requires few { (1 ≤ length new.now) × (length new.now ≤ 2) × (length new.now ≤ to - from + 1) }
-    ensures spliced { IfOk result (IsLeftOf nodesize node.old (with_pointers node.old (spliced from to new.now (own_pointers node.old))) node.new) }
-    ensures answers { AnswersBy (CanSplice from to new.now node.old) (IsBrokenUnless rule.Refs node.old (CanSplice from to new.now node.old)) result }
+    ensures spliced { IfOk result
+        (IsLeftOf nodesize node.old (with_pointers node.old (spliced from to new.now (own_pointers node.old)))
+        node.new) }
+    ensures answers { AnswersBy (CanSplice from to new.now node.old)
+        (IsBrokenUnless rule.Refs node.old (CanSplice from to new.now node.old)) result }
     ensures node { IsNodeFor nodesize node.old node.new }
-    ensures sound { IsTrue (is_ascending (map (λ pointer. pointer.key) (spliced from to new.now (own_pointers node.old)))) → BreaksNone result }
+    ensures sound { IsTrue (is_ascending
+        (map (λ pointer. pointer.key) (spliced from to new.now (own_pointers node.old)))) → BreaksNone result }
     ensures err { OnErr result (IsOldOrCleared node.old node.new) }
 {
     if !go_there(node, from, to, new) {
@@ -54,7 +59,8 @@ fn go_there(node: &Node, from: usize, to: usize, new: &[Pointer]) -> bool
     requires within { (from ≤ to) × (to ≤ length (own_pointers node.now)) }
     requires some { 1 ≤ length new.now }
     requires few { length new.now ≤ 2 }
-    ensures { IsTrue result ↔ IsTrue (is_ascending (map (λ pointer. pointer.key) (spliced from to new.now (own_pointers node.now)))) }
+    ensures { IsTrue result ↔ IsTrue
+        (is_ascending (map (λ pointer. pointer.key) (spliced from to new.now (own_pointers node.now)))) }
 {
     match node {
         Node::Inner { pointers, .. } => {
@@ -81,7 +87,8 @@ fn put_pointers(node: &mut Node, from: usize, to: usize, new: &[Pointer]) -> Res
     requires inner { IsInner node.old }
     requires within { (from ≤ to) × (to ≤ length (own_pointers node.old)) }
     ensures ok { OnOk result (node.new ≡ with_pointers node.old (spliced from to new.now (own_pointers node.old))) }
-    ensures err { OnErr result (node.new ≡ with_pointers node.old (take from (own_pointers node.old) ++ drop to (own_pointers node.old))) }
+    ensures err { OnErr result
+        (node.new ≡ with_pointers node.old (take from (own_pointers node.old) ++ drop to (own_pointers node.old))) }
 {
     match node {
         Node::Leaf { .. } => unreachable!(),

@@ -1,5 +1,6 @@
 -- Steps on the items of files, one after the other: what they leave under each key.
-use Rattle.std.proofs.Common.{◌≡◌, ℕ, ◌+◌, ◌<◌, true, false, List, [], ◌∷◌, map, Some, None, refl, sym, ap, subst, ◌∙◌, arith, inl, inr}
+use Rattle.std.proofs.Common.{◌≡◌, ℕ, ◌+◌, ◌<◌, true, false, List, [], ◌∷◌, map, Some, None, refl, sym, ap, subst, ◌∙◌}
+use Rattle.std.proofs.Common.{arith, inl, inr}
 use Rattle.std.specs.Prelude.{Bool, Option, IsSome, ◌==◌, ◌&&◌, is_some, not, if◌then◌else◌}
 use Rattle.std.specs.Option.{option_map}
 use Rattle.std.specs.Ordering.{is_lt, nat_cmp}
@@ -21,7 +22,8 @@ use Rattle.qg_file_items.specs.Bodies.{Ascend, piece_at, piece_body}
 use Rattle.qg_file_items.specs.FileEdits.{with_items, without_items}
 use Rattle.qg_file_items.proofs.Edited.{ascending-with_item, ascending-without_key, body-with_item, body-without_key}
 use Rattle.qg_file_items.proofs.FileBodies.{pieces_other, pieces_own}
-use Rattle.qg_file_items.proofs.Sequences.{ascending-with_items, ascending-without_items, body-with_items, body-without_items}
+use Rattle.qg_file_items.proofs.Sequences.{ascending-with_items, ascending-without_items, body-with_items}
+use Rattle.qg_file_items.proofs.Sequences.{body-without_items}
 use Rattle.qg_file_items.proofs.Told.{has-body, same-bodies}
 use Rattle.qg_exchange.specs.declared.step.Step.{Step}
 use Rattle.qg_exchange.specs.declared.step.Step.TheVariants.{Remove, Insert, Replace}

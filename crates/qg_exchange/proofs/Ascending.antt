@@ -1,5 +1,6 @@
 -- Numbers that ascend, no two the same.
-use Rattle.std.proofs.Common.{◌≡◌, ℕ, zero, suc, ◌+◌, ◌<◌, ◌≤◌, List, [], ◌∷◌, ◌++◌, length, get_or, subst, arith, add-one}
+use Rattle.std.proofs.Common.{◌≡◌, ℕ, zero, suc, ◌+◌, ◌<◌, ◌≤◌, List, [], ◌∷◌, ◌++◌, length, get_or, subst, arith}
+use Rattle.std.proofs.Common.{add-one}
 use Rattle.std.specs.List.Sorted.{IsStrictlyIncreasing}
 
 -- numbers that ascend, the first no less than a bound

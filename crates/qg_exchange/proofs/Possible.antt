@@ -23,7 +23,8 @@ use Rattle.qg_file_items.proofs.Pieces.{at-append, at-later}
 use Rattle.qg_exchange.specs.Steps.{AscendByPosition}
 use Rattle.qg_exchange.specs.Applying.{CanExchange, key_at}
 use Rattle.qg_exchange.specs.Exchange.{IsExchange}
-use Rattle.qg_exchange.proofs.Ascending.{AscendFrom, AscendFrom-increasing, ascend-back, ascend-front, increasing-AscendFrom}
+use Rattle.qg_exchange.proofs.Ascending.{AscendFrom, AscendFrom-increasing, ascend-back, ascend-front}
+use Rattle.qg_exchange.proofs.Ascending.{increasing-AscendFrom}
 use Rattle.qg_exchange.proofs.Positions.{none-in_front, not-some, positions, whole-ascend}
 use Rattle.qg_exchange.proofs.Stretches.{all-gone, cut-exchanged, range-exchanged}
 use Rattle.qg_exchange.proofs.Tables.{sound-pieces}

@@ -10,7 +10,8 @@ use Rattle.qg_items.specs.declared.extent.Reference.{Reference}
 use Rattle.qg_image.specs.declared.file.File.{File}
 use Rattle.qg_image.specs.FilesOf.{are_pieces, pieces_bytes}
 use Rattle.qg_image.specs.Table.{keys_of, value_at, with_value, without_key as without_value}
-use Rattle.qg_machine.specs.FileChange.{before, moved, pieces_meeting, pieces_or_none, pieces_past, with_pieces, with_range, with_size, within}
+use Rattle.qg_machine.specs.FileChange.{before, moved, pieces_meeting, pieces_or_none, pieces_past, with_pieces}
+use Rattle.qg_machine.specs.FileChange.{with_range, with_size, within}
 use Rattle.qg_image.specs.Reach.{extent_of}
 use Rattle.qg_rules.specs.Writable.{AreWritableFiles, IsFileBy, IsWritableFile}
 use Rattle.qg_contents.specs.Written.{items_of_file}

@@ -1,5 +1,6 @@
 -- Parts that agree with what is owed are the records of a book.
-use Rattle.std.proofs.Common.{◌≡◌, ◌≢◌, ℕ, ◌≤◌, ◌<◌, Bool, true, false, List, [], ◌∷◌, length, refl, sym, ap, subst, ◌∙◌, arith, ◌⊎◌, inl, inr}
+use Rattle.std.proofs.Common.{◌≡◌, ◌≢◌, ℕ, ◌≤◌, ◌<◌, Bool, true, false, List, [], ◌∷◌, length, refl, sym, ap, subst}
+use Rattle.std.proofs.Common.{◌∙◌, arith, ◌⊎◌, inl, inr}
 use Rattle.std.specs.Prelude.{None, ◌&&◌, ◌||◌, not, ◌==◌, if◌then◌else◌, nat_lt, nat_le, cond}
 use Rattle.std.specs.List.{count_by, filter, list_all, list_any}
 use Rattle.std.proofs.lemmas.Bool.{cases_Bool, cond-true, cond-false, true≢false, eq-eqb, lt-ltb}
@@ -12,12 +13,14 @@ use Rattle.qg_image.specs.declared.part.ExtentPart.TheVariants.{DataRecord, Node
 use Rattle.qg_image.specs.ItemMeaning.{some_passes}
 use Rattle.qg_image.specs.State.{Layout}
 use Rattle.qg_image.specs.Record.{same_reference}
-use Rattle.qg_image.specs.Owed.{Agrees, What, agrees_at, are_references, is_nothing, is_record, is_recorded_once, is_told_once, node_flags, owed_count, owed_to, part_address, what_at}
+use Rattle.qg_image.specs.Owed.{Agrees, What, agrees_at, are_references, is_nothing, is_record, is_recorded_once}
+use Rattle.qg_image.specs.Owed.{is_told_once, node_flags, owed_count, owed_to, part_address, what_at}
 use Rattle.qg_image.specs.Owed.What.{Nothing, Data, Block}
 use Rattle.qg_refs.specs.Book.{AgreesWithOwed, Book}
 use Rattle.qg_refs.specs.Counts.{greatest_count}
 use Rattle.qg_refs.proofs.RankOrder.{same_reference_is}
-use Rattle.qg_extents.specs.Told.{IsTold, are_counted, is_count, is_entry, is_sound_record, parts_at, records_failure, refs_told, the_only, told_count, told_in, told_sum}
+use Rattle.qg_extents.specs.Told.{IsTold, are_counted, is_count, is_entry, is_sound_record, parts_at, records_failure}
+use Rattle.qg_extents.specs.Told.{refs_told, the_only, told_count, told_in, told_sum}
 use Rattle.qg_extents.specs.Laws.{AreFew, IsOwedBook, IsOwing}
 use Rattle.qg_extents.proofs.Records.{HasEntry, HaveEntries, records_failure-none}
 use Rattle.qg_extents.proofs.Telling.{Told, both_of}

@@ -1,5 +1,6 @@
 -- What the items of a table say is read as the same table.
-use Rattle.std.proofs.Common.{◌≡◌, ◌≢◌, ℕ, suc, ◌≤◌, ◌<◌, Bool, true, false, List, [], ◌∷◌, ◌++◌, map, length, get_or, refl, sym, ap, subst, ◌∙◌, arith, inl, inr, append-nil}
+use Rattle.std.proofs.Common.{◌≡◌, ◌≢◌, ℕ, suc, ◌≤◌, ◌<◌, Bool, true, false, List, [], ◌∷◌, ◌++◌, map, length, get_or}
+use Rattle.std.proofs.Common.{refl, sym, ap, subst, ◌∙◌, arith, inl, inr, append-nil}
 use Rattle.std.specs.Prelude.{Option, Some, None, ◌==◌, ◌&&◌, All, cond, if◌then◌else◌, nat_lt, nat_le, IfSome}
 use Rattle.std.specs.BTreeMap.{is_at}
 use Rattle.std.specs.Cmp.{ranked}
@@ -29,10 +30,13 @@ use Rattle.qg_refs.specs.Order.{precedes}
 use Rattle.qg_refs.proofs.Counting.{count-nil}
 use Rattle.qg_refs.proofs.RankOrder.{precedes_differs}
 use Rattle.qg_extents.specs.Table.{book_of, IsTable, MayKeep}
-use Rattle.qg_extents.specs.Written.{extent_of, part_of, parts_of_book, parts_of_extent, record_flags, record_of, record_part, refs_of}
-use Rattle.qg_extents.specs.Told.{AreInOrder, IsTold, is_count, is_entry, is_sound_record, parts_at, records_failure, refs_told, tells_full, the_record, told_count, told_in, told_sum, what_told}
+use Rattle.qg_extents.specs.Written.{extent_of, part_of, parts_of_book, parts_of_extent, record_flags, record_of}
+use Rattle.qg_extents.specs.Written.{record_part, refs_of}
+use Rattle.qg_extents.specs.Told.{AreInOrder, IsTold, is_count, is_entry, is_sound_record, parts_at, records_failure}
+use Rattle.qg_extents.specs.Told.{refs_told, tells_full, the_record, told_count, told_in, told_sum, what_told}
 use Rattle.qg_extents.specs.Laws.{IsReadable}
-use Rattle.qg_extents.proofs.Records.{AreApart, AreAt, HaveEntries, both_entries, new_entries, parts_at-apart, parts_at-append, parts_at-here, records_failure-none}
+use Rattle.qg_extents.proofs.Records.{AreApart, AreAt, HaveEntries, both_entries, new_entries, parts_at-apart}
+use Rattle.qg_extents.proofs.Records.{parts_at-append, parts_at-here, records_failure-none}
 use Rattle.qg_extents.proofs.Sayable.{counts_at, entry-found, entry-may}
 
 -- ---- the parts at an address

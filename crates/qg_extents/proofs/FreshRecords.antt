@@ -1,5 +1,6 @@
 -- The references of an image that is just made.
-use Rattle.std.proofs.Common.{◌≡◌, ◌≢◌, ℕ, ◌<◌, Bool, true, false, List, [], ◌∷◌, length, get_or, Option, Some, None, cond, refl, sym, ap, subst, ◌∙◌, arith, ◌⊎◌, inl, inr}
+use Rattle.std.proofs.Common.{◌≡◌, ◌≢◌, ℕ, ◌<◌, Bool, true, false, List, [], ◌∷◌, length, get_or, Option, Some, None}
+use Rattle.std.proofs.Common.{cond, refl, sym, ap, subst, ◌∙◌, arith, ◌⊎◌, inl, inr}
 use Rattle.std.specs.Prelude.{◌==◌, if◌then◌else◌, unwrap_or}
 use Rattle.std.specs.BTreeMap.{is_at}
 use Rattle.std.specs.Cmp.{ranked}
@@ -69,7 +70,8 @@ only_reference [] x list more =
 only_reference (entry ∷ []) x list more =
     let is : entry.reference ≡ x = is_it (entry ∷ []) x 0 entry list more (omega arith) in
     let one : one-where (same_reference x x) ≡ 1 = cond-true _ _ _ (same_itself x) in
-    let found : count_of (entry ∷ []) x ≡ entry.count = count-found x (entry ∷ []) 0 entry list.ascend (omega arith) is in
+    let found : count_of (entry ∷ []) x ≡ entry.count =
+    count-found x (entry ∷ []) 0 entry list.ascend (omega arith) is in
     let count : entry.count ≡ 1 = omega (arith, found, more x, count-nil x, one) in
     λ i. record { reference = is i; count = count i } ∷ []
 only_reference (entry ∷ second ∷ rest) x list more =

@@ -1,5 +1,6 @@
 -- The keys of the items of a table ascend.
-use Rattle.std.proofs.Common.{◌≡◌, ℕ, suc, ◌+◌, ◌<◌, Bool, true, List, [], ◌∷◌, ◌++◌, map, Option, Some, None, refl, sym, arith}
+use Rattle.std.proofs.Common.{◌≡◌, ℕ, suc, ◌+◌, ◌<◌, Bool, true, List, [], ◌∷◌, ◌++◌, map, Option, Some, None, refl}
+use Rattle.std.proofs.Common.{sym, arith}
 use Rattle.std.specs.Prelude.{◌&&◌}
 use Rattle.std.specs.Cmp.{nat_cmp_is, ranked}
 use Rattle.std.specs.List.{AllByRecursion}
@@ -21,7 +22,8 @@ use Rattle.qg_refs.specs.declared.counted.Counted.{Counted}
 use Rattle.qg_refs.specs.declared.kept.Kept.{Kept}
 use Rattle.qg_refs.specs.Counts.{Ascend}
 use Rattle.qg_refs.specs.Order.{precedes}
-use Rattle.qg_extents.specs.Written.{extent_of, item_of_reference, number_behind, items_of_references, record_item, item_of_record, items_of_book}
+use Rattle.qg_extents.specs.Written.{extent_of, item_of_reference, number_behind, items_of_references, record_item}
+use Rattle.qg_extents.specs.Written.{item_of_record, items_of_book}
 
 -- ---- two keys
 

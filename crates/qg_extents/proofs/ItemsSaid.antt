@@ -1,5 +1,6 @@
 -- What the items of a table say, and how long they are.
-use Rattle.std.proofs.Common.{◌≡◌, ℕ, ◌+◌, ◌≤◌, ◌<◌, ◌^◌, Bool, true, false, List, [], ◌∷◌, ◌++◌, map, length, Option, Some, None, refl, sym, ap, subst, ◌∙◌, arith, lit<, append-nil, Bor}
+use Rattle.std.proofs.Common.{◌≡◌, ℕ, ◌+◌, ◌≤◌, ◌<◌, ◌^◌, Bool, true, false, List, [], ◌∷◌, ◌++◌, map, length, Option}
+use Rattle.std.proofs.Common.{Some, None, refl, sym, ap, subst, ◌∙◌, arith, lit<, append-nil, Bor}
 use Rattle.std.specs.Prelude.{All, IfSome}
 use Rattle.std.specs.List.{AllByRecursion, flat_map, list_all}
 use Rattle.std.proofs.lemmas.Bool.{le-leb}
@@ -19,7 +20,9 @@ use Rattle.qg_items.specs.declared.extent.Reference.{Reference}
 use Rattle.qg_items.specs.declared.extent.Reference.TheVariants.{KeyedBlock, SharedBlock, KeyedData, SharedData}
 use Rattle.qg_items.specs.ItemText.{extent_text, data_ref_text, shared_data_ref_text}
 use Rattle.qg_items.specs.Laws.{ExtentFits}
-use Rattle.qg_items.proofs.ExtentBodies.{length-extent_text, extent_read-extent_text, length-data_ref_text, data_ref_read-data_ref_text, length-shared_data_ref_text, shared_data_ref_read-shared_data_ref_text}
+use Rattle.qg_items.proofs.ExtentBodies.{length-extent_text, extent_read-extent_text, length-data_ref_text}
+use Rattle.qg_items.proofs.ExtentBodies.{data_ref_read-data_ref_text, length-shared_data_ref_text}
+use Rattle.qg_items.proofs.ExtentBodies.{shared_data_ref_read-shared_data_ref_text}
 use Rattle.qg_image.specs.declared.part.ExtentPart.{ExtentPart}
 use Rattle.qg_image.specs.declared.part.ExtentPart.TheVariants.{Referenced}
 use Rattle.qg_image.specs.ItemMeaning.{extent_part}
@@ -28,7 +31,10 @@ use Rattle.qg_image.specs.Walk.{is_item_of}
 use Rattle.qg_refs.specs.declared.counted.Counted.{Counted}
 use Rattle.qg_refs.specs.declared.kept.Kept.{Kept}
 use Rattle.qg_refs.specs.Counts.{greatest_count}
-use Rattle.qg_extents.specs.Written.{refs_of, extent_of, record_flags, record_part, part_of, parts_of_extent, parts_of_book, item_at, item_of_reference, number_behind, items_of_references, record_item, item_of_record, items_of_extent, items_of_book, ReferenceFits, CountedFits, EntryFits}
+use Rattle.qg_extents.specs.Written.{refs_of, extent_of, record_flags, record_part, part_of, parts_of_extent}
+use Rattle.qg_extents.specs.Written.{parts_of_book, item_at, item_of_reference, number_behind, items_of_references}
+use Rattle.qg_extents.specs.Written.{record_item, item_of_record, items_of_extent, items_of_book, ReferenceFits}
+use Rattle.qg_extents.specs.Written.{CountedFits, EntryFits}
 
 -- ---- a reference
 

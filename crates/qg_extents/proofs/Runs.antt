@@ -1,8 +1,10 @@
 -- Runs of parts at one address, by their indices.
-use Rattle.std.proofs.Common.{◌≡◌, ◌≢◌, ℕ, ◌+◌, ◌-◌, ◌≤◌, ◌<◌, true, false, List, ◌++◌, length, take, drop, get_or, sym, ap, subst, ◌∙◌, arith, length-append, ◌⊎◌, inl, inr, ltb}
+use Rattle.std.proofs.Common.{◌≡◌, ◌≢◌, ℕ, ◌+◌, ◌-◌, ◌≤◌, ◌<◌, true, false, List, ◌++◌, length, take, drop, get_or, sym}
+use Rattle.std.proofs.Common.{ap, subst, ◌∙◌, arith, length-append, ◌⊎◌, inl, inr, ltb}
 use Rattle.std.specs.Prelude.{Some, slice_range}
 use Rattle.std.proofs.lemmas.Bool.{cases_Bool, ltb-true, ltb-false}
-use Rattle.std.proofs.lemmas.List.{get_or-take, get_or-drop, get_or_default, length-take-le, length-drop, take-append-drop, take_at}
+use Rattle.std.proofs.lemmas.List.{get_or-take, get_or-drop, get_or_default, length-take-le, length-drop}
+use Rattle.std.proofs.lemmas.List.{take-append-drop, take_at}
 use Rattle.std.proofs.lemmas.List.Elements.{All-from_recursion, recursion_from_All}
 use Rattle.std.proofs.lemmas.List.Folds.{drop_split}
 use Rattle.qg_image.specs.declared.part.ExtentPart.{ExtentPart}
@@ -12,7 +14,8 @@ use Rattle.qg_refs.specs.Book.{Book}
 use Rattle.qg_extents.specs.Table.{IsPut}
 use Rattle.qg_extents.specs.Told.{AreInOrder, IsEntryOf, IsTold, is_entry, records_failure}
 use Rattle.qg_extents.specs.Reading.{IsRun}
-use Rattle.qg_extents.proofs.Records.{AreApart, AreAt, AreOff, HaveEntries, append_assoc, entries-more, failure-at, told-more}
+use Rattle.qg_extents.proofs.Records.{AreApart, AreAt, AreOff, HaveEntries, append_assoc, entries-more, failure-at}
+use Rattle.qg_extents.proofs.Records.{told-more}
 
 abbrev pub address_of : List ExtentPart → ℕ → ExtentPart → ℕ
 address_of parts i d = part_address (get_or parts i d)

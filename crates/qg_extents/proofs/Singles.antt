@@ -1,5 +1,6 @@
 -- The only record among parts.
-use Rattle.std.proofs.Common.{◌≡◌, ℕ, ◌+◌, ◌<◌, Bool, true, false, List, [], ◌∷◌, ◌++◌, length, take, drop, get_or, Option, Some, None, refl, sym, ap, ◌∙◌, cond, append-nil}
+use Rattle.std.proofs.Common.{◌≡◌, ℕ, ◌+◌, ◌<◌, Bool, true, false, List, [], ◌∷◌, ◌++◌, length, take, drop, get_or}
+use Rattle.std.proofs.Common.{Option, Some, None, refl, sym, ap, ◌∙◌, cond, append-nil}
 use Rattle.std.specs.Prelude.{IfSome, is_some, slice_get, ◌&&◌, ◌==◌}
 use Rattle.std.specs.Option.{option_and_then}
 use Rattle.std.specs.List.{filter}
@@ -11,7 +12,8 @@ use Rattle.qg_image.specs.declared.part.ExtentPart.{ExtentPart}
 use Rattle.qg_image.specs.Owed.{is_record}
 use Rattle.qg_image.specs.ItemMeaning.{some_passes}
 use Rattle.qg_extents.specs.Reading.{adds_up}
-use Rattle.qg_extents.specs.Told.{are_counted, is_entry, is_sound_record, refs_told, the_only, the_record, told_in, told_sum}
+use Rattle.qg_extents.specs.Told.{are_counted, is_entry, is_sound_record, refs_told, the_only, the_record, told_in}
+use Rattle.qg_extents.specs.Told.{told_sum}
 
 -- the list of what is there
 abbrev pub listed : Option ExtentPart → List ExtentPart

@@ -1,5 +1,6 @@
 -- References that are told, taken one by one.
-use Rattle.std.proofs.Common.{◌≡◌, ◌≢◌, ℕ, ◌+◌, ◌≤◌, ◌<◌, Bool, true, false, List, [], ◌∷◌, ◌++◌, length, take, drop, get_or, append-nil, Option, Some, None, refl, sym, ap, subst, ◌∙◌, arith, ◌⊎◌, inl, inr}
+use Rattle.std.proofs.Common.{◌≡◌, ◌≢◌, ℕ, ◌+◌, ◌≤◌, ◌<◌, Bool, true, false, List, [], ◌∷◌, ◌++◌, length, take, drop}
+use Rattle.std.proofs.Common.{get_or, append-nil, Option, Some, None, refl, sym, ap, subst, ◌∙◌, arith, ◌⊎◌, inl, inr}
 use Rattle.std.specs.Prelude.{◌&&◌, ◌||◌, not, ◌==◌, if◌then◌else◌, nat_lt}
 use Rattle.std.specs.List.{cons_option, list_any, list_all}
 use Rattle.std.proofs.lemmas.List.{drop_more, take_more, take-append-drop}
@@ -128,9 +129,11 @@ told_twice [] rest entry among = absurd (true≢false (sym among))
 told_twice (first ∷ told) rest entry among = elim (either_of (same_reference first.0 entry.0)
     (is_among entry.0 told) among) [
       | inl same ↦
-          let twice : list_any (λ (other : Reference × ℕ). same_reference first.0 other.0) (told ++ entry ∷ rest) ≡ true =
+          let twice : list_any (λ (other : Reference × ℕ). same_reference first.0 other.0) (told ++ entry ∷ rest)
+          ≡ true =
           list_any-append (λ (other : Reference × ℕ). same_reference first.0 other.0) told (entry ∷ rest)
-          ∙ or_true _ _ (ap (λ (b : Bool). b || list_any (λ (other : Reference × ℕ). same_reference first.0 other.0) rest)
+          ∙ or_true _ _ (ap (λ (b : Bool). b || list_any (λ (other : Reference × ℕ). same_reference first.0 other.0)
+          rest)
           same) in
           false_and _ _ (ap not twice)
       | inr later ↦ and_false _ _ (told_twice told rest entry later)

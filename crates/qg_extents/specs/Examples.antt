@@ -78,7 +78,8 @@ unfolding extent_text data_ref_text u64_bytes u32_bytes
 first_write-items = refl
 
 first_write-agrees : disagreement (layout_of first_write) (parts_of_book first_table) ≡ None
-unfolding disagreement recorded_addresses agrees_at layout_extents owed owed_by_node pieces_of file_part inode_read extent_data_read inode_text extent_data_text u64_bytes u16_bytes u64_at
+unfolding disagreement recorded_addresses agrees_at layout_extents owed owed_by_node pieces_of file_part inode_read
+    extent_data_read inode_text extent_data_text u64_bytes u16_bytes u64_at
 first_write-agrees = refl
 
 -- ---- its snapshot 256: the extent has two references, which are numbered in their order
@@ -100,7 +101,8 @@ unfolding extent_text data_ref_text u64_bytes u32_bytes
 snapshot-items = refl
 
 snapshot-agrees : disagreement (layout_of snapshot) (parts_of_book snapshot_table) ≡ None
-unfolding disagreement recorded_addresses agrees_at layout_extents owed owed_by_node pieces_of file_part inode_read extent_data_read inode_text extent_data_text u64_bytes u16_bytes u64_at
+unfolding disagreement recorded_addresses agrees_at layout_extents owed owed_by_node pieces_of file_part inode_read
+    extent_data_read inode_text extent_data_text u64_bytes u16_bytes u64_at
 snapshot-agrees = refl
 
 -- ---- the write after it: in generation 4 subvolume 5 writes the first 4096 bytes of its file anew. Its leaf is now a
@@ -112,7 +114,11 @@ written_again =
     layout ((5, 1081344) ∷ (256, 1064960) ∷ [])
     (leaf_of 1064960 2 256 false ((257, file 8192 (piece 0 8192 0 ∷ [])) ∷ [])
     ∷ leaf_of 1081344 4 5 false
-    ((257, file 8192 (record { position = 0; len = 4096; extent = 67182592; offset = 0; stamp = 4; extent_bytes = 4096 } ∷ piece 4096 4096 4096 ∷ [])) ∷ [])
+    ((
+      257,
+      file 8192 (record { position = 0; len = 4096; extent = 67182592; offset = 0; stamp = 4; extent_bytes = 4096 }
+          ∷ piece 4096 4096 4096 ∷ []),
+    ) ∷ [])
     ∷ [])
 
 abbrev pub second_extent : ℕ × Kept
@@ -135,7 +141,8 @@ unfolding extent_text data_ref_text u64_bytes u32_bytes
 written_again-items = refl
 
 written_again-agrees : disagreement written_again (parts_of_book written_again_table) ≡ None
-unfolding disagreement recorded_addresses agrees_at layout_extents owed owed_by_node pieces_of file_part inode_read extent_data_read inode_text extent_data_text u64_bytes u16_bytes u64_at
+unfolding disagreement recorded_addresses agrees_at layout_extents owed owed_by_node pieces_of file_part inode_read
+    extent_data_read inode_text extent_data_text u64_bytes u16_bytes u64_at
 written_again-agrees = refl
 
 -- ---- a clone within a file whose position is below its offset: file 257 has the extent from position 8192 on, and the
@@ -161,7 +168,8 @@ cloned_below-items = refl
 
 cloned_below-agrees :
     disagreement cloned_below (parts_of_book ((1048576, leaf_kept 2 false (KeyedBlock 5)) ∷ cloned_extent ∷ [])) ≡ None
-unfolding disagreement recorded_addresses agrees_at layout_extents owed owed_by_node pieces_of file_part inode_read extent_data_read inode_text extent_data_text u64_bytes u16_bytes u64_at
+unfolding disagreement recorded_addresses agrees_at layout_extents owed owed_by_node pieces_of file_part inode_read
+    extent_data_read inode_text extent_data_text u64_bytes u16_bytes u64_at
 cloned_below-agrees = refl
 
 -- ---- a full node, and an extent with a shared reference that counts 2 behind a keyed one
@@ -175,7 +183,8 @@ unfolding extent_text u64_bytes
 full_leaf-items = refl
 
 shared_extent-items :
-    items_of_extent (first_extent (once (KeyedData 5 257 0) ∷ record { reference = SharedData 1048576; count = 2 } ∷ []))
+    items_of_extent (first_extent (once (KeyedData 5 257 0) ∷ record { reference = SharedData 1048576; count = 2 }
+    ∷ []))
     ≡ item_at 67174400 168 8192 (eight 3 ++ eight 2 ++ eight 1)
     ∷ item_at 67174400 178 0 (eight 5 ++ next_hundreds 1 ++ eight 0 ++ four 1)
     ∷ item_at 67174400 184 1048576 (four 2)

@@ -1,5 +1,6 @@
 -- What the steps of reading a book do (this project's own).
-use Rattle.std.specs.Prelude.{◌≡◌, ◌≢◌, ℕ, ◌+◌, ◌<◌, ◌≤◌, ◌⊎◌, Bool, true, false, ◌&&◌, List, length, Option, Some, None, ◌==◌, slice_index_or}
+use Rattle.std.specs.Prelude.{◌≡◌, ◌≢◌, ℕ, ◌+◌, ◌<◌, ◌≤◌, ◌⊎◌, Bool, true, false, ◌&&◌, List, length, Option, Some}
+use Rattle.std.specs.Prelude.{None, ◌==◌, slice_index_or}
 use Rattle.qg_items.specs.declared.extent.Reference.{Reference}
 use Rattle.qg_image.specs.declared.part.ExtentPart.{ExtentPart}
 use Rattle.qg_image.specs.Owed.{part_address}
@@ -7,7 +8,8 @@ use Rattle.qg_refs.specs.declared.counted.Counted.{Counted}
 use Rattle.qg_refs.specs.Counts.{count_of, greatest_count, HasSoManyMore, IsRefList}
 use Rattle.qg_extents.specs.declared.head.Head.{Head}
 use Rattle.qg_extents.specs.declared.gather.Gathered.{Gathered}
-use Rattle.qg_extents.specs.Told.{are_counted, is_count, is_sound_record, refs_told, tells_full, told_count, told_in, told_sum, what_told}
+use Rattle.qg_extents.specs.Told.{are_counted, is_count, is_sound_record, refs_told, tells_full, told_count, told_in}
+use Rattle.qg_extents.specs.Told.{told_sum, what_told}
 
 -- the parts from an index on, up to another, are those of one address
 pub record IsRun (parts : List ExtentPart) (from to : ℕ) : Type 0 where

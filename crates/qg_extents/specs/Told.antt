@@ -1,6 +1,7 @@
 -- When parts of the extent tree are the records of a book, and what they tell (this project's own). Addresses and
 -- lengths are in bytes.
-use Rattle.std.specs.Prelude.{◌≡◌, ⊤, ℕ, Bool, true, false, ◌&&◌, ◌||◌, not, List, [], ◌∷◌, length, map, Option, Some, None, ◌==◌, nat_lt, nat_le, if◌then◌else◌, ◌≤◌}
+use Rattle.std.specs.Prelude.{◌≡◌, ⊤, ℕ, Bool, true, false, ◌&&◌, ◌||◌, not, List, [], ◌∷◌, length, map, Option, Some}
+use Rattle.std.specs.Prelude.{None, ◌==◌, nat_lt, nat_le, if◌then◌else◌, ◌≤◌}
 use Rattle.std.specs.List.{AllPairs, filter, filter_map, find, list_all, sum_by}
 use Rattle.std.specs.Option.{option_and_then}
 use Rattle.qg_items.specs.declared.extent.Reference.{Reference}

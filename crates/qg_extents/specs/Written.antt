@@ -3,7 +3,8 @@
 use Rattle.std.specs.Prelude.{ℕ, ◌+◌, ◌^◌, ◌<◌, Bool, List, [], ◌∷◌, map, Option, Some, None, IfSome, All}
 use Rattle.std.specs.List.{flat_map, sum_by}
 use Rattle.qg_node.specs.declared.item.Item.{Item}
-use Rattle.qg_items.specs.declared.kind.TheConstants.{EXTENT_ITEM, METADATA_ITEM, TREE_BLOCK_REF, EXTENT_DATA_REF, SHARED_BLOCK_REF, SHARED_DATA_REF}
+use Rattle.qg_items.specs.declared.kind.TheConstants.{EXTENT_ITEM, METADATA_ITEM, TREE_BLOCK_REF, EXTENT_DATA_REF}
+use Rattle.qg_items.specs.declared.kind.TheConstants.{SHARED_BLOCK_REF, SHARED_DATA_REF}
 use Rattle.qg_items.specs.declared.extent.ExtentItem.{ExtentItem}
 use Rattle.qg_items.specs.declared.extent.Reference.{Reference}
 use Rattle.qg_items.specs.declared.extent.Reference.TheVariants.{KeyedBlock, SharedBlock, KeyedData, SharedData}

@@ -2,7 +2,8 @@
 ghost use Rattle.std.specs.Prelude.{◌≡◌, ◌+◌, ◌-◌, ◌≤◌, ◌<◌, ◌^◌, ◌++◌, [], All, IfOk, OnOk, IfSome};
 ghost use Rattle.qg_items.specs.ItemText.{shared_data_ref_text};
 ghost use Rattle.qg_items.specs.declared.extent.Reference.TheVariants.{KeyedData};
-ghost use Rattle.qg_extents.specs.Written.{item_at, item_of_record, item_of_reference, items_of_book, items_of_extent, number_behind, record_flags, refs_of, CountedFits, EntryFits};
+ghost use Rattle.qg_extents.specs.Written.{item_at, item_of_record, item_of_reference, items_of_book, items_of_extent};
+ghost use Rattle.qg_extents.specs.Written.{number_behind, record_flags, refs_of, CountedFits, EntryFits};
 
 use qg_items::kind::{
     EXTENT_DATA_REF, EXTENT_ITEM, METADATA_ITEM, SHARED_BLOCK_REF, SHARED_DATA_REF, TREE_BLOCK_REF,

@@ -78,7 +78,8 @@ module _ (kept : Kept) (state : State) (history : Option (List Event))
   passes-here : clone_refusal state sub ino off len kept.fs.tree.owner to_ino to_off ≡ None
   passes-here = ap (λ (n : ℕ). clone_refusal state sub ino off len n to_ino to_off) (sym hand) ∙ passes
 
-  pub is-late : IsLate state (Clone sub ino off len kept.fs.tree.owner to_ino to_off) kept.fs.tree.owner files_now amount
+  pub is-late : IsLate state (Clone sub ino off len kept.fs.tree.owner to_ino to_off) kept.fs.tree.owner files_now
+      amount
       pieces
   is-late = record {
     late = late-clone state sub ino off len kept.fs.tree.owner to_ino to_off passes-here
@@ -90,7 +91,8 @@ module _ (kept : Kept) (state : State) (history : Option (List Event))
   pub lacks-slots : (reason : Refusal) → Some reason ≡ slots_refusal kept pieces
       → Answered state (Clone sub ino off len to_sub to_ino to_off) (Refused reason) [] kept history
   lacks-slots reason is =
-      subst (λ (n : ℕ). Answered state (Clone sub ino off len n to_ino to_off) (Refused reason) [] kept history) (sym hand)
+      subst (λ (n : ℕ). Answered state (Clone sub ino off len n to_ino to_off) (Refused reason) [] kept history)
+      (sym hand)
       (does_nothing kept state history (Clone sub ino off len kept.fs.tree.owner to_ino to_off) reason keeps
       (late-refusal kept state history bytes fits keeps table (Clone sub ino off len kept.fs.tree.owner to_ino to_off)
       files_now amount pieces is-late ∙ sym is))
@@ -99,7 +101,8 @@ module _ (kept : Kept) (state : State) (history : Option (List Event))
   amount-told : (reserved : ℕ) → reserved ≡ clone_reserves kept → reserved ≡ amount
   amount-told reserved is = is ∙ sym (ap (λ (sizes : Sizes). sizes.nodesize) fits.fitted.sizes)
 
-  pub clones : (fs : FsTree) (quota : Option QuotaState) (after : Option (List Event)) → None ≡ slots_refusal kept pieces
+  pub clones : (fs : FsTree) (quota : Option QuotaState) (after : Option (List Event))
+      → None ≡ slots_refusal kept pieces
       → Follows kept fs state keeps.mine history files_now pieces → after ≡ history → Reserves kept quota amount
       → Answered state (Clone sub ino off len to_sub to_ino to_off) Done [] (edited kept fs quota) after
   clones fs quota after enough follows same reserves =

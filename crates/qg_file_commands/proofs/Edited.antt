@@ -40,7 +40,8 @@ module _ (old new : FsTree) (others : new.others.items ≡ old.others.items) whe
 
   numbered-same : new.tree.owner ≡ old.tree.owner → AreNumbered old → AreNumbered new
   numbered-same owner numbered = record {
-    ascending = subst (λ (trees : List Root). IsStrictlyIncreasing (map (λ (tree : Root). tree.owner) trees)) (sym others)
+    ascending = subst (λ (trees : List Root). IsStrictlyIncreasing (map (λ (tree : Root). tree.owner) trees))
+        (sym others)
         numbered.ascending;
     apart_at = λ other has is. numbered.apart_at other (other-there other has) (is ∙ owner);
   }

@@ -1,5 +1,5 @@
--- What is known of the state that something is kept of: its subvolumes, the files of the one at hand, and what is pending.
--- Sizes are in bytes.
+-- What is known of the state that something is kept of: its subvolumes, the files of the one at hand, and what is
+-- pending. Sizes are in bytes.
 use Rattle.std.proofs.Common.{◌≡◌, ℕ, Bool, true, false, List, None, Some, Option, sym, ap, ◌∙◌}
 use Rattle.std.specs.Prelude.{is_none, not, nat_le, nat_lt}
 use Rattle.qg_device.specs.History.{Event}

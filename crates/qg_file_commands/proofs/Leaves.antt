@@ -89,7 +89,8 @@ module _ (old : Kept) (fs : FsTree) (before after : Option (List Event)) (bytes 
     low = omega arith;
     few_edits = omega arith;
     few_names = omega arith;
-    after_most = after-most (book_weight old) (book_weight (edited old fs old.quota)) (root_weight old) (quota_weight old)
+    after_most = after-most (book_weight old) (book_weight (edited old fs old.quota)) (root_weight old)
+        (quota_weight old)
         ((pieces + 3) * edit_bytes old.superblock.nodesize 3) (names * name_new_bytes)
         (subst (λ (nodesize : ℕ). book_weight (edited old fs old.quota) ≤ book_weight old
         + ((pieces + 3) * edit_bytes nodesize 3 + names * name_new_bytes)) nodesize-is weighs);
@@ -102,7 +103,8 @@ module _ (old : Kept) (fs : FsTree) (before after : Option (List Event)) (bytes 
       (book_weight old + root_weight old + quota_weight old)
       (book_weight (edited old fs old.quota) + root_weight old + quota_weight old) (free_slots old.fs.land.space)
       (free_slots fs.land.space) heavier-by enough leaves.free in
-      parts-need (nodes_filled nodesize (book_weight (edited old fs old.quota))) (nodes_filled nodesize (root_weight old))
+      parts-need (nodes_filled nodesize (book_weight (edited old fs old.quota)))
+      (nodes_filled nodesize (root_weight old))
       (nodes_filled nodesize (quota_weight old))
       (nodes_filled nodesize (book_weight (edited old fs old.quota) + root_weight old + quota_weight old))
       (free_slots fs.land.space)

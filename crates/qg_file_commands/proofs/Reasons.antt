@@ -1,5 +1,7 @@
--- Why a command may be refused before the free slots are counted, told by what is kept. Positions and sizes are in bytes.
-use Rattle.std.proofs.Common.{◌≡◌, ℕ, ◌+◌, ◌<◌, ◌≤◌, Bool, true, false, List, [], ◌∷◌, None, Some, Option, refl, sym, ap, ◌∙◌}
+-- Why a command may be refused before the free slots are counted, told by what is kept. Positions and sizes are in
+-- bytes.
+use Rattle.std.proofs.Common.{◌≡◌, ℕ, ◌+◌, ◌<◌, ◌≤◌, Bool, true, false, List, [], ◌∷◌, None, Some, Option, refl, sym}
+use Rattle.std.proofs.Common.{ap, ◌∙◌}
 use Rattle.std.specs.Prelude.{◌==◌, ◌&&◌, is_none, is_some, nat_le, nat_lt, not}
 use Rattle.std.specs.Option.{option_map}
 use Rattle.std.proofs.lemmas.Bool.{le-leb, lt-leb, true≢false}
@@ -69,14 +71,18 @@ module _ (kept : Kept) (state : State) (history : Option (List Event)) (keeps : 
 
   -- ---- a subvolume that isn't there
 
-  pub other-range : (sub off len : ℕ) → has_key sub kept.snapshots ≡ false → range_refusal state sub off len ≡ Some why.NoSub
+  pub other-range : (sub off len : ℕ) → has_key sub kept.snapshots ≡ false
+      → range_refusal state sub off len ≡ Some why.NoSub
   other-range sub off len other =
       ap (λ (first : Option Refusal). first_some (first ∷ no_align (off ∷ []) len ∷ no_far ((off + len) ∷ [])
-      ∷ refuse (nat_lt longest_extent len) why.Far ∷ too_many_pending state ∷ [])) (no-other kept state history keeps sub other)
+      ∷ refuse (nat_lt longest_extent len) why.Far ∷ too_many_pending state ∷ []))
+      (no-other kept state history keeps sub other)
 
-  pub other-size : (sub ino size : ℕ) → has_key sub kept.snapshots ≡ false → size_refusal state sub ino size ≡ Some why.NoSub
+  pub other-size : (sub ino size : ℕ) → has_key sub kept.snapshots ≡ false
+      → size_refusal state sub ino size ≡ Some why.NoSub
   other-size sub ino size other =
-      ap (λ (first : Option Refusal). first_some (first ∷ no_file state sub ino ∷ refuse (not (is_aligned size)) why.Align
+      ap (λ (first : Option Refusal).
+      first_some (first ∷ no_file state sub ino ∷ refuse (not (is_aligned size)) why.Align
       ∷ no_far (size ∷ []) ∷ too_many_pending state ∷ [])) (no-other kept state history keeps sub other)
 
   pub other-unlink : (sub ino : ℕ) → has_key sub kept.snapshots ≡ false → unlink_refusal state sub ino ≡ Some why.NoSub

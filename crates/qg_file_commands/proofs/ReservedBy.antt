@@ -1,5 +1,6 @@
 -- Reservations where quota may be off: how they are judged, and what is held for them. All in bytes.
-use Rattle.std.proofs.Common.{◌≡◌, ℕ, ◌+◌, ◌*◌, ◌^◌, ◌<◌, ◌≤◌, Bool, true, List, ◌∷◌, None, Some, Option, refl, sym, ap, subst, ◌∙◌}
+use Rattle.std.proofs.Common.{◌≡◌, ℕ, ◌+◌, ◌*◌, ◌^◌, ◌<◌, ◌≤◌, Bool, true, List, ◌∷◌, None, Some, Option, refl, sym, ap}
+use Rattle.std.proofs.Common.{subst, ◌∙◌}
 use Rattle.std.proofs.Common.{arith, inl, inr}
 use Rattle.std.specs.Prelude.{◌&&◌, IfOk, IfSome, IsTrue, OnOk, Result, Ok, Err}
 use Rattle.std.specs.List.{All, Contains}
@@ -155,7 +156,8 @@ unfolding groups_above
 same_sub quota sub other sound has same =
     let own : has_number sub (path_of quota sub) ≡ true =
     has_filter (λ (n : ℕ). is_below quota.pairs sub n) sub (keys_of quota.groups)
-    ∙ both (is_below quota.pairs sub sub) (has_number sub (keys_of quota.groups)) (below_itself quota.pairs sub) has.there
+    ∙ both (is_below quota.pairs sub sub) (has_number sub (keys_of quota.groups)) (below_itself quota.pairs sub)
+    has.there
     in
     let there : (is_below quota.pairs other sub && has_number sub (keys_of quota.groups)) ≡ true =
     sym (has_filter (λ (n : ℕ). is_below quota.pairs other n) sub (keys_of quota.groups))
@@ -297,7 +299,8 @@ module _ (old held : Kept) (n : ℕ) (rest : held ≡ record old { quota = held.
     trees = fits.trees;
     numbered = fits.numbered;
     turn = fits.turn;
-    groups = subst (λ (q : Option Quota). AreGroupsOf old.fs.tree.next (keys_of old.snapshots) q) (sym same) fits.groups;
+    groups = subst (λ (q : Option Quota). AreGroupsOf old.fs.tree.next (keys_of old.snapshots) q)
+        (sym same) fits.groups;
     tracked = tracked;
     bounded = bounded-now fits small most;
     next = fits.next;
@@ -309,6 +312,7 @@ module _ (old held : Kept) (n : ℕ) (rest : held ≡ record old { quota = held.
   pub holds-counted : (path : List ℕ) → path ≡ path_in (quota_of old.quota) old.fs.tree.owner
       → HoldsThen old.quota held.quota path n
       → (given : Accepted) (pending : List Accepted) → given.sub ≡ old.fs.tree.owner → given.amount ≡ n
-      → IfSome old.quota (λ quota. HoldsAll quota pending) → IfSome held.quota (λ quota. HoldsAll quota (given ∷ pending))
+      → IfSome old.quota (λ quota. HoldsAll quota pending)
+      → IfSome held.quota (λ quota. HoldsAll quota (given ∷ pending))
   holds-counted path is holds given pending own amount before =
       holds given pending (is ∙ ap (λ (sub : ℕ). path_in (quota_of old.quota) sub) (sym own)) amount before

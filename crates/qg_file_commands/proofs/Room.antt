@@ -1,4 +1,5 @@
--- How many slots structural commands leave for their commits, in plain numbers. Weights are in bytes, the rest in slots.
+-- How many slots structural commands leave for their commits, in plain numbers. Weights are in bytes, the rest in
+-- slots.
 use Rattle.std.proofs.Common.{◌≡◌, ℕ, ◌+◌, ◌-◌, ◌*◌, ◌/◌, ◌<◌, ◌≤◌, arith}
 use Rattle.std.proofs.Math.Nat.{lt_of_mul-lt-mul_left, mul-div-le}
 use Rattle.qg_super.specs.Places.{capacity}

@@ -52,7 +52,8 @@ module _ (kept : Kept) (state : State) (history : Option (List Event)) (bytes su
   lacks-slots reason is =
       subst (λ (sub : ℕ). Answered state (Truncate sub ino size) (Refused reason) [] kept history) (sym top)
       (does_nothing kept state history (Truncate kept.fs.tree.owner ino size) reason keeps
-      (late-refusal kept state history bytes fits keeps table (Truncate kept.fs.tree.owner ino size) files_now 0 pieces is-late
+      (late-refusal kept state history bytes fits keeps table (Truncate kept.fs.tree.owner ino size) files_now 0 pieces
+      is-late
       ∙ sym is))
 
   pub sizes : (fs : FsTree) (after : Option (List Event)) → None ≡ slots_refusal kept pieces
@@ -60,7 +61,8 @@ module _ (kept : Kept) (state : State) (history : Option (List Event)) (bytes su
       → Answered state (Truncate sub ino size) Done [] (edited kept fs kept.quota) after
   sizes fs after enough follows same =
       subst (λ (sub : ℕ). Answered state (Truncate sub ino size) Done [] (edited kept fs kept.quota) after) (sym top)
-      (does_edit kept fs history after bytes state (Truncate kept.fs.tree.owner ino size) Done files_now 0 pieces fits keeps
+      (does_edit kept fs history after bytes state (Truncate kept.fs.tree.owner ino size) Done files_now 0 pieces fits
+      keeps
       table is-late enough refl follows same kept.quota (reserves-nothing kept) (λ done. done))
 
   -- the file was cut, or grew
@@ -76,4 +78,5 @@ module _ (kept : Kept) (state : State) (history : Option (List Event)) (bytes su
       (follows-edit kept fs history after bytes left state files_now pieces fits keeps table
       (subst (λ (k : Kept). IsTable k.fs.refs.refs) is table_new) held
       (subst (λ (n : ℕ). LeavesFiles kept.fs fs history files_now n) (sym touched) leaves)
-      ((short-left kept.fs.tree.next keeps.files (hand-short kept state history keeps)).cut ino size file there) enough) held.history)
+      ((short-left kept.fs.tree.next keeps.files (hand-short kept state history keeps)).cut ino size file there) enough)
+      held.history)

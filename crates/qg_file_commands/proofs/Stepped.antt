@@ -1,5 +1,6 @@
 -- What the machine does where nothing changes, and where files are edited, by what is kept. Weights are in bytes.
-use Rattle.std.proofs.Common.{◌≡◌, ℕ, ◌+◌, ◌*◌, ◌≤◌, true, List, [], ◌∷◌, None, Some, Option, map, refl, sym, ap, subst, ◌∙◌}
+use Rattle.std.proofs.Common.{◌≡◌, ℕ, ◌+◌, ◌*◌, ◌≤◌, true, List, [], ◌∷◌, None, Some, Option, map, refl, sym, ap, subst}
+use Rattle.std.proofs.Common.{◌∙◌}
 use Rattle.std.proofs.Common.{arith}
 use Rattle.std.specs.Prelude.{IfSome, MatchOption, length, nat_lt}
 use Rattle.std.specs.List.{All, Contains}
@@ -199,7 +200,8 @@ reserves-nothing old = record {
   holds = λ given pending own none held. more old.quota given pending none held;
 } where
   more : (quota : Option QuotaState) (given : Accepted) (pending : List Accepted) → given.amount ≡ 0
-      → IfSome quota (λ tracked. HoldsAll tracked pending) → IfSome quota (λ tracked. HoldsAll tracked (given ∷ pending))
+      → IfSome quota (λ tracked. HoldsAll tracked pending)
+      → IfSome quota (λ tracked. HoldsAll tracked (given ∷ pending))
   more None given pending none held = tt
   more (Some tracked) given pending none held = holds-nothing tracked given pending none held
 

@@ -14,7 +14,8 @@ use Rattle.qg_file_items.proofs.Counted.{met-all, met-past}
 use Rattle.qg_file_edits.proofs.Files.{file-found}
 
 pub met-many : (from to : ℕ) (pieces : List Piece) → length (pieces_met from to pieces) ≡ pieces_meeting from to pieces
-met-many from to pieces = length-filter (λ (piece : Piece). nat_lt piece.position to && nat_lt from (piece_end piece)) pieces
+met-many from to pieces = length-filter (λ (piece : Piece). nat_lt piece.position to && nat_lt from (piece_end piece))
+    pieces
 
 module _ (ino : ℕ) (file : File) (files : List (ℕ × File)) (there : value_at ino files ≡ Some file)
     (are : AreWritableFiles files) where

@@ -57,7 +57,8 @@ module _ (kept : Kept) (state : State) (history : Option (List Event)) (bytes su
       → Answered state (Unlink sub ino) Done [] (edited kept fs kept.quota) after
   unlinks fs after enough follows same =
       subst (λ (sub : ℕ). Answered state (Unlink sub ino) Done [] (edited kept fs kept.quota) after) (sym top)
-      (does_edit kept fs history after bytes state (Unlink kept.fs.tree.owner ino) Done files_now 0 pieces fits keeps table
+      (does_edit kept fs history after bytes state (Unlink kept.fs.tree.owner ino) Done files_now 0 pieces fits keeps
+      table
       is-late enough refl follows same kept.quota (reserves-nothing kept) (λ done. done))
 
   -- the file went
@@ -73,4 +74,5 @@ module _ (kept : Kept) (state : State) (history : Option (List Event)) (bytes su
       (follows-edit kept fs history after bytes left state files_now pieces fits keeps table
       (subst (λ (k : Kept). IsTable k.fs.refs.refs) is table_new) held
       (subst (λ (n : ℕ). LeavesFiles kept.fs fs history files_now n) (sym touched) leaves)
-      ((short-left kept.fs.tree.next keeps.files (hand-short kept state history keeps)).unlinked ino) enough) held.history)
+      ((short-left kept.fs.tree.next keeps.files (hand-short kept state history keeps)).unlinked ino) enough)
+      held.history)

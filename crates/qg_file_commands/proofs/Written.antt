@@ -82,7 +82,8 @@ module _ (kept : Kept) (state : State) (history : Option (List Event)) (bytes su
   lacks-slots reason is =
       subst (λ (sub : ℕ). Answered state (Write sub ino off len) (Refused reason) [] kept history) (sym top)
       (does_nothing kept state history (Write kept.fs.tree.owner ino off len) reason keeps
-      (late-refusal kept state history bytes fits keeps table (Write kept.fs.tree.owner ino off len) files_now amount pieces
+      (late-refusal kept state history bytes fits keeps table (Write kept.fs.tree.owner ino off len) files_now amount
+      pieces
       is-late ∙ sym is))
 
   -- what the machine reserves is what was reserved
@@ -90,12 +91,14 @@ module _ (kept : Kept) (state : State) (history : Option (List Event)) (bytes su
   amount-told reserved is =
       is ∙ ap (λ (nodesize : ℕ). len + nodesize) (sym (ap (λ (sizes : Sizes). sizes.nodesize) fits.fitted.sizes))
 
-  pub writes : (fs : FsTree) (quota : Option QuotaState) (after : Option (List Event)) → None ≡ slots_refusal kept pieces
+  pub writes : (fs : FsTree) (quota : Option QuotaState) (after : Option (List Event))
+      → None ≡ slots_refusal kept pieces
       → Follows kept fs state keeps.mine history files_now pieces → after ≡ history → Reserves kept quota amount
       → Answered state (Write sub ino off len) (Extent run) [] (edited kept fs quota) after
   writes fs quota after enough follows same reserves =
       subst (λ (sub : ℕ). Answered state (Write sub ino off len) (Extent run) [] (edited kept fs quota) after) (sym top)
-      (does_edit kept fs history after bytes state (Write kept.fs.tree.owner ino off len) (Extent run) files_now amount pieces
+      (does_edit kept fs history after bytes state (Write kept.fs.tree.owner ino off len) (Extent run) files_now amount
+      pieces
       fits keeps table is-late enough (ap (option_map (λ (extent : ℕ). Extent extent)) (sym found)) follows same quota
       reserves (λ done. done))
 
@@ -113,5 +116,6 @@ module _ (kept : Kept) (state : State) (history : Option (List Event)) (bytes su
       (follows-edit kept fs history after bytes left state files_now pieces fits keeps table
       (subst (λ (k : Kept). IsTable k.fs.refs.refs) is table_new) held
       (subst (λ (n : ℕ). LeavesFiles kept.fs fs history files_now n) (sym touched) leaves)
-      ((short-left kept.fs.tree.next keeps.files (hand-short kept state history keeps)).written ino off len run few) enough)
+      ((short-left kept.fs.tree.next keeps.files (hand-short kept state history keeps)).written ino off len run few)
+      enough)
       held.history (reserves-so kept new.quota reserved amount (amount-told reserved told) reserves))

@@ -22,8 +22,8 @@ pub record IsClonable (off len to_off : ℕ) : Type 0 where
   pub source : IsRange off len
   pub target : IsRange to_off len
 
--- pieces that can be cloned out of such a range: they lie apart, and there are fewer than 2^63 of them; and the number of
--- the target is one that a file may have
+-- pieces that can be cloned out of such a range: they lie apart, and there are fewer than 2^63 of them; and the number
+-- of the target is one that a file may have
 pub record CanClonePieces (pieces : List Piece) (off len to_ino to_off : ℕ) : Type 0 where
   pub apart : AreApart pieces
   pub few : length pieces < 2 ^ 63

@@ -81,8 +81,8 @@ pub(crate) fn pieces_in<D: Disk, L: Ledger>(
     )
 }
 
-/// What an edit of a range, in bytes, is to know of a file: its INODE_ITEM, and the pieces that the range meets. Else as
-/// [`inode_in`].
+/// What an edit of a range, in bytes, is to know of a file: its INODE_ITEM, and the pieces that the range meets. Else
+/// as [`inode_in`].
 pub(crate) fn found_in<D: Disk, L: Ledger>(
     kept: &mut Kept,
     disk: &mut D,

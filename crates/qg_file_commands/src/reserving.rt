@@ -16,8 +16,8 @@ use qg_groups::Judged;
 use qg_kept::Kept;
 use qg_num::{GroupId, GroupList, NoMemory, RootId};
 
-/// Judges a reservation of so many bytes into a subvolume. While quota is off no limit is in the way, and it counts in no
-/// group.
+/// Judges a reservation of so many bytes into a subvolume. While quota is off no limit is in the way, and it counts in
+/// no group.
 pub(crate) fn judge(kept: &Kept, sub: RootId, n: u64) -> Result<Judged, NoMemory>
     requires fitted { IsFitted kept.now }
     requires there { IsTrue (has_key sub kept.now.snapshots) }
@@ -31,8 +31,8 @@ pub(crate) fn judge(kept: &Kept, sub: RootId, n: u64) -> Result<Judged, NoMemory
     }
 }
 
-/// One file command more is pending, which reserves so many bytes into the subvolume at hand: they are held for the groups
-/// of its path.
+/// One file command more is pending, which reserves so many bytes into the subvolume at hand: they are held for the
+/// groups of its path.
 pub(crate) fn accept(kept: &mut Kept, path: &[GroupId], n: u64) -> Result<(), NoMemory>
     requires fitted { IsFitted kept.old }
     requires few { kept.old.pending < 65536 }
@@ -55,7 +55,8 @@ pub(crate) fn accept(kept: &mut Kept, path: &[GroupId], n: u64) -> Result<(), No
 // So many bytes more are held for some groups, while quota is on.
 fn hold(kept: &mut Kept, path: &[GroupId], n: u64) -> Result<(), NoMemory>
     requires tracked { IfSome kept.old.quota IsTracked }
-    requires path { (sub : ℕ) × (path.now ≡ path_in (quota_of kept.old.quota) sub) × IfSome (quota_of kept.old.quota) (λ quota. HasGroup quota sub) }
+    requires path { (sub : ℕ) × (path.now ≡ path_in (quota_of kept.old.quota) sub)
+        × IfSome (quota_of kept.old.quota) (λ quota. HasGroup quota sub) }
     requires fits { IfSome kept.old.quota (λ quota. All (λ group. held_of quota.limits group + n < 2 ^ 64) path.now) }
     ensures tracked { OnOk result (IfSome kept.new.quota IsTracked) }
     ensures same { quota_of kept.new.quota ≡ quota_of kept.old.quota }

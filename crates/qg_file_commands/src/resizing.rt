@@ -67,7 +67,8 @@ pub fn truncate<D: Disk, L: Ledger>(
 // Why a file that is there may not get a size, where so many commands are pending, before the free slots are counted.
 fn refusal_of_size(size: u64, pending: u64) -> Option<Refusal>
     ensures value { result ≡ first_some
-        (refuse (not (is_aligned size)) why.Align ∷ no_far (size ∷ []) ∷ refuse (nat_le most_pending pending) why.TooMany
+        (refuse (not (is_aligned size)) why.Align ∷ no_far (size ∷ [])
+        ∷ refuse (nat_le most_pending pending) why.TooMany
         ∷ []) }
     ensures aligned { IfNone result (IsTrue (is_aligned size)) }
     ensures near { IfNone result (size ≤ largest_size) }

@@ -1,5 +1,6 @@
 -- How often a reference is there while pieces of a file are exchanged.
-use Rattle.std.proofs.Common.{◌≡◌, ℕ, ◌^◌, ◌<◌, ◌≤◌, List, [], ◌∷◌, ◌++◌, length, Some, length-append, arith, sym, ap, subst}
+use Rattle.std.proofs.Common.{◌≡◌, ℕ, ◌^◌, ◌<◌, ◌≤◌, List, [], ◌∷◌, ◌++◌, length, Some, length-append, arith, sym, ap}
+use Rattle.std.proofs.Common.{subst}
 use Rattle.std.specs.List.{AllByRecursion}
 use Rattle.std.proofs.lemmas.List.{length-map}
 use Rattle.std.proofs.lemmas.List.Elements.{All-from_recursion}
@@ -71,7 +72,8 @@ pub put-tell : (generation ino : ℕ) (file : File) (old gone put : List Piece) 
     → TellPieces ino put
 put-tell generation ino file old gone put small is by exchange =
     let Tells : Piece → Type 0 = λ piece. name_told (item_of_piece ino piece) ≡ Some (ino, piece) in
-    let all = subst (λ (xs : List Piece). AllByRecursion (λ piece. name_told (item_of_piece ino piece) ≡ Some (ino, piece))
+    let all = subst (λ (xs : List Piece). AllByRecursion (λ piece. name_told (item_of_piece ino piece)
+    ≡ Some (ino, piece))
     xs) exchange.is (tell-pieces generation (ino, file) small is by) in
     let front = all_in_front Tells (exchange.front ++ put) exchange.back all in
     All-from_recursion Tells put (all_behind Tells exchange.front put front)

@@ -25,7 +25,8 @@ use Rattle.qg_file_edits.specs.Files.{LeavesHeld}
 use Rattle.qg_file_edits.specs.Naming.{AreNamed, KeepsNodes, StandsMoved}
 
 -- a tree that stands has three levels above its leaves at most
-pub stands-low : (fs : FsTree) (history : Option (List Event)) (bytes : ℕ) (items : List Item) (names : List (ℕ × Piece))
+pub stands-low : (fs : FsTree) (history : Option (List Event)) (bytes : ℕ) (items : List Item)
+    (names : List (ℕ × Piece))
     → IsSubvolume fs history bytes → Stands fs history items names → fs.tree.height ≤ 3
 stands-low fs history bytes items names subvolume stands =
     height-low Files fs.tree fs.land history items subvolume.editable.drafted stands.rooted.tells
@@ -84,7 +85,8 @@ edited-named added old new history items names nodes heavier named = record {
       (0 * edit_of old + added * name_new_bytes) (no_bytes (edit_of old) added) heavier;
 }
 
-pub edited-once : (old new : FsTree) (before after : Option (List Event)) (bytes left most : ℕ) (items items_new : List Item)
+pub edited-once : (old new : FsTree) (before after : Option (List Event)) (bytes left most : ℕ)
+    (items items_new : List Item)
     (names : List (ℕ × Piece)) → IsSubvolume old before bytes → Stands old before items names
     → IsEditedTo old new before items_new names (old.tree.height + 2)
     → Grows most old.tree new.tree old.land new.land → LeavesHeld old new before after bytes left
@@ -176,7 +178,8 @@ made-not edits added old new history items names reads fault none = record {
 }
 
 -- one edit
-pub made-once : (old new : FsTree) (before after : Option (List Event)) (bytes left most : ℕ) (items items_new : List Item)
+pub made-once : (old new : FsTree) (before after : Option (List Event)) (bytes left most : ℕ)
+    (items items_new : List Item)
     (names : List (ℕ × Piece)) (reads reads_new : ℕ) (result : Result (Unit {0}) BlockFault)
     → IsSubvolume old before bytes → Stands old before items names
     → OnOk result (IsEditedTo old new before items_new names (old.tree.height + 2))
@@ -185,7 +188,8 @@ pub made-once : (old new : FsTree) (before after : Option (List Event)) (bytes l
     → BreaksNone result)
     → reads_new ≤ reads + 9 * (old.tree.height + 2)
     → AreMade 1 0 old new before items_new names reads reads_new result
-made-once old new before after bytes left most items items_new names reads reads_new result subvolume stands edited grows leaves unbroken steps =
+made-once old new before after bytes left most items items_new names reads reads_new result subvolume stands edited
+    grows leaves unbroken steps =
     let low = stands-low old before bytes items names subvolume stands in
     record {
       done = both result edited grows;
@@ -207,7 +211,8 @@ pub made-then : (i j most m n sum : ℕ) (a b c : FsTree) (history : Option (Lis
     → IsEditedBy i m a b history items names → some ≤ reads + 45 * i
     → AreMade j n b c history items_new names_new some reads_new result
     → AreMade most sum a c history items_new names_new reads reads_new result
-made-then i j most m n sum a b c history items items_new names names_new reads some reads_new result bound more first steps later =
+made-then i j most m n sum a b c history items items_new names names_new reads some reads_new result bound more first
+    steps later =
     let free = first.free in
     let steps_later = later.reads in
     record {

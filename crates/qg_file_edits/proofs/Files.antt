@@ -1,9 +1,11 @@
 -- Files once one of them is changed: they can be written, and tell no later generation.
-use Rattle.std.proofs.Common.{◌≡◌, ℕ, ◌<◌, ◌≤◌, true, List, [], ◌∷◌, Option, Some, None, arith, refl, sym, subst, ◌∙◌, inl, inr}
+use Rattle.std.proofs.Common.{◌≡◌, ℕ, ◌<◌, ◌≤◌, true, List, [], ◌∷◌, Option, Some, None, arith, refl, sym, subst, ◌∙◌}
+use Rattle.std.proofs.Common.{inl, inr}
 use Rattle.std.specs.Prelude.{◌==◌, not}
 use Rattle.std.specs.List.{All}
 use Rattle.std.proofs.lemmas.Bool.{cases_eq, cond-false, cond-true, eq-eqb, ne_eqb}
-use Rattle.std.proofs.lemmas.List.Elements.{All-filter, All-from_recursion, All-head, All-nil, All-tail, recursion_from_All}
+use Rattle.std.proofs.lemmas.List.Elements.{All-filter, All-from_recursion, All-head, All-nil, All-tail}
+use Rattle.std.proofs.lemmas.List.Elements.{recursion_from_All}
 use Rattle.qg_num.specs.declared.piece.Piece.{Piece}
 use Rattle.qg_image.specs.declared.file.File.{File}
 use Rattle.qg_image.specs.FilesOf.{are_pieces, inodes_end, is_aligned, largest_size, least_inode}
@@ -97,7 +99,8 @@ range-by generation ino from to given files stamped by =
 
 -- ---- a size
 
-module _ (generation ino size : ℕ) (file : File) (files : List (ℕ × File)) (there : value_at ino files ≡ Some file) where
+module _ (generation ino size : ℕ) (file : File) (files : List (ℕ × File))
+    (there : value_at ino files ≡ Some file) where
   pub cut-writable : AreWritableFiles files → is_aligned size ≡ true → size ≤ largest_size
       → IsWritableFile (ino, with_size generation size file)
   cut-writable are aligned near =

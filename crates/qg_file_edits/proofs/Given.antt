@@ -18,7 +18,8 @@ unfolding AreApartFrom
 one-apart generation off len run some near =
     (omega arith, record { some = some; within = near; in_extent = omega (arith, near) }, tt)
 
-pub one-ends : (generation off len run : ℕ) → All (λ piece. piece_end piece ≤ off + len) (new_piece generation off len run ∷ [])
+pub one-ends : (generation off len run : ℕ)
+    → All (λ piece. piece_end piece ≤ off + len) (new_piece generation off len run ∷ [])
 one-ends generation off len run =
     let by = λ (piece : Piece). piece_end piece ≤ off + len in
     All-cons by (new_piece generation off len run) [] (omega arith) (All-nil by)

@@ -32,7 +32,8 @@ pub made-handed : (edits added : ℕ) (old new : FsTree) (history : Option (List
     → result ≡ Err fault → AreMade edits added old new history items names reads reads_new (Err fault)
     → AreMade edits added old new history items names reads reads_new result
 made-handed edits added old new history items names reads reads_new result fault is made =
-    subst (λ (r : Result (Unit {0}) BlockFault). AreMade edits added old new history items names reads reads_new r) (sym is)
+    subst (λ (r : Result (Unit {0}) BlockFault). AreMade edits added old new history items names reads reads_new r)
+    (sym is)
     made
 
 -- a reference that is not what it should be is no fault of the disk's
@@ -49,7 +50,8 @@ misfit-none {A} at (Ok x) met disk = cc
 misfit-none {A} at (Err fault) met disk = misfit-other at (Err fault) fault refl met disk
 
 -- a fault that is none of the disk's
-pub cause-other : {A : Type 0} (before now : ℕ) (result : Result A BlockFault) → before ≤ now → (IsErrOf result Disk → ⊥)
+pub cause-other : {A : Type 0} (before now : ℕ) (result : Result A BlockFault) → before ≤ now
+    → (IsErrOf result Disk → ⊥)
     → HasCause Disk before now result
 cause-other before now result later none = record { later = later; rose = λ is. absurd (none is) }
 

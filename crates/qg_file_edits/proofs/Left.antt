@@ -1,5 +1,6 @@
 -- What a command leaves, once its edits are done.
-use Rattle.std.proofs.Common.{◌≡◌, ℕ, zero, suc, ◌+◌, ◌*◌, ◌≤◌, List, ◌++◌, length, Option, Some, Result, Ok, Err, arith, refl, sym, subst}
+use Rattle.std.proofs.Common.{◌≡◌, ℕ, zero, suc, ◌+◌, ◌*◌, ◌≤◌, List, ◌++◌, length, Option, Some, Result, Ok, Err}
+use Rattle.std.proofs.Common.{arith, refl, sym, subst}
 use Rattle.std.specs.Prelude.{OnOk}
 use Rattle.std.specs.List.{All, flat_map}
 use Rattle.std.specs.Option.{option_to_list}
@@ -64,8 +65,10 @@ come_covered (suc height) edits pieces taken there come most low few all each =
 
 -- what the clauses of a command say, by what its exchange did
 module _ (edits added pieces : ℕ) (old new : FsTree) (history : Option (List Event)) (files_new : List (ℕ × File))
-    (reads reads_new : ℕ) (result : Result (Unit {0}) BlockFault) (most : edits ≤ pieces + 3) (names : added ≤ 2 * (pieces + 3))
-    (made : AreMade edits added old new history (flat_map items_of_file files_new) (named files_new) reads reads_new result)
+    (reads reads_new : ℕ) (result : Result (Unit {0}) BlockFault) (most : edits ≤ pieces + 3)
+    (names : added ≤ 2 * (pieces + 3))
+    (made : AreMade edits added old new history (flat_map items_of_file files_new) (named files_new) reads reads_new
+    result)
   where
     pub left-files : (items : List Item) (names : List (ℕ × Piece)) → Stands old history items names
         → IsDrafted old.land old.tree.next → IsDrafted new.land new.tree.next → IsTable old.refs.refs
@@ -98,7 +101,8 @@ module _ (edits added pieces : ℕ) (old new : FsTree) (history : Option (List E
             heavier = BookGetsHeavier-most old.refs new.refs
                 (edits * edit_bytes old.land.space.sizes.nodesize 3 + added * name_new_bytes)
                 ((pieces + 3) * edit_bytes old.land.space.sizes.nodesize 3 + 2 * (pieces + 3) * name_new_bytes)
-                (most_bytes (edit_bytes old.land.space.sizes.nodesize 3) edits (pieces + 3) added (2 * (pieces + 3)) most
+                (most_bytes (edit_bytes old.land.space.sizes.nodesize 3) edits (pieces + 3) added
+                (2 * (pieces + 3)) most
                 names) edited.heavier;
           }
       cases (Err fault) edited table_new = tt
@@ -120,20 +124,26 @@ module _ (pieces : ℕ) (old new : FsTree) (ino : ℕ) (change : Exchange) (hist
     (called : (edits : ℕ) (files files_new : List (ℕ × File))
     → Stands old history (flat_map items_of_file files) (named files)
     → MakesFiles edits old.tree.owner ino change (names_elsewhere old history) files files_new
-    → AreMade edits (length (change.named ++ option_to_list change.new)) old new history (flat_map items_of_file files_new) (named files_new) reads reads_new result) where
-  all_made : AreMade told.edits (length (change.named ++ option_to_list change.new)) old new history (flat_map items_of_file files_new) (named files_new) reads reads_new result
+    → AreMade edits (length (change.named ++ option_to_list change.new)) old new history
+    (flat_map items_of_file files_new) (named files_new) reads reads_new result) where
+  all_made : AreMade told.edits (length (change.named ++ option_to_list change.new)) old new history
+      (flat_map items_of_file files_new) (named files_new) reads reads_new result
   all_made = called told.edits files files_new holds.stands told.makes
 
-  pub done-files : (bytes : ℕ) → IsSubvolume old history bytes → IsTable old.refs.refs → IsDrafted new.land new.tree.next
+  pub done-files : (bytes : ℕ) → IsSubvolume old history bytes → IsTable old.refs.refs
+      → IsDrafted new.land new.tree.next
       → OnOk result (IsTable new.refs.refs) → OnOk result (LeavesFiles old new history files_new pieces)
   done-files bytes subvolume table drafted_new still =
-      left-files told.edits (length (change.named ++ option_to_list change.new)) pieces old new history files_new reads reads_new result told.most told.few all_made
+      left-files told.edits (length (change.named ++ option_to_list change.new)) pieces old new history files_new reads
+      reads_new result told.most told.few all_made
       (flat_map items_of_file files) (named files) holds.stands subvolume.editable.drafted drafted_new table still
       told.writable told.by
 
   pub done-sound : (events : List Event) → history ≡ Some events
       → 10 * file_copies old.tree.height pieces ≤ free_slots old.land.space → BreaksNone result
-  done-sound = left-sound told.edits (length (change.named ++ option_to_list change.new)) pieces old new history files_new reads reads_new result told.most told.few all_made
+  done-sound = left-sound told.edits (length (change.named ++ option_to_list change.new)) pieces old new history
+      files_new reads reads_new result told.most told.few all_made
 
   pub done-reads : reads_new ≤ reads + 45 * (pieces + 3)
-  done-reads = left-reads told.edits (length (change.named ++ option_to_list change.new)) pieces old new history files_new reads reads_new result told.most told.few all_made
+  done-reads = left-reads told.edits (length (change.named ++ option_to_list change.new)) pieces old new history
+      files_new reads reads_new result told.most told.few all_made

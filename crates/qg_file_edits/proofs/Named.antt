@@ -1,5 +1,6 @@
 -- Pieces that name extents, or name them no more, one after the other.
-use Rattle.std.proofs.Common.{◌≡◌, ◌≢◌, ℕ, ◌+◌, ◌*◌, ◌<◌, ◌≤◌, List, [], ◌∷◌, ◌++◌, map, take, drop, length, length-append, Option, Result, Ok, Err, arith, sym, ap, subst, true, ◌∙◌}
+use Rattle.std.proofs.Common.{◌≡◌, ◌≢◌, ℕ, ◌+◌, ◌*◌, ◌<◌, ◌≤◌, List, [], ◌∷◌, ◌++◌, map, take, drop, length}
+use Rattle.std.proofs.Common.{length-append, Option, Result, Ok, Err, arith, sym, ap, subst, true, ◌∙◌}
 use Rattle.std.specs.Prelude.{Contains, OnOk}
 use Rattle.std.specs.List.{filter_map}
 use Rattle.std.proofs.lemmas.Bool.{and_parts, leb-true}
@@ -25,7 +26,8 @@ use Rattle.qg_tree_refs.specs.declared.tree_refs.TreeRefs.{TreeRefs}
 use Rattle.qg_tree_refs.specs.Heavier.{BookGetsHeavier, name_bytes, name_new_bytes}
 use Rattle.qg_tree_refs.proofs.Sums.{BookGetsHeavier-most, BookGetsHeavier-same, BookGetsHeavier-then}
 use Rattle.qg_fs_tree.specs.declared.fs_tree.FsTree.{FsTree}
-use Rattle.qg_fs_tree.specs.Standing.{IsKnownExtent, IsSubvolume, KeepsTree, Stands, extents_named, name_of, name_told, names_elsewhere, names_times}
+use Rattle.qg_fs_tree.specs.Standing.{IsKnownExtent, IsSubvolume, KeepsTree, Stands, extents_named, name_of, name_told}
+use Rattle.qg_fs_tree.specs.Standing.{names_elsewhere, names_times}
 use Rattle.qg_fs_tree.proofs.Ordered.{stands-ordered}
 use Rattle.qg_fs_layout.proofs.Moved.{moves-itself, moves-then, names-move}
 use Rattle.qg_exchange.specs.Named.{names_of}
@@ -83,7 +85,8 @@ first_behind fs history items ino piece names stands =
 -- ---- one call
 
 -- what a call that names a piece asks
-pub record CanName (fs : FsTree) (history : Option (List Event)) (bytes : ℕ) (items : List Item) (names : List (ℕ × Piece))
+pub record CanName (fs : FsTree) (history : Option (List Event)) (bytes : ℕ) (items : List Item)
+    (names : List (ℕ × Piece))
     (ino : ℕ) (piece : Piece) : Type 0 where
   pub subvolume : IsSubvolume fs history bytes
   pub stands : Stands fs history items names

@@ -76,7 +76,8 @@ module _ (old new : FsTree) (before after : Option (List Event)) (bytes left rea
           → can wanted
           → AreCovered old.tree.owner (filter_map name_told (with_item (record { key = wanted; body = text }) items))
           names
-          → AreMade 1 0 old new before (with_item (record { key = wanted; body = text }) items) names reads reads_new result
+          → AreMade 1 0 old new before (with_item (record { key = wanted; body = text }) items) names reads reads_new
+          result
       unfolding MakesOnce
       once-put can key wanted body text key_is body_is put grows sound may covered =
           let here = subst can (sym key_is) may in
@@ -88,7 +89,8 @@ module _ (old new : FsTree) (before after : Option (List Event)) (bytes left rea
           (put here covered_here, grows, λ events known. sound events known here) in
           subst (λ (k : Key). AreMade 1 0 old new before (with_item (record { key = k; body = text }) items) names reads
           reads_new result) key_is
-          (subst (λ (b : List ℕ). AreMade 1 0 old new before (with_item (record { key = key; body = b }) items) names reads
+          (subst (λ (b : List ℕ). AreMade 1 0 old new before (with_item (record { key = key; body = b }) items) names
+          reads
           reads_new result) body_is made_here)
 
 -- what is said of an item by its key and its body

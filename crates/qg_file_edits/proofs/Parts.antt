@@ -48,7 +48,8 @@ module _ (P : Piece → Type 0) (lasts : Lasts P) where
   all_after from (piece ∷ pieces) all = after_one from piece (after from pieces) all.0 (all_after from pieces all.1)
 
   pub all-before : (to : ℕ) (pieces : List Piece) → All P pieces → All P (before to pieces)
-  all-before to pieces all = All-from_recursion P (before to pieces) (all_before to pieces (recursion_from_All P pieces all))
+  all-before to pieces all =
+      All-from_recursion P (before to pieces) (all_before to pieces (recursion_from_All P pieces all))
 
   pub all-within : (from to : ℕ) (pieces : List Piece) → All P pieces → All P (within from to pieces)
   all-within from to pieces all =

@@ -5,7 +5,8 @@ use Rattle.std.specs.List.Sorted.{IsPermutation}
 use Rattle.std.specs.Prelude.{OnOk}
 use Rattle.std.specs.Option.{option_to_list}
 use Rattle.std.proofs.lemmas.List.{append_assoc}
-use Rattle.std.proofs.lemmas.List.Sorted.{IsPermutation-append_comm, IsPermutation-append_left, IsPermutation-append_right, IsPermutation-sym, IsPermutation-trans}
+use Rattle.std.proofs.lemmas.List.Sorted.{IsPermutation-append_comm, IsPermutation-append_left}
+use Rattle.std.proofs.lemmas.List.Sorted.{IsPermutation-append_right, IsPermutation-sym, IsPermutation-trans}
 use Rattle.qg_device.specs.History.{Event}
 use Rattle.qg_num.specs.declared.fault.BlockFault.{BlockFault}
 use Rattle.qg_num.specs.declared.piece.Piece.{Piece}
@@ -25,7 +26,8 @@ use Rattle.qg_fs_tree.specs.Standing.{IsSubvolume, Stands, name_told, names_else
 use Rattle.qg_fs_tree.proofs.Ordered.{stands-ordered}
 use Rattle.qg_file_edits.specs.declared.exchange.Exchange.{Exchange}
 use Rattle.qg_file_edits.specs.Editing.{AreMade, CanEditInode, IsEditedBy, after_inode}
-use Rattle.qg_file_edits.specs.Exchanging.{AreCoveredThroughout, CanEditSo, CoversExchange, MakesFiles, after_exchange, exchanged}
+use Rattle.qg_file_edits.specs.Exchanging.{AreCoveredThroughout, CanEditSo, CoversExchange, MakesFiles, after_exchange}
+use Rattle.qg_file_edits.specs.Exchanging.{exchanged}
 use Rattle.qg_file_edits.specs.Files.{StaysOwn}
 use Rattle.qg_file_edits.specs.Naming.{AreCovered, AreFewNames, AreNamed, AreOfNamed, KeepsNodes, StandsMoved}
 use Rattle.qg_file_edits.proofs.Edited.{edited-named, edited-then, made-failed, made-named, made-then}
@@ -85,7 +87,8 @@ module _ (edits ino : ℕ) (change : Exchange) (steps : List Step) (old mid : Fs
       → CanEditInode ino change.inode items
       → AreCovered mid.tree.owner (filter_map name_told (after_inode ino change.inode items)) names
       → AreMade 1 0 mid new after (after_inode ino change.inode items) names some reads_new result)
-      → StaysOwn old mid → (items : List Item) (names : List (ℕ × Piece)) → Stands old before items names → CanEditSo edits ino change
+      → StaysOwn old mid → (items : List Item) (names : List (ℕ × Piece)) → Stands old before items names
+      → CanEditSo edits ino change
       items
       → CoversExchange old.tree.owner ino change items names
       → AreMade edits 0 old new before (after_exchange ino change items) names reads reads_new result
@@ -99,9 +102,11 @@ module _ (edits ino : ℕ) (change : Exchange) (steps : List Step) (old mid : Fs
       let edited = subst (λ (xs : List Item). IsEditedBy (length steps) 0 old mid before xs names) makes.made first.done
       in
       let here = subst (λ (h : Option (List Event)). Stands mid h left names) (sym same) edited.stands in
-      let later = subst (λ (h : Option (List Event)). AreMade 1 0 mid new h (after_inode ino change.inode left) names some
+      let later = subst (λ (h : Option (List Event)). AreMade 1 0 mid new h (after_inode ino change.inode left) names
+      some
       reads_new result) same (followed left names here can.inode last) in
-      made-then (length steps) 1 edits 0 0 0 old mid new before left (after_exchange ino change items) names names reads some
+      made-then (length steps) 1 edits 0 0 0 old mid new before left (after_exchange ino change items) names names reads
+      some
       reads_new result (can.short steps are) (omega arith) edited first.reads later
 
   -- or a step fails
@@ -143,8 +148,10 @@ module _ (edits ino : ℕ) (change : Exchange) (files files_new : List (ℕ × F
       ≤ names_times owner (names_of ino (change.named ++ option_to_list change.new) ++ named files) at reference
   besides_told owner at reference =
       let put = times-both owner (names_of ino change.put) (named files) at reference in
-      let here = times-both owner (names_of ino (change.named ++ option_to_list change.new)) (named files) at reference in
-      let alike = names-ordered owner at reference (names_of ino (change.named ++ option_to_list change.new)) (names_of ino change.put)
+      let here = times-both owner (names_of ino (change.named ++ option_to_list change.new))
+      (named files) at reference in
+      let alike = names-ordered owner at reference (names_of ino (change.named ++ option_to_list change.new))
+      (names_of ino change.put)
       makes.put in
       omega (arith, put, here, alike)
 
@@ -154,7 +161,8 @@ module _ (edits ino : ℕ) (change : Exchange) (files files_new : List (ℕ × F
   last_told owner at reference =
       let first = gone_first (names_of ino (change.named ++ option_to_list change.new)) (names_of ino change.put)
       (names_of ino change.gone) (named files) (named files_new) makes.put makes.names in
-      let alike = names-ordered owner at reference (names_of ino (change.named ++ option_to_list change.new) ++ named files)
+      let alike = names-ordered owner at reference (names_of ino (change.named ++ option_to_list change.new)
+      ++ named files)
       (names_of ino change.gone ++ named files_new) first in
       let both = times-both owner (names_of ino change.gone) (named files_new) at reference in
       omega (arith, alike, both)
@@ -189,19 +197,22 @@ module _ (edits ino : ℕ) (change : Exchange) (files files_new : List (ℕ × F
         → AreMade edits 0 named_tree edited before (after_exchange ino change items) names reads some result)
         → AreMade edits 0 named_tree edited before (flat_map items_of_file files_new) besides reads some result
     then-edited edited reads some result called =
-        subst (λ (items : List Item). AreMade edits 0 named_tree edited before items besides reads some result) makes.made
+        subst (λ (items : List Item). AreMade edits 0 named_tree edited before items besides reads some result)
+        makes.made
         (called (flat_map items_of_file files) besides first.stands makes.can (covers named_tree.tree.owner))
 
     -- and it fails
     pub edit-failed : (edited : FsTree) (reads some : ℕ) (fault : BlockFault)
         → AreMade edits 0 named_tree edited before (flat_map items_of_file files_new) besides reads some (Err fault)
-        → AreMade edits (length (change.named ++ option_to_list change.new)) old edited before (flat_map items_of_file files_new) (named files_new) reads some (Err fault)
+        → AreMade edits (length (change.named ++ option_to_list change.new)) old edited before
+        (flat_map items_of_file files_new) (named files_new) reads some (Err fault)
     edit-failed edited reads some fault failed =
         let begun = edited-named (length (change.named ++ option_to_list change.new)) old named_tree before
         (flat_map items_of_file files) besides nodes heavier first in
         let all = made-then 0 edits edits (length (change.named ++ option_to_list change.new)) 0
         (length (change.named ++ option_to_list change.new)) old named_tree edited before (flat_map items_of_file files)
-        (flat_map items_of_file files_new) besides besides reads reads some (Err fault) (omega arith) (omega arith) begun (omega
+        (flat_map items_of_file files_new) besides besides reads reads some (Err fault) (omega arith)
+        (omega arith) begun (omega
         arith)
         failed in
         made-failed edits edits (length (change.named ++ option_to_list change.new))
@@ -217,7 +228,8 @@ module _ (edits ino : ℕ) (change : Exchange) (files files_new : List (ℕ × F
         names)
         → AreCovered edited.tree.owner (filter_map name_told items) names
         → AreNamed edited new after items names result)
-        → AreMade edits (length (change.named ++ option_to_list change.new)) old new before (flat_map items_of_file files_new) (named files_new) reads some result
+        → AreMade edits (length (change.named ++ option_to_list change.new)) old new before
+        (flat_map items_of_file files_new) (named files_new) reads some result
     last-unnamed edited new after left reads some result same still kept light made called =
         let items = flat_map items_of_file files_new in
         let begun = edited-named (length (change.named ++ option_to_list change.new)) old named_tree before
@@ -233,10 +245,12 @@ module _ (edits ino : ℕ) (change : Exchange) (files files_new : List (ℕ × F
         files_new))
         (sym same) turned in
         let unnamed = called items (named files_new) here (λ at reference. omega arith) in
-        let last = subst (λ (h : Option (List Event)). AreMade 0 0 edited new h items (named files_new) some some result)
+        let last = subst (λ (h : Option (List Event)). AreMade 0 0 edited new h items (named files_new) some some
+        result)
         same
         (made-named 0 edited new after items (named files_new) some result kept light unnamed) in
         let steps = made.reads in
         made-then (0 + edits) 0 edits (length (change.named ++ option_to_list change.new) + 0) 0
-        (length (change.named ++ option_to_list change.new)) old edited new before items items besides (named files_new) reads some some result
+        (length (change.named ++ option_to_list change.new)) old edited new before items items besides
+        (named files_new) reads some some result
         (omega arith) (omega arith) edited_all (omega (arith, steps)) last

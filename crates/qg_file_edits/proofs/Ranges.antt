@@ -1,14 +1,16 @@
 -- What a file command makes of files that edits one range of a file, by the edits that it does.
 --
 -- Positions, lengths and sizes are in bytes.
-use Rattle.std.proofs.Common.{◌≡◌, ℕ, ◌+◌, ◌^◌, ◌<◌, ◌≤◌, max, true, List, [], ◌∷◌, ◌++◌, length, Option, Some, None, arith, refl, sym, ap, subst, ◌∙◌}
+use Rattle.std.proofs.Common.{◌≡◌, ℕ, ◌+◌, ◌^◌, ◌<◌, ◌≤◌, max, true, List, [], ◌∷◌, ◌++◌, length, Option, Some, None}
+use Rattle.std.proofs.Common.{arith, refl, sym, ap, subst, ◌∙◌}
 use Rattle.std.specs.Prelude.{is_some, not}
 use Rattle.std.specs.List.{All, flat_map}
 use Rattle.std.specs.List.Sorted.{IsPermutation}
 use Rattle.std.specs.Option.{option_map, option_to_list}
 use Rattle.std.proofs.lemmas.List.{append-nil, append_assoc}
 use Rattle.std.proofs.lemmas.List.Elements.{All-filter, All-nil}
-use Rattle.std.proofs.lemmas.List.Sorted.{IsPermutation-map, IsPermutation-middle, IsPermutation-refl, IsPermutation-sym, IsPermutation-to_front, IsPermutation-trans}
+use Rattle.std.proofs.lemmas.List.Sorted.{IsPermutation-map, IsPermutation-middle, IsPermutation-refl}
+use Rattle.std.proofs.lemmas.List.Sorted.{IsPermutation-sym, IsPermutation-to_front, IsPermutation-trans}
 use Rattle.qg_num.specs.declared.piece.Piece.{Piece}
 use Rattle.qg_node.specs.declared.item.Item.{Item}
 use Rattle.qg_items.specs.declared.file.InodeItem.{InodeItem}
@@ -151,7 +153,8 @@ module _ (generation ino from to : ℕ) (given : List Piece) (files : List (ℕ 
   spelled_new : named (with_value ino range-file files) ≡ names_by (with_value ino range-file files)
   spelled_new = names-spelled generation (with_value ino range-file files) fits range-files range-files_by
 
-  names : AreNamesExchanged (named files) (named (with_value ino range-file files)) (names_of ino met) (names_of ino put)
+  names : AreNamesExchanged (named files) (named (with_value ino range-file files)) (names_of ino met)
+      (names_of ino put)
   names =
       both-lists (λ (xs ys : List (ℕ × Piece)). AreNamesExchanged xs ys (names_of ino met) (names_of ino put))
       (names_by files) (names_by (with_value ino range-file files)) (named files)

@@ -1,5 +1,6 @@
 -- What a file command makes of files that takes one of them out, by the edits that it does.
-use Rattle.std.proofs.Common.{◌≡◌, ℕ, ◌+◌, ◌^◌, ◌<◌, ◌≤◌, List, [], ◌∷◌, ◌++◌, length, map, Option, Some, arith, refl, sym, ap, subst, true, false, ◌∙◌}
+use Rattle.std.proofs.Common.{◌≡◌, ℕ, ◌+◌, ◌^◌, ◌<◌, ◌≤◌, List, [], ◌∷◌, ◌++◌, length, map, Option, Some, arith, refl}
+use Rattle.std.proofs.Common.{sym, ap, subst, true, false, ◌∙◌}
 use Rattle.std.specs.Prelude.{Bool, filter, is_some, not, if◌then◌else◌}
 use Rattle.std.specs.List.{All, flat_map}
 use Rattle.std.specs.List.Sorted.{IsPermutation}

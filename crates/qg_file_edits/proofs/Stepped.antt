@@ -1,5 +1,6 @@
 -- Steps on a file's items, one after the other.
-use Rattle.std.proofs.Common.{◌≡◌, ℕ, ◌+◌, ◌*◌, ◌<◌, ◌≤◌, List, [], ◌∷◌, ◌++◌, length, take, drop, Option, Ok, Err, arith, refl, sym, ap, subst, ◌∙◌}
+use Rattle.std.proofs.Common.{◌≡◌, ℕ, ◌+◌, ◌*◌, ◌<◌, ◌≤◌, List, [], ◌∷◌, ◌++◌, length, take, drop, Option, Ok, Err}
+use Rattle.std.proofs.Common.{arith, refl, sym, ap, subst, ◌∙◌}
 use Rattle.std.specs.List.{filter_map}
 use Rattle.qg_device.specs.History.{Event}
 use Rattle.qg_num.specs.declared.fault.BlockFault.{BlockFault}
@@ -132,7 +133,8 @@ module _ (ino : ℕ) (steps : List Step) (i : ℕ) (step : Step) (at : IsAt step
       told in
       let made = told_here items_here names here.edited.stands (can_step items applies)
       (covered items names named) in
-      let failed = made-then i 1 (length steps) 0 0 0 old mid new before items_here (after_step ino step items_here) names
+      let failed = made-then i 1 (length steps) 0 0 0 old mid new before items_here (after_step ino step items_here)
+      names
       names
       reads reads_now reads_new (Err fault) (omega (arith, below)) (omega arith) here.edited here.reads made in
       made-failed (length steps) (length steps) 0 0 old new new before (after_step ino step items_here)
@@ -146,7 +148,8 @@ pub steps-all : (ino : ℕ) (steps : List Step) (i : ℕ) (old new : FsTree) (be
     → (items : List Item) (names : List (ℕ × Piece)) → Stands old before items names → Applies ino steps items
     → AreCoveredThroughout old.tree.owner ino steps items names
     → AreMade (length steps) 0 old new before (after_steps ino steps items) names reads reads_now (Ok tt)
-steps-all ino steps i old new before after bytes left faults faults_now reads reads_now past below whole so_far items names stands applies named =
+steps-all ino steps i old new before after bytes left faults faults_now reads reads_now past below whole so_far items
+    names stands applies named =
     let here = so_far.told items names stands applies named in
     let some = here.reads in
     record {

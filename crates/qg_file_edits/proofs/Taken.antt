@@ -1,5 +1,6 @@
 -- What a clone takes of a source, and where it puts it. Positions and lengths are in bytes.
-use Rattle.std.proofs.Common.{◌≡◌, ℕ, ◌+◌, ◌-◌, ◌^◌, ◌<◌, ◌≤◌, Bool, true, false, max, min, List, [], ◌∷◌, length, map, Option, Some, None, arith, refl, sym, ap, subst, ◌∙◌}
+use Rattle.std.proofs.Common.{◌≡◌, ℕ, ◌+◌, ◌-◌, ◌^◌, ◌<◌, ◌≤◌, Bool, true, false, max, min, List, [], ◌∷◌, length, map}
+use Rattle.std.proofs.Common.{Option, Some, None, arith, refl, sym, ap, subst, ◌∙◌}
 use Rattle.std.specs.Prelude.{◌&&◌, nat_lt, if◌then◌else◌}
 use Rattle.std.specs.Bool.{then_some}
 use Rattle.std.specs.List.{All, AllByRecursion, cons_option}
@@ -11,7 +12,8 @@ use Rattle.qg_image.specs.declared.file.File.{File}
 use Rattle.qg_image.specs.FilesOf.{are_pieces, is_aligned, largest_size, piece_end}
 use Rattle.qg_image.specs.Table.{value_at}
 use Rattle.qg_image.proofs.Pieces.{WholeFile-is_file}
-use Rattle.qg_machine.specs.FileChange.{after, before, moved, part_after, part_before, pieces_meeting, pieces_or_none, within}
+use Rattle.qg_machine.specs.FileChange.{after, before, moved, part_after, part_before, pieces_meeting, pieces_or_none}
+use Rattle.qg_machine.specs.FileChange.{within}
 use Rattle.qg_rules.specs.Writable.{AreWritableFiles, IsFileBy, IsPlaced, IsWritableFile}
 use Rattle.qg_files.specs.Apart.{AreApart, AreApartFrom}
 use Rattle.qg_files.proofs.Kept.{are_pieces-moved, are_pieces-within, no_pieces}
@@ -45,7 +47,8 @@ moved_apart from len off low (piece ∷ pieces) near order apart ends =
 
 module _ (from len off : ℕ) (source : List Piece) (apart : AreApart source) (near : off + len ≤ largest_size) where
   taken_begins : AllByRecursion (λ piece. from ≤ piece.position) (within from (from + len) source)
-  taken_begins = all_begin_from from (within from (from + len) source) (apart-within_from from (from + len) source apart)
+  taken_begins = all_begin_from from (within from (from + len) source)
+      (apart-within_from from (from + len) source apart)
 
   pub taken-begins : All (λ piece. from ≤ piece.position) (within from (from + len) source)
   taken-begins = All-from_recursion (λ piece. from ≤ piece.position) (within from (from + len) source) taken_begins
@@ -203,7 +206,8 @@ module _ (generation source from len off : ℕ) (files : List (ℕ × File)) (ar
       }
 
   -- moved to the range that they are given
-  pub given-sound : IsGiven generation off (off + len) (map (moved from off) (within from (from + len) (pieces_of source files)))
+  pub given-sound : IsGiven generation off (off + len)
+      (map (moved from off) (within from (from + len) (pieces_of source files)))
   unfolding IsTakenOf
   given-sound =
       let taken = within from (from + len) (pieces_of source files) in

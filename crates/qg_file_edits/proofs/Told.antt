@@ -1,7 +1,8 @@
 -- What each command makes of files, where the tree has their items.
 --
 -- Positions, lengths and sizes are in bytes.
-use Rattle.std.proofs.Common.{◌≡◌, ℕ, ◌+◌, ◌*◌, ◌^◌, ◌<◌, ◌≤◌, List, [], ◌∷◌, ◌++◌, length, map, Option, Some, None, arith, refl, sym, ap, subst, true, ◌∙◌}
+use Rattle.std.proofs.Common.{◌≡◌, ℕ, ◌+◌, ◌*◌, ◌^◌, ◌<◌, ◌≤◌, List, [], ◌∷◌, ◌++◌, length, map, Option, Some, None}
+use Rattle.std.proofs.Common.{arith, refl, sym, ap, subst, true, ◌∙◌}
 use Rattle.std.specs.Prelude.{Contains, MatchOption, IsTrue, ⊤}
 use Rattle.std.specs.List.{All}
 use Rattle.std.specs.List.Sorted.{IsPermutation}
@@ -14,7 +15,8 @@ use Rattle.qg_items.specs.declared.file.InodeItem.{InodeItem}
 use Rattle.qg_image.specs.declared.file.File.{File}
 use Rattle.qg_image.specs.FilesOf.{is_aligned, largest_size}
 use Rattle.qg_image.specs.Table.{value_at, without_key as without_value}
-use Rattle.qg_machine.specs.FileChange.{after, before, moved, new_piece, pieces_meeting, pieces_or_none, pieces_past, with_range, within}
+use Rattle.qg_machine.specs.FileChange.{after, before, moved, new_piece, pieces_meeting, pieces_or_none, pieces_past}
+use Rattle.qg_machine.specs.FileChange.{with_range, within}
 use Rattle.qg_rules.specs.Writable.{AreWritableFiles, IsFileBy, IsPlaced, IsWritableFile}
 use Rattle.qg_contents.specs.Written.{inode_of}
 use Rattle.qg_space.specs.Holding.{Holding, is_free_run}
@@ -36,7 +38,8 @@ use Rattle.qg_file_edits.specs.Naming.{AreOfNamed}
 use Rattle.qg_file_edits.proofs.Few.{cut-names, no-names, range-names}
 use Rattle.qg_file_edits.proofs.Cuts.{cut-files, cut-files_by, cut-makes}
 use Rattle.qg_file_edits.proofs.Files.{file-found}
-use Rattle.qg_file_edits.proofs.Ranges.{none-besides, one-between, range-files, range-files_by, range-makes, range-put_named, range-rests_named}
+use Rattle.qg_file_edits.proofs.Ranges.{none-besides, one-between, range-files, range-files_by, range-makes}
+use Rattle.qg_file_edits.proofs.Ranges.{range-put_named, range-rests_named}
 use Rattle.qg_file_edits.proofs.Removals.{left-files, left-files_by, removal-makes}
 use Rattle.qg_file_edits.proofs.Sources.{source-named}
 use Rattle.qg_file_edits.proofs.Taken.{IsGiven, given-named, given-sound, taken-few, within-met}
@@ -122,7 +125,8 @@ module _ (fs : FsTree) (history : Option (List Event)) (ino off len run : ℕ) (
 
 -- ---- a clone
 
-module _ (fs : FsTree) (history : Option (List Event)) (other from len ino off : ℕ) (source : List Piece) (found : Found)
+module _ (fs : FsTree) (history : Option (List Event)) (other from len ino off : ℕ) (source : List Piece)
+    (found : Found)
     (change : Exchange) (files source_files : List (ℕ × File)) (tree : Root) (fits : fs.tree.next < 2 ^ 64)
     (from_aligned : is_aligned from ≡ true) (range : IsFileRange ino off len) (holds : HoldsFiles fs history files)
     (among : Contains (trees_of fs) tree) (has : HasFiles fs history tree source_files)
@@ -232,7 +236,8 @@ module _ (fs : FsTree) (history : Option (List Event)) (ino : ℕ) (file : File)
       record {
         edits = pieces_past size file.pieces + 1;
         most = omega arith;
-        few = let names = cut-names size met file.pieces change.named change.new is.named is.new met_is in omega (arith, names);
+        few = let names = cut-names size met file.pieces change.named change.new is.named is.new met_is in
+            omega (arith, names);
         makes = cut-makes fs.tree.next ino size file files there holds.writable holds.by fits aligned near fs.tree.owner
             inode met change inode_is met_is is (names_elsewhere fs history);
         writable = cut-files fs.tree.next ino size file files there holds.writable holds.by fits aligned near;
@@ -255,7 +260,8 @@ module _ (fs : FsTree) (history : Option (List Event)) (ino : ℕ) (file : File)
 
 -- ---- over any disk
 
-pub ready-range : (space : Holding) (generation from to : ℕ) (given first : List Piece) (new : Option Piece) (found : Found)
+pub ready-range : (space : Holding) (generation from to : ℕ) (given first : List Piece) (new : Option Piece)
+    (found : Found)
     (change : Exchange) → IsRangeChange generation from to given first new found change → AreApart found.met
     → MatchOption new ⊤ (λ piece. IsTrue (is_free_run space piece.extent piece.extent_bytes)) → IsReadyFor space change
 ready-range space generation from to put first new found change is apart free = record {

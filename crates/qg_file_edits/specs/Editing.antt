@@ -45,8 +45,8 @@ CanEditInode ino Remove items = IsTrue (has_key (inode_key ino) items)
 
 -- A tree stands with these items and names, as edits between two commits leave it, so many at most. It has three levels
 -- above its leaves at most: so with each edit it reaches at most five slots more, at most nine fewer are free, and at
--- most nine are taken that were not before. What the other trees reach they reached before. What the extent tree's items
--- take grows by no more than so many edits and so many names more bring
+-- most nine are taken that were not before. What the other trees reach they reached before. What the extent tree's
+-- items take grows by no more than so many edits and so many names more bring
 pub record IsEditedBy (edits added : ℕ) (old new : FsTree) (history : Option (List Event)) (items : List Item)
     (names : List (ℕ × Piece)) : Type 0 where
   pub stands : Stands new history items names
@@ -58,8 +58,8 @@ pub record IsEditedBy (edits added : ℕ) (old new : FsTree) (history : Option (
   pub heavier : BookGetsHeavier old.refs new.refs
       (edits * edit_bytes old.land.space.sizes.nodesize 3 + added * name_new_bytes)
 
--- So it is once a call is done that takes so many edits and names so many extents at most. It answers no rule where enough slots are free, and
--- takes at most 45 steps for each edit
+-- So it is once a call is done that takes so many edits and names so many extents at most. It answers no rule where
+-- enough slots are free, and takes at most 45 steps for each edit
 pub record AreMade (edits added : ℕ) (old new : FsTree) (history : Option (List Event)) (items : List Item)
     (names : List (ℕ × Piece)) (steps steps_new : ℕ) (result : Result (Unit {0}) BlockFault) : Type 0 where
   pub done : OnOk result (IsEditedBy edits added old new history items names)

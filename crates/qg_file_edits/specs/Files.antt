@@ -49,8 +49,8 @@ pub record Finds (files : List (ℕ × File)) (ino from to : ℕ) (found : Found
 
 -- A command left the tree with these files, as edits between two commits do. Of slots it took at most so many more than
 -- it gave back, and at most so many that were not taken before; and at most so many fewer are free. What the extent
--- tree's items take grows by no more than edits and names bring, as many as pieces that are touched and three, and twice
--- so many
+-- tree's items take grows by no more than edits and names bring, as many as pieces that are touched and three, and
+-- twice so many
 pub record LeavesFiles (old new : FsTree) (history : Option (List Event)) (files : List (ℕ × File)) (pieces : ℕ)
     : Type 0 where
   pub holds : HoldsFiles new history files
@@ -63,8 +63,8 @@ pub record LeavesFiles (old new : FsTree) (history : Option (List Event)) (files
 
 -- ---- over any disk
 
--- nodes and space are such as a tree is edited in; the other trees, sizes, and what the last commit holds, stay, and the
--- disk is not written
+-- nodes and space are such as a tree is edited in; the other trees, sizes, and what the last commit holds, stay, and
+-- the disk is not written
 pub record LeavesHeld (old new : FsTree) (before after : Option (List Event)) (bytes left : ℕ) : Type 0 where
   pub subvolume : IsSubvolume new after left
   pub others : new.others ≡ old.others

@@ -37,7 +37,8 @@ fn put_new<D: Disk, L: Ledger>(
         → Stands fs.old (D.history disk.old) items names → IsTrue (not (has_key key items))
         → AreCovered fs.old.tree.owner
         (filter_map name_told (with_item (record { key = key; body = bytes.now }) items)) names
-        → AreMade 1 0 fs.old fs.new (D.history disk.old) (with_item (record { key = key; body = bytes.now }) items) names
+        → AreMade 1 0 fs.old fs.new (D.history disk.old) (with_item (record { key = key; body = bytes.now }) items)
+        names
         reads.old reads.new result }
     ensures leaves { LeavesHeld fs.old fs.new (D.history disk.old) (D.history disk.new) (D.size disk.old)
         (D.size disk.new) }
@@ -63,7 +64,8 @@ fn put_again<D: Disk, L: Ledger>(
         → Stands fs.old (D.history disk.old) items names → IsTrue (has_key key items)
         → AreCovered fs.old.tree.owner
         (filter_map name_told (with_item (record { key = key; body = bytes.now }) items)) names
-        → AreMade 1 0 fs.old fs.new (D.history disk.old) (with_item (record { key = key; body = bytes.now }) items) names
+        → AreMade 1 0 fs.old fs.new (D.history disk.old) (with_item (record { key = key; body = bytes.now }) items)
+        names
         reads.old reads.new result }
     ensures leaves { LeavesHeld fs.old fs.new (D.history disk.old) (D.history disk.new) (D.size disk.old)
         (D.size disk.new) }

@@ -59,7 +59,8 @@ pub(crate) fn make_exchange<D: Disk, L: Ledger>(
         → Stands fs.old (D.history disk.old) (flat_map items_of_file files) (named files)
         → MakesFiles edits fs.old.tree.owner ino change.now (names_elsewhere fs.old (D.history disk.old)) files
         files_new
-        → AreMade edits (length (change.now.named ++ option_to_list change.now.new)) fs.old fs.new (D.history disk.old) (flat_map items_of_file files_new) (named files_new)
+        → AreMade edits (length (change.now.named ++ option_to_list change.now.new)) fs.old fs.new (D.history disk.old)
+        (flat_map items_of_file files_new) (named files_new)
         reads.old reads.new result }
     ensures table { IsTable fs.old.refs.refs }
     ensures still { OnOk result (IsTable fs.new.refs.refs) }

@@ -24,7 +24,8 @@ use Rattle.qg_file_items.proofs.Edited.{ascending-with_item, body-with_item}
 use Rattle.qg_file_items.proofs.FileBodies.{body-file, body-files, pieces_other, pieces_own}
 use Rattle.qg_file_items.proofs.Numbers.{files-ascend, pieces-ascend}
 use Rattle.qg_file_items.proofs.OneFile.{puts-file, takes-file}
-use Rattle.qg_file_items.proofs.Sequences.{ascending-with_items, ascending-without_items, body-with_items, body-without_items}
+use Rattle.qg_file_items.proofs.Sequences.{ascending-with_items, ascending-without_items, body-with_items}
+use Rattle.qg_file_items.proofs.Sequences.{body-without_items}
 
 -- ---- bodies of pieces
 

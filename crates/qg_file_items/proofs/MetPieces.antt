@@ -1,8 +1,10 @@
 -- Which pieces are taken out and put in where a range of a file is written over, or it is cut. Positions are in bytes.
-use Rattle.std.proofs.Common.{◌≡◌, ℕ, ◌<◌, ◌≤◌, true, false, List, [], ◌∷◌, Some, None, refl, sym, ap, subst, ◌∙◌, arith, inl, inr}
+use Rattle.std.proofs.Common.{◌≡◌, ℕ, ◌<◌, ◌≤◌, true, false, List, [], ◌∷◌, Some, None, refl, sym, ap, subst, ◌∙◌}
+use Rattle.std.proofs.Common.{arith, inl, inr}
 use Rattle.std.specs.Prelude.{Bool, Option, ◌&&◌, filter, is_some, nat_lt, if◌then◌else◌}
 use Rattle.std.specs.Option.{option_and_then}
-use Rattle.std.proofs.lemmas.Bool.{and_from, cases_Bool, cases_eq, cases_lt, le-leb, le-ltb, leb-true, lt-ltb, ltb-false}
+use Rattle.std.proofs.lemmas.Bool.{and_from, cases_Bool, cases_eq, cases_lt, le-leb, le-ltb, leb-true, lt-ltb}
+use Rattle.std.proofs.lemmas.Bool.{ltb-false}
 use Rattle.std.proofs.lemmas.Option.{none-some, same_Some}
 use Rattle.qg_num.specs.declared.piece.Piece.{Piece}
 use Rattle.qg_image.specs.FilesOf.{are_pieces, piece_end}
@@ -13,7 +15,9 @@ use Rattle.qg_parts.proofs.Parts.{orelse-none}
 use Rattle.qg_file_items.specs.Bodies.{piece_at, piece_over}
 use Rattle.qg_file_items.specs.FileEdits.{AreExchanged}
 use Rattle.qg_file_items.specs.Pieces.{pieces_cut, pieces_met}
-use Rattle.qg_file_items.proofs.Pieces.{after-whole, at-after, at-after-behind, at-before, at-before-none, at-here, at-later, at-range-behind, at-range-front, at-range-inside, before-whole, over-before, over-behind, over-here, range-front, range-order}
+use Rattle.qg_file_items.proofs.Pieces.{after-whole, at-after, at-after-behind, at-before, at-before-none, at-here}
+use Rattle.qg_file_items.proofs.Pieces.{at-later, at-range-behind, at-range-front, at-range-inside, before-whole}
+use Rattle.qg_file_items.proofs.Pieces.{over-before, over-behind, over-here, range-front, range-order}
 
 -- ---- some of a file's pieces
 

@@ -15,7 +15,8 @@ use Rattle.qg_descent.specs.Reading.{body_at}
 use Rattle.qg_file_items.specs.Bodies.{Ascend, body_in_file, body_with_file, body_without_file}
 use Rattle.qg_file_items.proofs.FileBodies.{body-files}
 use Rattle.qg_file_items.proofs.Numbers.{files-ascend}
-use Rattle.qg_file_items.proofs.Tables.{increasing-with, increasing-without, value-with, value-without, writable-with, writable-without}
+use Rattle.qg_file_items.proofs.Tables.{increasing-with, increasing-without, value-with, value-without, writable-with}
+use Rattle.qg_file_items.proofs.Tables.{writable-without}
 use Rattle.qg_file_items.proofs.Told.{same-bodies}
 
 module _ (ino : ℕ) (files : List (ℕ × File)) (up : IsStrictlyIncreasing (keys_of files)) (key : Key) where

@@ -1,10 +1,12 @@
 -- The piece at each position, of parts of a file's pieces. Positions and lengths are in bytes.
-use Rattle.std.proofs.Common.{◌≡◌, ℕ, ◌+◌, ◌-◌, ◌<◌, ◌≤◌, max, min, true, List, [], ◌∷◌, ◌++◌, Some, None, refl, sym, ap, ◌∙◌, arith, inl, inr}
+use Rattle.std.proofs.Common.{◌≡◌, ℕ, ◌+◌, ◌-◌, ◌<◌, ◌≤◌, max, min, true, List, [], ◌∷◌, ◌++◌, Some, None, refl, sym}
+use Rattle.std.proofs.Common.{ap, ◌∙◌, arith, inl, inr}
 use Rattle.std.specs.Prelude.{Bool, Option, ◌==◌, nat_le}
 use Rattle.std.specs.Bool.{then_some}
 use Rattle.std.specs.List.{cons_option}
 use Rattle.std.specs.Option.{option_and_then}
-use Rattle.std.proofs.lemmas.Bool.{cases_Bool, cases_eq, cases_lt, eq-eqb, le-leb, le-ltb, leb-true, lt-leb, lt-ltb, ne_eqb}
+use Rattle.std.proofs.lemmas.Bool.{cases_Bool, cases_eq, cases_lt, eq-eqb, le-leb, le-ltb, leb-true, lt-leb, lt-ltb}
+use Rattle.std.proofs.lemmas.Bool.{ne_eqb}
 use Rattle.qg_num.specs.declared.piece.Piece.{Piece}
 use Rattle.qg_image.specs.FilesOf.{are_pieces, piece_end}
 use Rattle.qg_image.specs.ItemMeaning.{◌orelse◌}

@@ -1,5 +1,6 @@
 -- What is read as files stands file by file: an INODE_ITEM, and the pieces of its file behind it.
-use Rattle.std.proofs.Common.{◌≡◌, ℕ, zero, suc, ◌<◌, ◌≤◌, true, false, List, [], ◌∷◌, ◌++◌, map, length, Some, None, refl, sym, ap, subst, ◌∙◌, arith, inl, inr, length-append}
+use Rattle.std.proofs.Common.{◌≡◌, ℕ, zero, suc, ◌<◌, ◌≤◌, true, false, List, [], ◌∷◌, ◌++◌, map, length, Some, None}
+use Rattle.std.proofs.Common.{refl, sym, ap, subst, ◌∙◌, arith, inl, inr, length-append}
 use Rattle.std.specs.Prelude.{Bool, ◌==◌, ◌&&◌, is_some, nat_le, nat_lt}
 use Rattle.std.specs.Bool.{then_some}
 use Rattle.std.specs.List.{AllByRecursion, flat_map}
@@ -17,7 +18,8 @@ use Rattle.qg_parts.specs.Keys.{file_key}
 use Rattle.qg_rules.specs.Files.{is_file_of}
 use Rattle.qg_rules.specs.declared.parts.FileItems.{FileItems}
 use Rattle.qg_rules.specs.Writable.{IsFileBy, IsPlaced, IsWritableFile}
-use Rattle.qg_rules.proofs.Reading.{IsReading, IsReading-broken, IsReading-more, IsReading-none, IsReading-orphan, IsNext, file_told-judged, whole_file}
+use Rattle.qg_rules.proofs.Reading.{IsReading, IsReading-broken, IsReading-more, IsReading-none, IsReading-orphan}
+use Rattle.qg_rules.proofs.Reading.{IsNext, file_told-judged, whole_file}
 use Rattle.qg_rules.proofs.Standing.{StartsOther}
 use Rattle.qg_contents.specs.Written.{inode_of}
 use Rattle.qg_file_items.proofs.Said.{IsPartBy}

@@ -7,7 +7,8 @@ use Rattle.std.proofs.lemmas.List.Elements.{All-filter, All-from_recursion, recu
 use Rattle.qg_image.specs.declared.file.File.{File}
 use Rattle.qg_image.specs.Table.{keys_of, value_at, with_value, without_key}
 use Rattle.qg_rules.specs.Writable.{AreWritableFiles, IsWritableFile}
-use Rattle.qg_files.proofs.Ascending.{Ascends-increasing, all-with_value, ascends-filter, ascends-with_value, increasing-Ascends}
+use Rattle.qg_files.proofs.Ascending.{Ascends-increasing, all-with_value, ascends-filter, ascends-with_value}
+use Rattle.qg_files.proofs.Ascending.{increasing-Ascends}
 
 module _ {A : Type 0} (n ino : ℕ) where
   -- where two numbers are the same, both or neither is this one

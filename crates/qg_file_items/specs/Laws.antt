@@ -19,7 +19,8 @@ use Rattle.qg_rules.specs.Writable.{AreWritableFiles, IsFileBy, IsWritableFile}
 use Rattle.qg_contents.specs.Written.{items_of_file}
 use Rattle.qg_edit.specs.Edits.{has_key, with_item, without_key}
 use Rattle.qg_descent.specs.Reading.{body_at}
-use Rattle.qg_file_items.specs.Bodies.{Ascend, body_in_files, body_with_file, body_without_file, inode_body, piece_at, piece_body}
+use Rattle.qg_file_items.specs.Bodies.{Ascend, body_in_files, body_with_file, body_without_file, inode_body, piece_at}
+use Rattle.qg_file_items.specs.Bodies.{piece_body}
 use Rattle.qg_file_items.specs.FileEdits.{AreExchanged, file_edited, without_items}
 use Rattle.qg_file_items.specs.Pieces.{piece_at_cut, piece_at_range, pieces_cut, pieces_met}
 

@@ -74,8 +74,8 @@ pub fn edits_of_one_file()
     ensures removed { RemovesFile }
 {}
 
-/// A law: how many pieces meet a range; and of a file that can be written, which and how many meet the range from a size
-/// on, and that all meet the range of all (this project's own).
+/// A law: how many pieces meet a range; and of a file that can be written, which and how many meet the range from a
+/// size on, and that all meet the range of all (this project's own).
 pub fn pieces_by_range()
     ensures met { CountsMet }
     ensures past { CountsPast }

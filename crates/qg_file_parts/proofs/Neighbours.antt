@@ -1,5 +1,6 @@
 -- Pieces that no sound files have in a row.
-use Rattle.std.proofs.Common.{◌≡◌, ℕ, ◌<◌, ◌≤◌, true, false, List, [], ◌∷◌, ◌++◌, map, refl, ap, sym, ◌∙◌, subst, arith, append_assoc, inl, inr}
+use Rattle.std.proofs.Common.{◌≡◌, ℕ, ◌<◌, ◌≤◌, true, false, List, [], ◌∷◌, ◌++◌, map, refl, ap, sym, ◌∙◌, subst, arith}
+use Rattle.std.proofs.Common.{append_assoc, inl, inr}
 use Rattle.std.specs.Prelude.{◌&&◌, nat_le}
 use Rattle.std.specs.List.{AllByRecursion}
 use Rattle.std.proofs.lemmas.Bool.{and_from, both_ways, cases_eq, false_from_ne_true, le-leb}
@@ -136,7 +137,8 @@ own_too ino other pieces more equal =
     subst (λ (n : ℕ). pieces_in other (map (PieceOf n) pieces ++ map (PieceOf other) more) ≡ pieces ++ more)
     (sym equal) (own_both other pieces more)
 
-some_runs_none : (ino begin mid other next end : ℕ) (piece : Piece) (pieces : List Piece) (first : Piece) (more : List Piece)
+some_runs_none : (ino begin mid other next end : ℕ) (piece : Piece) (pieces : List Piece) (first : Piece)
+    (more : List Piece)
     → FitAs begin mid (piece ∷ pieces) → FitAs next end (first ∷ more)
     → AreApart ino mid other next
     → AreOfNoFiles (map (PieceOf ino) (piece ∷ pieces) ++ map (PieceOf other) (first ∷ more))
@@ -170,7 +172,8 @@ runs_none ino begin mid other next end (piece ∷ pieces) [] fit fit' apart = ab
 runs_none ino begin mid other next end (piece ∷ pieces) (first ∷ more) fit fit' apart =
     some_runs_none ino begin mid other next end piece pieces first more fit fit' apart
 
-some_last_none : (ino mid other next end : ℕ) (inode : InodeItem) (pieces : List Piece) (first : Piece) (more : List Piece)
+some_last_none : (ino mid other next end : ℕ) (inode : InodeItem) (pieces : List Piece) (first : Piece)
+    (more : List Piece)
     → FitTo mid pieces → FitAs next end (first ∷ more)
     → AreApart ino mid other next
     → AreOfNoFiles ((Inode ino inode ∷ map (PieceOf ino) pieces) ++ map (PieceOf other) (first ∷ more))
@@ -184,13 +187,16 @@ some_last_none ino mid other next end inode pieces first more fit fit' apart fro
           (first ∷ more)) ++ behind))) (λ sound. broken equal sound)
     ] where
       broken : ino ≡ other
-          → are_files (front ++ (((Inode ino inode ∷ map (PieceOf ino) pieces) ++ map (PieceOf other) (first ∷ more)) ++ behind))
+          → are_files (front ++ (((Inode ino inode ∷ map (PieceOf ino) pieces) ++ map (PieceOf other) (first ∷ more))
+          ++ behind))
           ≡ true → ⊥
       broken equal sound =
           let fits =
-          fitting other front (Inode ino inode ∷ map (PieceOf ino) pieces) first (map (PieceOf other) more) behind sound in
+          fitting other front (Inode ino inode ∷ map (PieceOf ino) pieces) first (map (PieceOf other) more) behind
+          sound in
           let own : pieces_in other
-          ((Inode ino inode ∷ map (PieceOf ino) pieces) ++ map (PieceOf other) (first ∷ more)) ≡ pieces ++ (first ∷ more) =
+          ((Inode ino inode ∷ map (PieceOf ino) pieces) ++ map (PieceOf other) (first ∷ more)) ≡ pieces
+          ++ (first ∷ more) =
           own_too ino other pieces (first ∷ more) equal in
           let order =
           in_order_to mid next end fits.low fits.high pieces (first ∷ more) fit fit'

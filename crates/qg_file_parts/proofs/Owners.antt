@@ -9,7 +9,8 @@ use Rattle.qg_items.specs.declared.file.InodeItem.{InodeItem}
 use Rattle.qg_image.specs.Table.{has_key, value_at}
 use Rattle.qg_image.specs.declared.part.FilePart.{FilePart}
 use Rattle.qg_image.specs.declared.part.FilePart.TheVariants.{Inode, PieceOf}
-use Rattle.qg_image.specs.FilesOf.{are_files, are_pieces, file_in, inodes_in, is_file, is_inode, is_owned, largest_size, pieces_in}
+use Rattle.qg_image.specs.FilesOf.{are_files, are_pieces, file_in, inodes_in, is_file, is_inode, is_owned, largest_size}
+use Rattle.qg_image.specs.FilesOf.{pieces_in}
 use Rattle.qg_image.proofs.Pieces.{WholeFile-is_file}
 use Rattle.qg_rules.proofs.Standing.{IsBehind, ascending-behind, ino_of}
 use Rattle.qg_file_parts.proofs.Keys.{Ascend, all_after}

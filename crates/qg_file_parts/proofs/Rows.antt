@@ -1,5 +1,6 @@
 -- Rows of items, one behind the other.
-use Rattle.std.proofs.Common.{◌≡◌, ℕ, ◌+◌, ◌≤◌, Bool, true, false, List, [], ◌∷◌, ◌++◌, map, refl, ap, sym, ◌∙◌, subst, arith, append_assoc}
+use Rattle.std.proofs.Common.{◌≡◌, ℕ, ◌+◌, ◌≤◌, Bool, true, false, List, [], ◌∷◌, ◌++◌, map, refl, ap, sym, ◌∙◌, subst}
+use Rattle.std.proofs.Common.{arith, append_assoc}
 use Rattle.std.specs.Prelude.{◌&&◌, Option, Some, None, ◌==◌, nat_le, nat_lt}
 use Rattle.std.specs.List.{list_all}
 use Rattle.std.proofs.lemmas.Bool.{and_parts, both_ways, eq-eqb}
@@ -10,7 +11,8 @@ use Rattle.qg_items.specs.declared.file.InodeItem.{InodeItem}
 use Rattle.qg_image.specs.Table.{has_key}
 use Rattle.qg_image.specs.declared.part.FilePart.{FilePart}
 use Rattle.qg_image.specs.declared.part.FilePart.TheVariants.{Inode, PieceOf}
-use Rattle.qg_image.specs.FilesOf.{are_files, are_pieces, inodes_end, inodes_in, is_aligned, is_file, is_inode, is_owned, is_piece, largest_size, least_inode, piece_end, pieces_bytes}
+use Rattle.qg_image.specs.FilesOf.{are_files, are_pieces, inodes_end, inodes_in, is_aligned, is_file, is_inode}
+use Rattle.qg_image.specs.FilesOf.{is_owned, is_piece, largest_size, least_inode, piece_end, pieces_bytes}
 use Rattle.qg_rules.specs.Files.{is_between}
 use Rattle.qg_rules.proofs.Reading.{pieces_in-own}
 use Rattle.qg_rules.proofs.Standing.{ascending-behind}
@@ -238,7 +240,8 @@ HasEnds-file ends file parts is before last =
 
 -- ---- a row that ends in a file, and then a row
 
-module _ (front behind : Ends) (last : LastFile) (xs ys : List FilePart) (ahead : HasEnds front xs) (after : HasEnds behind ys) (is : front.last ≡ Some last) where
+module _ (front behind : Ends) (last : LastFile) (xs ys : List FilePart) (ahead : HasEnds front xs)
+    (after : HasEnds behind ys) (is : front.last ≡ Some last) where
   pub ends_in : EndIn last ahead.files
   ends_in = subst (λ (file : Option LastFile). AreFilesTo file ahead.files) is ahead.end
 
@@ -282,7 +285,8 @@ module _ (front behind : Ends) (last : LastFile) (xs ys : List FilePart) (ahead 
       }
 
   -- the second row ends in a file, so the last one of the first has no more pieces
-  module _ (file next : LastFile) (some : behind.last ≡ Some next) (still : IsLast file middle) (ascends : Ascend (xs ++ ys)) where
+  module _ (file next : LastFile) (some : behind.last ≡ Some next) (still : IsLast file middle)
+      (ascends : Ascend (xs ++ ys)) where
     next_in : EndIn next after.files
     next_in = subst (λ (file : Option LastFile). AreFilesTo file after.files) some after.end
 

@@ -83,7 +83,8 @@ swap_and false b c d = refl
 
 -- ---- files below a number, and from it on
 
-module _ (bound : ℕ) (xs ys : List FilePart) (low : AllByRecursion (λ one. ino_of one < bound) xs) (high : AllByRecursion (λ one. bound ≤ ino_of one) ys) where
+module _ (bound : ℕ) (xs ys : List FilePart) (low : AllByRecursion (λ one. ino_of one < bound) xs)
+    (high : AllByRecursion (λ one. bound ≤ ino_of one) ys) where
   lower : (n : ℕ) → n < bound → AreOthers n ys
   lower n less =
       all_weaker (λ one. bound ≤ ino_of one) (λ one. ino_of one ≡ n → ⊥)

@@ -12,7 +12,8 @@ pub record IsWithinSizes (piece : Piece) : Type 0 where
 -- such pieces that ascend from a position on and overlap nowhere
 unfoldable pub AreApartFrom : ℕ → List Piece → Type 0
 AreApartFrom from [] = Unit {0}
-AreApartFrom from (piece ∷ pieces) = (from ≤ piece.position) × IsWithinSizes piece × AreApartFrom (piece_end piece) pieces
+AreApartFrom from (piece ∷ pieces) = (from ≤ piece.position) × IsWithinSizes piece
+    × AreApartFrom (piece_end piece) pieces
 
 -- the same from the file's start on
 abbrev pub AreApart : List Piece → Type 0

@@ -1,4 +1,5 @@
-//! What is done to the pieces of one file: a range is cut out, a piece is put, pieces are put in the place of a range, a range is taken or only looked at, the end is cut off.
+//! What is done to the pieces of one file: a range is cut out, a piece is put, pieces are put in the place of a range,
+//! a range is taken or only looked at, the end is cut off.
 #![tactic(auto)]
 
 mod cut;

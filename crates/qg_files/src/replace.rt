@@ -13,8 +13,8 @@ use crate::split::push_part;
 use qg_num::{NoMemory, Piece, Pieces};
 use std::alloc::Global;
 
-/// Puts pieces in the place of what a file has in a range of bytes (this project's own). Rests keep naming their whole extents.
-/// Where memory is refused, the list stays as it was.
+/// Puts pieces in the place of what a file has in a range of bytes (this project's own). Rests keep naming their whole
+/// extents. Where memory is refused, the list stays as it was.
 pub fn replace_range(
     pieces: &mut Pieces,
     from: u64,

@@ -1,5 +1,6 @@
 -- The extents that the nodes of a whole state's layout name are those of its files, for any number of subvolumes.
-use Rattle.std.proofs.Common.{◌≡◌, ℕ, ◌≤◌, true, List, [], ◌∷◌, Option, Some, None, arith, refl, sym, ap, subst, ◌∙◌, ◌↔◌, inl, inr}
+use Rattle.std.proofs.Common.{◌≡◌, ℕ, ◌≤◌, true, List, [], ◌∷◌, Option, Some, None, arith, refl, sym, ap, subst, ◌∙◌}
+use Rattle.std.proofs.Common.{◌↔◌, inl, inr}
 use Rattle.std.specs.Prelude.{Ok, ◌==◌, is_some}
 use Rattle.std.specs.List.{AllByRecursion, Contains}
 use Rattle.std.specs.Option.{option_map}

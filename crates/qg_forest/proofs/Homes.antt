@@ -1,5 +1,6 @@
 -- Nodes that are at home: each that is not full is reached by its owner.
-use Rattle.std.proofs.Common.{◌≡◌, ℕ, zero, suc, Bool, true, false, List, [], ◌∷◌, Option, Some, None, refl, sym, ap, subst, ◌∙◌, inl, inr}
+use Rattle.std.proofs.Common.{◌≡◌, ℕ, zero, suc, Bool, true, false, List, [], ◌∷◌, Option, Some, None, refl, sym, ap}
+use Rattle.std.proofs.Common.{subst, ◌∙◌, inl, inr}
 use Rattle.std.specs.Prelude.{◌&&◌, ◌==◌, ◌++◌, map, not}
 use Rattle.std.specs.List.{Contains, find, flat_map}
 use Rattle.std.specs.List.Sorted.{IsStrictlyIncreasing}

@@ -1,7 +1,8 @@
 -- The extents that items tell: those that a leaf's items tell it names, and those that all of a tree's items tell are
 -- those
 -- of the pieces of its files.
-use Rattle.std.proofs.Common.{◌≡◌, ℕ, Bool, true, false, List, [], ◌∷◌, map, Option, Some, None, refl, sym, ap, subst, ◌∙◌, inl, inr}
+use Rattle.std.proofs.Common.{◌≡◌, ℕ, Bool, true, false, List, [], ◌∷◌, map, Option, Some, None, refl, sym, ap, subst}
+use Rattle.std.proofs.Common.{◌∙◌, inl, inr}
 use Rattle.std.specs.Prelude.{◌&&◌, ◌==◌, is_some}
 use Rattle.std.specs.Bool.{then_some}
 use Rattle.std.specs.List.{Contains, flat_map, list_all}
@@ -15,7 +16,8 @@ use Rattle.qg_items.specs.declared.file.InodeItem.{InodeItem}
 use Rattle.qg_image.specs.declared.file.File.{File}
 use Rattle.qg_image.specs.declared.part.FilePart.{FilePart}
 use Rattle.qg_image.specs.declared.part.FilePart.TheVariants.{Inode, PieceOf}
-use Rattle.qg_image.specs.FilesOf.{are_files, file_in, file_parts, files_in, files_of, inodes_in, is_file_item, is_inode, is_owned, piece_in}
+use Rattle.qg_image.specs.FilesOf.{are_files, file_in, file_parts, files_in, files_of, inodes_in, is_file_item}
+use Rattle.qg_image.specs.FilesOf.{is_inode, is_owned, piece_in}
 use Rattle.qg_image.specs.ItemMeaning.{file_part}
 use Rattle.qg_image.specs.Table.{has_key, value_at}
 use Rattle.qg_image.specs.declared.element.Element.{Element}

@@ -1,5 +1,6 @@
 -- Who owes a reference to what begins at an address: a subvolume to its root, and a node to what it leads to or names.
-use Rattle.std.proofs.Common.{◌≡◌, ℕ, ◌<◌, Bool, true, false, List, [], ◌∷◌, length, map, Option, Some, None, arith, refl, sym, ap, subst, ◌∙◌, ◌⊎◌, inl, inr}
+use Rattle.std.proofs.Common.{◌≡◌, ℕ, ◌<◌, Bool, true, false, List, [], ◌∷◌, length, map, Option, Some, None, arith}
+use Rattle.std.proofs.Common.{refl, sym, ap, subst, ◌∙◌, ◌⊎◌, inl, inr}
 use Rattle.std.specs.List.{Contains, cons_option, filter_map, flat_map}
 use Rattle.std.specs.Option.{option_and_then}
 use Rattle.std.proofs.lemmas.Bool.Decides.{eqb_tells}
@@ -17,7 +18,8 @@ use Rattle.qg_image.specs.declared.part.FilePart.{FilePart}
 use Rattle.qg_image.specs.declared.part.FilePart.TheVariants.{Inode, PieceOf}
 use Rattle.qg_image.specs.ItemMeaning.{file_part}
 use Rattle.qg_image.specs.declared.element.Element.{Element}
-use Rattle.qg_image.specs.Owed.{Owing, layout_extents, owed, owed_by_node, owed_by_part, owed_count, owed_to_child, reference_offset}
+use Rattle.qg_image.specs.Owed.{Owing, layout_extents, owed, owed_by_node, owed_by_part, owed_count, owed_to_child}
+use Rattle.qg_image.specs.Owed.{reference_offset}
 use Rattle.qg_image.specs.Reach.{extent_of, piece_of_part, pieces_of}
 use Rattle.qg_image.specs.State.{Layout, Placed}
 use Rattle.qg_image.proofs.Contained.{contains_cases, contains_here, contains_later, none_contained}

@@ -27,7 +27,8 @@ use Rattle.qg_reach.proofs.Layouts.{value_at-with_other, value_at-with_same}
 use Rattle.qg_rules.specs.Writable.{IsFileBy}
 use Rattle.qg_forest.proofs.Snapshotted.{root_entry}
 use Rattle.qg_fs_tree.specs.declared.fs_tree.FsTree.{FsTree}
-use Rattle.qg_fs_tree.specs.Standing.{every_slot, items_in, layout_in, made_slots, nodes_of, placed_at, roots_of, trees_of, ways_in}
+use Rattle.qg_fs_tree.specs.Standing.{every_slot, items_in, layout_in, made_slots, nodes_of, placed_at, roots_of}
+use Rattle.qg_fs_tree.specs.Standing.{trees_of, ways_in}
 use Rattle.qg_fs_tree.proofs.Places.{slots-same}
 use Rattle.qg_fs_layout.specs.Laying.{CopiesNodes, IsLaidOut, nodes_in}
 use Rattle.qg_fs_layout.proofs.Copied.{commands-copy}

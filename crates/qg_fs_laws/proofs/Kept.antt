@@ -175,7 +175,8 @@ module _ (fs : FsTree) (history : Option (List Event)) (bytes : ℕ) (state : St
         let entry = led_entry q led in
         ap (λ (o : Option Placed). is_some o)
         (value-reached fs history some_bytes
-        (met-slot fs history bytes (flat_map items_of_file files) (named files) kept.subvolume stands) q entry.0 entry.1)
+        (met-slot fs history bytes (flat_map items_of_file files) (named files) kept.subvolume stands) q entry.0
+        entry.1)
         ∙ sym led
     | inr none ↦ absent (value_at q (nodes_in fs history)) refl none ∙ sym none
   ]

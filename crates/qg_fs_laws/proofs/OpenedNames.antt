@@ -242,8 +242,8 @@ none_listed {A} n (first ∷ table) entry none has is = elim (cases_Bool (first.
   ]
 ]
 
--- What is known of the items of an image's root and quota trees by this quota: these name the state of quota, its groups
--- and its relations, and all of them; and the root tree names the quota tree while quota is on
+-- What is known of the items of an image's root and quota trees by this quota: these name the state of quota, its
+-- groups and its relations, and all of them; and the root tree names the quota tree while quota is on
 record KnowsQuota (super : Super) (image : List ℕ) (quota : Option Quota) : Type 0 where
   tree : (entry : ℕ × RootItem) → Contains (roots_in super image) entry → entry.0 ≡ QUOTA_TREE
       → Contains (quota_tree_names quota) (RootOf QUOTA_TREE)

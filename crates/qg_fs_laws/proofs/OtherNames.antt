@@ -1,6 +1,7 @@
 -- What the items of a commit's root, extent and quota trees name: those of the extent tree the book's records, the
 -- others what its subvolumes and groups have.
-use Rattle.std.proofs.Common.{◌≡◌, ℕ, Bool, true, false, List, [], ◌∷◌, ◌++◌, map, length, drop, Option, Some, None, refl}
+use Rattle.std.proofs.Common.{◌≡◌, ℕ, Bool, true, false, List, [], ◌∷◌, ◌++◌, map, length, drop, Option, Some, None}
+use Rattle.std.proofs.Common.{refl}
 use Rattle.std.proofs.Common.{sym, ap, subst, ◌∙◌, inl, inr, arith}
 use Rattle.std.specs.Prelude.{◌&&◌, ◌||◌, ◌==◌, is_some}
 use Rattle.std.specs.List.{Contains, filter_map, flat_map, list_all, list_any}
@@ -162,7 +163,8 @@ quotas_name generation quota said =
     let limits = map limit_part groups in
     let long : length items ≡ length (parts_of_quota generation quota) =
     let behind = as_many groups in
-    let front_items = length-append (map item_of_info groups ++ map item_of_limit groups) (map item_of_relation pairs) in
+    let front_items = length-append (map item_of_info groups ++ map item_of_limit groups)
+    (map item_of_relation pairs) in
     let front_parts = length-append (infos ++ limits) (map relation_part pairs) in
     let many_items = length-map pairs item_of_relation in
     let many_parts = length-map pairs relation_part in
@@ -182,7 +184,8 @@ abbrev quota_root : Option Quota → List Record
 quota_root None = []
 quota_root (Some quota) = RootOf QUOTA_TREE ∷ []
 
--- what the root tree would name, and what the root and the quota tree would, where these subvolumes and this quota are there
+-- what the root tree would name, and what the root and the quota tree would, where these subvolumes and this quota are
+-- there
 abbrev own_names : List ℕ → Option Quota → List Record
 own_names subvolumes quota = RootOf EXTENT_TREE ∷ (map RootOf subvolumes ++ quota_root quota)
 
@@ -213,7 +216,8 @@ AreAlike _ _ = ⊥
 
 roots_alike : (extents : RootItem) (quotas : Option RootItem) (quota : Option Quota) (roots : List (ℕ × RootItem))
     (one : Record) → AreAlike quotas quota
-    → is_among (map RootOf (keys_of (roots_named extents roots quotas))) one ≡ is_among (own_names (keys_of roots) quota) one
+    → is_among (map RootOf (keys_of (roots_named extents roots quotas))) one
+    ≡ is_among (own_names (keys_of roots) quota) one
 roots_alike extents None None roots one alike =
     ap (λ (records : List Record). is_among (RootOf EXTENT_TREE ∷ records) one)
     (sym (append-nil (map RootOf (keys_of roots))))
@@ -443,7 +447,8 @@ quota_said nodesize generation (Some quota) slots (Some built) is = record {
 }
 
 module _ (sizes : Sizes) (generation : ℕ) (roots : List (ℕ × RootItem)) (book : List (ℕ × Kept))
-    (quota : Option Quota) (slots : List ℕ) (trees : OtherTrees) (are : AreTrees sizes generation roots book quota slots trees)
+    (quota : Option Quota) (slots : List ℕ) (trees : OtherTrees)
+    (are : AreTrees sizes generation roots book quota slots trees)
     (others : List Node) (moved : IsPermutation others (nodes_laid trees)) where
   abbrev roots_walked : List Node
   roots_walked = are.root_tree.stands.reached.those
@@ -452,7 +457,8 @@ module _ (sizes : Sizes) (generation : ℕ) (roots : List (ℕ × RootItem)) (bo
   extents_walked = are.extent_tree.stands.reached.those
 
   said : QuotaSaid generation quota trees.quotas
-  said = quota_said sizes.nodesize generation quota (drop (length trees.extents.nodes) slots) trees.quotas are.quota_tree
+  said = quota_said sizes.nodesize generation quota (drop (length trees.extents.nodes) slots) trees.quotas
+      are.quota_tree
 
   abbrev quotas_walked : List Node
   quotas_walked = said.walked

@@ -26,7 +26,8 @@ use Rattle.qg_fs_laws.specs.Keeping.{IsKept, KeepsState, NamesOthers, TellsChang
 use Rattle.qg_fs_laws.proofs.Kept.{counts}
 
 -- which records the root and the quota tree have now, and had in the last commit
-names_alike : (records names now : List Record) → ((one : Record) → is_among names one ≡ true → is_of_extents one ≡ false)
+names_alike : (records names now : List Record)
+    → ((one : Record) → is_among names one ≡ true → is_of_extents one ≡ false)
     → ((one : Record) → is_of_extents one ≡ false → is_among records one ≡ is_among names one)
     → (one : Record) → is_among (others records ++ now) one ≡ is_among (names ++ now) one
 names_alike records names now apart same one =

@@ -1,5 +1,5 @@
-//! Laws: that the trees of subvolumes make the machine's steps, are kept of the state that a sound image stands for once
-//! it was opened, and are a sound image again once they are committed. It has no code.
+//! Laws: that the trees of subvolumes make the machine's steps, are kept of the state that a sound image stands for
+//! once it was opened, and are a sound image again once they are committed. It has no code.
 #![tactic(auto)]
 
 mod committing;

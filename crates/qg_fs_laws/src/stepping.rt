@@ -34,14 +34,14 @@ pub fn state_is_held()
     ensures held { StateIsHeld }
 {}
 
-/// A law: trees are kept of a state that is held, where they are its subvolumes' and have the items of their files, as a
-/// structural command leaves them (this project's own).
+/// A law: trees are kept of a state that is held, where they are its subvolumes' and have the items of their files, as
+/// a structural command leaves them (this project's own).
 pub fn held_state_is_kept()
     ensures kept { HeldIsKept }
 {}
 
-/// A law: a state that trees are kept of is whole, and a file command leaves one that follows it by copy on write, which
-/// the trees are kept of then (this project's own).
+/// A law: a state that trees are kept of is whole, and a file command leaves one that follows it by copy on write,
+/// which the trees are kept of then (this project's own).
 pub fn file_command_copies()
     ensures whole { StateIsWhole }
     ensures copies { FileCommandCopies }

@@ -1,8 +1,10 @@
 -- Edits of a tree between two commits copy on write.
-use Rattle.std.proofs.Common.{◌≡◌, ◌≢◌, ℕ, Bool, true, false, List, [], ◌∷◌, Option, Some, refl, sym, ap, subst, ◌∙◌, inl, inr}
+use Rattle.std.proofs.Common.{◌≡◌, ◌≢◌, ℕ, Bool, true, false, List, [], ◌∷◌, Option, Some, refl, sym, ap, subst, ◌∙◌}
+use Rattle.std.proofs.Common.{inl, inr}
 use Rattle.std.specs.Prelude.{◌⊎◌, ◌&&◌, ◌||◌, ◌==◌, IsTrue, is_some, nat_lt, not}
 use Rattle.std.specs.List.{Contains, filter, list_all, list_any}
-use Rattle.std.proofs.lemmas.Bool.{and_from, eq-eqb, eqb-false as number_not, eqb-true as number_is, lt-ltb, ltb-true, not_from_false, or_cases}
+use Rattle.std.proofs.lemmas.Bool.{and_from, eq-eqb, eqb-false as number_not, eqb-true as number_is, lt-ltb, ltb-true}
+use Rattle.std.proofs.lemmas.Bool.{not_from_false, or_cases}
 use Rattle.qg_device.specs.History.{Event}
 use Rattle.qg_num.specs.declared.piece.Piece.{Piece}
 use Rattle.qg_node.specs.declared.item.Item.{Item}
@@ -21,7 +23,8 @@ use Rattle.qg_space.proofs.Free.{free_is_slot}
 use Rattle.qg_space.proofs.Members.{filter_contains, one_passes}
 use Rattle.qg_descent.specs.Tree.{Root}
 use Rattle.qg_fs_tree.specs.declared.fs_tree.FsTree.{FsTree}
-use Rattle.qg_fs_tree.specs.Standing.{IsAtHome, IsElsewhere, IsReached, IsReachedBy, IsSubvolume, Stands, nodes_of, ways_in}
+use Rattle.qg_fs_tree.specs.Standing.{IsAtHome, IsElsewhere, IsReached, IsReachedBy, IsSubvolume, Stands, nodes_of}
+use Rattle.qg_fs_tree.specs.Standing.{ways_in}
 use Rattle.qg_fs_tree.proofs.Lists.{all-contained}
 use Rattle.qg_fs_tree.proofs.Own.{elsewhere-moved}
 use Rattle.qg_fs_layout.specs.Laying.{CopiesNodes, HoldsSlots, IsLaidOut, IsMet, IsMetAs, IsMoved}

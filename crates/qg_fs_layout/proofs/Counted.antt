@@ -21,16 +21,19 @@ use Rattle.qg_extents.specs.Table.{book_of}
 use Rattle.qg_descent.specs.Tree.{Root, super_of}
 use Rattle.qg_tree_refs.specs.Settled.{what_of}
 use Rattle.qg_fs_tree.specs.declared.fs_tree.FsTree.{FsTree}
-use Rattle.qg_fs_tree.specs.Standing.{IsSubvolume, Stands, items_in, layout_in, name_told, names_elsewhere, nodes_of, trees_of}
+use Rattle.qg_fs_tree.specs.Standing.{IsSubvolume, Stands, items_in, layout_in, name_told, names_elsewhere, nodes_of}
+use Rattle.qg_fs_tree.specs.Standing.{trees_of}
 use Rattle.qg_fs_tree.proofs.Before.{known_of}
 use Rattle.qg_descent.proofs.BranchItems.{from-leaf, in-leaf}
 use Rattle.qg_fs_tree.proofs.Lists.{has-flat}
 use Rattle.qg_fs_layout.specs.Laying.{HaveFiles, IsCounted, IsKnownRun, IsLaidOut, IsMetAs, names_in, nodes_in}
-use Rattle.qg_fs_layout.proofs.Extents.{TellsExtent, from-files, from-layout, from-present, in-files, in-layout, in-names, in-present}
+use Rattle.qg_fs_layout.proofs.Extents.{TellsExtent, from-files, from-layout, from-present, in-files, in-layout}
+use Rattle.qg_fs_layout.proofs.Extents.{in-names, in-present}
 use Rattle.qg_fs_layout.proofs.Held.{met-referred}
 use Rattle.qg_fs_layout.proofs.Moved.{fresh-told}
 use Rattle.qg_fs_layout.proofs.Nodes.{value-reached}
-use Rattle.qg_fs_layout.proofs.Trees.{branch, drafted, entry-there, items-at_hand, met-slot, nodes-laid, sized, subvolume-tree, tree-subvolume, value-subvolume}
+use Rattle.qg_fs_layout.proofs.Trees.{branch, drafted, entry-there, items-at_hand, met-slot, nodes-laid, sized}
+use Rattle.qg_fs_layout.proofs.Trees.{subvolume-tree, tree-subvolume, value-subvolume}
 use Rattle.qg_fs_layout.proofs.Whole.{entry-laid, value-laid}
 
 -- an item of a tree tells an extent

@@ -1,5 +1,6 @@
 -- What some tree reaches is referred to, and is fresh or such as the last commit holds.
-use Rattle.std.proofs.Common.{◌≡◌, ℕ, ◌<◌, true, false, List, Option, Some, None, arith, refl, sym, ap, subst, ◌∙◌, inl, inr}
+use Rattle.std.proofs.Common.{◌≡◌, ℕ, ◌<◌, true, false, List, Option, Some, None, arith, refl, sym, ap, subst, ◌∙◌, inl}
+use Rattle.std.proofs.Common.{inr}
 use Rattle.std.specs.Prelude.{◌⊎◌, IsSome}
 use Rattle.std.specs.List.{Contains}
 use Rattle.std.proofs.lemmas.Bool.{lt-ltb}
@@ -27,8 +28,8 @@ use Rattle.qg_fs_layout.proofs.Nodes.{value-reached}
 use Rattle.qg_fs_layout.proofs.Roots.{tree-root}
 use Rattle.qg_fs_layout.proofs.Trees.{drafted, entry-there, met-slot, numbers-apart, sized}
 
--- it is fresh: of the generation to come, of the subvolume whose tree reaches it, not full, and none that the last commit
--- holds
+-- it is fresh: of the generation to come, of the subvolume whose tree reaches it, not full, and none that the last
+-- commit holds
 pub record IsOwn (fs : FsTree) (history : Option (List Event)) (q : ℕ) (placed : Placed) : Type 0 where
   pub generation : (header_of placed.node).generation ≡ fs.tree.next
   pub owner : (tree : Root) → Contains (trees_of fs) tree → IsReachedBy fs history tree q

@@ -1,5 +1,6 @@
 -- Trees moved by several edits of the one at hand.
-use Rattle.std.proofs.Common.{◌≡◌, ◌≢◌, ℕ, ◌≤◌, Bool, true, false, List, ◌++◌, Option, Some, None, arith, refl, sym, ap, subst, ◌∙◌, inl, inr}
+use Rattle.std.proofs.Common.{◌≡◌, ◌≢◌, ℕ, ◌≤◌, Bool, true, false, List, ◌++◌, Option, Some, None, arith, refl, sym, ap}
+use Rattle.std.proofs.Common.{subst, ◌∙◌, inl, inr}
 use Rattle.std.specs.Prelude.{◌⊎◌, IsTrue, ◌==◌, ◌&&◌, ◌||◌, nat_lt, not}
 use Rattle.std.specs.List.{Contains, list_any}
 use Rattle.std.specs.Result.{result_ok}
@@ -26,7 +27,8 @@ use Rattle.qg_refs.specs.Book.{full_in}
 use Rattle.qg_extents.specs.Table.{book_of}
 use Rattle.qg_descent.specs.Tree.{Reaches, Root}
 use Rattle.qg_fs_tree.specs.declared.fs_tree.FsTree.{FsTree}
-use Rattle.qg_fs_tree.specs.Standing.{IsBeside, IsElsewhere, IsReached, IsReachedBy, IsSubvolume, KeepsTree, Stands, is_full_then, nodes_of, trees_of, ways_in}
+use Rattle.qg_fs_tree.specs.Standing.{IsBeside, IsElsewhere, IsReached, IsReachedBy, IsSubvolume, KeepsTree, Stands}
+use Rattle.qg_fs_tree.specs.Standing.{is_full_then, nodes_of, trees_of, ways_in}
 use Rattle.qg_fs_tree.proofs.Before.{among_of}
 use Rattle.qg_fs_tree.proofs.Own.{elsewhere-moved}
 use Rattle.qg_fs_layout.specs.Laying.{IsMoved}

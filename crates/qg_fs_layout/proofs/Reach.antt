@@ -5,7 +5,8 @@ use Rattle.std.proofs.lemmas.Bool.{eq-eqb, false≢true, or_left}
 use Rattle.qg_node.specs.declared.node.Node.{Node}
 use Rattle.qg_image.specs.Table.{keys_of, value_at}
 use Rattle.qg_image.specs.declared.element.Element.{Element}
-use Rattle.qg_image.specs.Reach.{extent_of, is_among, is_reached, level_of, own_elements, pieces_of, reach, reach_of, reach_of_root, reach_under, reaches}
+use Rattle.qg_image.specs.Reach.{extent_of, is_among, is_reached, level_of, own_elements, pieces_of, reach, reach_of}
+use Rattle.qg_image.specs.Reach.{reach_of_root, reach_under, reaches}
 use Rattle.qg_image.specs.State.{Layout, node_at}
 use Rattle.qg_home.proofs.Reaching.{entry_of_value}
 use Rattle.qg_reach.proofs.Members.{contains_map}

@@ -1,5 +1,6 @@
 -- Trees that stand are the trees of subvolumes in a state.
-use Rattle.std.proofs.Common.{◌≡◌, ◌≢◌, ℕ, ◌<◌, ◌≤◌, Bool, true, false, List, [], ◌∷◌, map, Option, Some, None, arith, refl, sym, ap, subst, ◌∙◌, inl, inr}
+use Rattle.std.proofs.Common.{◌≡◌, ◌≢◌, ℕ, ◌<◌, ◌≤◌, Bool, true, false, List, [], ◌∷◌, map, Option, Some, None, arith}
+use Rattle.std.proofs.Common.{refl, sym, ap, subst, ◌∙◌, inl, inr}
 use Rattle.std.specs.Prelude.{◌&&◌, IsTrue}
 use Rattle.std.specs.Bool.{then_some}
 use Rattle.std.specs.List.{AllByRecursion, Contains, list_all}
@@ -36,7 +37,8 @@ use Rattle.qg_descent.proofs.Frames.{IsTree-same}
 use Rattle.qg_forest.proofs.Meeting.{root-valued}
 use Rattle.qg_forest.proofs.Snapshotted.{root_entry}
 use Rattle.qg_fs_tree.specs.declared.fs_tree.FsTree.{FsTree}
-use Rattle.qg_fs_tree.specs.Standing.{IsReachedBy, IsSubvolume, Stands, items_in, layout_in, nodes_of, roots_of, trees_of}
+use Rattle.qg_fs_tree.specs.Standing.{IsReachedBy, IsSubvolume, Stands, items_in, layout_in, nodes_of, roots_of}
+use Rattle.qg_fs_tree.specs.Standing.{trees_of}
 use Rattle.qg_fs_tree.proofs.Before as standing
 use Rattle.qg_fs_tree.proofs.Counts.{node-there}
 use Rattle.qg_fs_tree.proofs.Lists.{all-contained}

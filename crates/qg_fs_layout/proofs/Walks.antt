@@ -1,5 +1,6 @@
 -- A tree that stands is walked in a state without a failure.
-use Rattle.std.proofs.Common.{◌≡◌, ℕ, zero, suc, ◌-◌, ◌≤◌, true, false, List, [], ◌∷◌, Option, Some, None, arith, refl, sym, ap, ◌∙◌}
+use Rattle.std.proofs.Common.{◌≡◌, ℕ, zero, suc, ◌-◌, ◌≤◌, true, false, List, [], ◌∷◌, Option, Some, None, arith, refl}
+use Rattle.std.proofs.Common.{sym, ap, ◌∙◌}
 use Rattle.std.specs.Prelude.{Bool, ◌&&◌, ◌==◌, Result, Ok, Err}
 use Rattle.std.specs.List.{list_all}
 use Rattle.std.proofs.lemmas.Bool.{and_parts}
@@ -21,7 +22,8 @@ use Rattle.qg_image.specs.declared.tree.Tree.{Tree}
 use Rattle.qg_image.specs.Among.{found_there}
 use Rattle.qg_image.specs.Failure.{first_failure, unless}
 use Rattle.qg_image.specs.ItemsUnder.{is_way, items_under, nodes_of}
-use Rattle.qg_image.specs.Walk.{begins_at, deepest, ends_before, found_failure, is_generation, is_item_of, is_owner, node_failure, pointers_failure, root_expected, shape_failure, walk_failure, way_failure}
+use Rattle.qg_image.specs.Walk.{begins_at, deepest, ends_before, found_failure, is_generation, is_item_of, is_owner}
+use Rattle.qg_image.specs.Walk.{node_failure, pointers_failure, root_expected, shape_failure, walk_failure, way_failure}
 use Rattle.qg_walk.specs.Standing.{expected_below, form_failure}
 use Rattle.qg_walk.proofs.Failures.{neither, none_of_two, pointers-passed, walk-inner, walk-leaf}
 use Rattle.qg_descent.specs.Tree.{IsTree, found_in}

@@ -27,7 +27,8 @@ use Rattle.qg_descent.specs.Tree.{Reaches, Root, super_of}
 use Rattle.qg_descent.proofs.BranchFrames.{reach-same}
 use Rattle.qg_forest.proofs.Extents.{among-one}
 use Rattle.qg_fs_tree.specs.declared.fs_tree.FsTree.{FsTree}
-use Rattle.qg_fs_tree.specs.Standing.{IsAtHome, IsReachedBy, IsSubvolume, Stands, items_in, name_of, name_told, names_elsewhere, nodes_of, trees_of}
+use Rattle.qg_fs_tree.specs.Standing.{IsAtHome, IsReachedBy, IsSubvolume, Stands, items_in, name_of, name_told}
+use Rattle.qg_fs_tree.specs.Standing.{names_elsewhere, nodes_of, trees_of}
 use Rattle.qg_fs_tree.proofs.Before.{name_apart, names_there}
 use Rattle.qg_fs_tree.proofs.Fixed.{elsewhere_name}
 use Rattle.qg_descent.proofs.BranchItems.{from-leaf}
@@ -40,7 +41,8 @@ use Rattle.qg_fs_layout.proofs.Extents.{own-extent}
 use Rattle.qg_fs_layout.proofs.Nodes.{nodes-ascend, reached-by}
 use Rattle.qg_fs_layout.proofs.Reach.{in-reaches, is_reached-in, reach-on, reaches-in, reaches-root}
 use Rattle.qg_fs_layout.proofs.Roots.{root-tree}
-use Rattle.qg_fs_layout.proofs.Trees.{branch, drafted, entry-there, items-at_hand, laid-there, met-slot, nodes-laid, numbers-apart, root-level, roots-laid, sized, tree-value, trees-laid}
+use Rattle.qg_fs_layout.proofs.Trees.{branch, drafted, entry-there, items-at_hand, laid-there, met-slot, nodes-laid}
+use Rattle.qg_fs_layout.proofs.Trees.{numbers-apart, root-level, roots-laid, sized, tree-value, trees-laid}
 
 module _ (fs : FsTree) (history : Option (List Event)) (bytes : ℕ) (items : List Item) (names : List (ℕ × Piece))
     (subvolume : IsSubvolume fs history bytes) (stands : Stands fs history items names) where

@@ -17,7 +17,8 @@ use Rattle.qg_image.specs.Walk.{deepest}
 use Rattle.qg_descent.specs.Tree.{Root}
 use Rattle.qg_fs_tree.specs.declared.fs_tree.FsTree.{FsTree}
 use Rattle.qg_fs_tree.specs.Standing.{IsSubvolume, KeepsTree, Stands, items_in, trees_of}
-use Rattle.qg_fs_layout.specs.Laying.{AreFit, AreThoseReached, CopiesNodes, HaveFiles, HoldsSlots, IsCounted, IsLaidOut, IsMet, IsMoved, names_in}
+use Rattle.qg_fs_layout.specs.Laying.{AreFit, AreThoseReached, CopiesNodes, HaveFiles, HoldsSlots, IsCounted, IsLaidOut}
+use Rattle.qg_fs_layout.specs.Laying.{IsMet, IsMoved, names_in}
 
 -- the nodes of the trees as a layout are those that some tree reaches
 abbrev pub NodesAreThoseReached : Type 0

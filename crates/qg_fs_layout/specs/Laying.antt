@@ -45,8 +45,8 @@ pub record IsMetAs (fs : FsTree) (history : Option (List Event)) (q : ℕ) (plac
   pub told : nodes_of fs history q ≡ Some placed.node
   pub full : placed.full ≡ full_in (book_of fs.refs.refs q)
 
--- The nodes of the trees as a layout are a table by address: what some tree reaches and is told there, and nothing else.
--- A tree reaches what ways lead to
+-- The nodes of the trees as a layout are a table by address: what some tree reaches and is told there, and nothing
+-- else. A tree reaches what ways lead to
 pub record AreThoseReached (fs : FsTree) (history : Option (List Event)) : Type 0 where
   pub ascending : IsStrictlyIncreasing (keys_of (nodes_in fs history))
   pub among : (q : ℕ) (placed : Placed)

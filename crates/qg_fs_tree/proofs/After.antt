@@ -1,5 +1,6 @@
 -- Trees that stood, once the one at hand was edited and its book was told: they stand.
-use Rattle.std.proofs.Common.{◌≡◌, ◌≢◌, ℕ, zero, suc, ◌+◌, ◌<◌, ◌≤◌, Bool, true, false, List, [], ◌∷◌, ◌++◌, length, get_or, map, Option, Some, None, arith, refl, sym, ap, subst, ◌∙◌, inl, inr}
+use Rattle.std.proofs.Common.{◌≡◌, ◌≢◌, ℕ, zero, suc, ◌+◌, ◌<◌, ◌≤◌, Bool, true, false, List, [], ◌∷◌, ◌++◌, length}
+use Rattle.std.proofs.Common.{get_or, map, Option, Some, None, arith, refl, sym, ap, subst, ◌∙◌, inl, inr}
 use Rattle.std.specs.Prelude.{◌⊎◌, ◌↔◌, ◌==◌, ◌&&◌, ◌||◌, not, IsSome, IsTrue, if◌then◌else◌, nat_lt}
 use Rattle.std.specs.List.{All, Contains, filter_map, flat_map}
 use Rattle.std.specs.List.Sorted.{IsStrictlyIncreasing}
@@ -38,9 +39,14 @@ use Rattle.qg_tree_refs.specs.Exchange.{times}
 use Rattle.qg_tree_refs.specs.Settled.{IsSettled}
 use Rattle.qg_tree_refs.proofs.Times.{times-nil}
 use Rattle.qg_fs_tree.specs.declared.fs_tree.FsTree.{FsTree}
-use Rattle.qg_fs_tree.specs.Standing.{IsAtHome, IsBeside, IsElsewhere, IsKnownExtent, IsReached, IsReachedBy, Stands, every_slot, extents_named, is_full_then, items_in, layout_in, name_of, name_told, names_elsewhere, names_times, nodes_of, trees_of, ways_in}
-use Rattle.qg_fs_tree.proofs.Before.{beside-there, beside_parts, both-clean, first_tree, foreign-clean, foreign-led, foreign_is, held, index_among, known_of, later_tree, names_there, not_foreign, other_stands, reached}
-use Rattle.qg_fs_tree.proofs.Beside.{around_of, beside_in, elsewhere, foreign_in, foreign_of, mark_of, own_ways, roots_owed, slots_of}
+use Rattle.qg_fs_tree.specs.Standing.{IsAtHome, IsBeside, IsElsewhere, IsKnownExtent, IsReached, IsReachedBy, Stands}
+use Rattle.qg_fs_tree.specs.Standing.{every_slot, extents_named, is_full_then, items_in, layout_in, name_of, name_told}
+use Rattle.qg_fs_tree.specs.Standing.{names_elsewhere, names_times, nodes_of, trees_of, ways_in}
+use Rattle.qg_fs_tree.proofs.Before.{beside-there, beside_parts, both-clean, first_tree, foreign-clean, foreign-led}
+use Rattle.qg_fs_tree.proofs.Before.{foreign_is, held, index_among, known_of, later_tree, names_there, not_foreign}
+use Rattle.qg_fs_tree.proofs.Before.{other_stands, reached}
+use Rattle.qg_fs_tree.proofs.Beside.{around_of, beside_in, elsewhere, foreign_in, foreign_of, mark_of, own_ways}
+use Rattle.qg_fs_tree.proofs.Beside.{roots_owed, slots_of}
 use Rattle.qg_fs_tree.proofs.Counts.{node-there, owed-ways}
 use Rattle.qg_fs_tree.proofs.Exchanged.{StaysBook}
 use Rattle.qg_fs_tree.proofs.Extents.{piece-owed}
@@ -334,7 +340,8 @@ module _ (old new : FsTree) (history : Option (List Event)) (items left_items : 
         let clean = foreign-clean old history items names stands drafted q p is in
         let here = held old history items names stands drafted q was clean in
         same ∙ is
-        ∙ sym (foreign_whole (nodes_of new history q) p old.tree.owner (mark_of new q) (as_before q clean here ∙ parts.1)
+        ∙ sym (foreign_whole (nodes_of new history q) p old.tree.owner (mark_of new q) (as_before q clean here
+        ∙ parts.1)
         (counted.marks q way ∙ ap mark_in (same ∙ is))
         (ap (λ (b : Bool). b || not ((header_of p.node).owner == old.tree.owner)) parts.2 ∙ parts.3))
 
@@ -474,7 +481,8 @@ module _ (old new : FsTree) (history : Option (List Event)) (items left_items : 
         let told_is : Some mine ≡ Some node = sym (told_old q mine was) ∙ sym (told_beside q there)
         ∙ told_mine q node fresh in
         let same : mine ≡ node = cc in
-        let young = stands.young tree q mine (later_tree old history items names stands drafted tree among) reaches was in
+        let young = stands.young tree q mine (later_tree old history items names stands drafted tree among) reaches
+        was in
         let beside = beside-there old history items names stands drafted q there in
         let parts = beside_parts old history items names stands drafted q beside.placed beside.is in
         let both : Some mine ≡ Some beside.placed.node = sym (told_old q mine was) ∙ parts.1 in

@@ -1,5 +1,6 @@
 -- Trees that stand, another of which comes to hand: they stand.
-use Rattle.std.proofs.Common.{◌≡◌, ℕ, suc, ◌<◌, ◌≤◌, Bool, true, false, List, [], ◌∷◌, ◌++◌, length, get_or, map, take, drop, Option, None, arith, refl, sym, ap, subst, ◌∙◌, inl, inr}
+use Rattle.std.proofs.Common.{◌≡◌, ℕ, suc, ◌<◌, ◌≤◌, Bool, true, false, List, [], ◌∷◌, ◌++◌, length, get_or, map, take}
+use Rattle.std.proofs.Common.{drop, Option, None, arith, refl, sym, ap, subst, ◌∙◌, inl, inr}
 use Rattle.std.specs.Prelude.{IsTrue, if◌then◌else◌, nat_lt, slice_index_or, slice_set}
 use Rattle.std.specs.List.{Contains, cons_option, filter_map, flat_map, list_any}
 use Rattle.std.specs.List.Sorted.{IsPermutation}
@@ -9,7 +10,8 @@ use Rattle.std.proofs.Math.Seq.{take-append_seam}
 use Rattle.std.proofs.lemmas.List.Elements.{Contains-append_cases, Contains-append_left, Contains-append_right}
 use Rattle.std.proofs.lemmas.List.{get_or-map, length-map}
 use Rattle.std.proofs.lemmas.List.Kept.{AllPairs-from_increasing}
-use Rattle.std.proofs.lemmas.List.Sorted.{IsPermutation-cons, IsPermutation-swap, IsPermutation-sym, IsPermutation-trans}
+use Rattle.std.proofs.lemmas.List.Sorted.{IsPermutation-cons, IsPermutation-swap, IsPermutation-sym}
+use Rattle.std.proofs.lemmas.List.Sorted.{IsPermutation-trans}
 use Rattle.qg_device.specs.History.{Event}
 use Rattle.qg_num.specs.declared.piece.Piece.{Piece}
 use Rattle.qg_node.specs.declared.item.Item.{Item}
@@ -31,7 +33,9 @@ use Rattle.qg_tree_edits.specs.Editing.{IsEditable}
 use Rattle.qg_tree_edits.specs.Rooting.{IsRooted}
 use Rattle.qg_tree_refs.specs.declared.tree_refs.TreeRefs.{TreeRefs}
 use Rattle.qg_fs_tree.specs.declared.fs_tree.FsTree.{FsTree}
-use Rattle.qg_fs_tree.specs.Standing.{AreNumbered, CanTurn, IsBeside, IsKnownExtent, IsSubvolume, IsTurned, Stands, every_slot, items_in, layout_in, name_told, names_elsewhere, names_times, nodes_of, placed_at, roots_of, trees_of, ways_in}
+use Rattle.qg_fs_tree.specs.Standing.{AreNumbered, CanTurn, IsBeside, IsKnownExtent, IsSubvolume, IsTurned, Stands}
+use Rattle.qg_fs_tree.specs.Standing.{every_slot, items_in, layout_in, name_told, names_elsewhere, names_times}
+use Rattle.qg_fs_tree.specs.Standing.{nodes_of, placed_at, roots_of, trees_of, ways_in}
 use Rattle.qg_fs_tree.proofs.Before.{IsTreeOf, among_of, index_among, known_of, other-tree, other_stands}
 use Rattle.qg_fs_tree.proofs.Beside.{mark_of}
 use Rattle.qg_fs_tree.proofs.Counts.{branch, single-way}

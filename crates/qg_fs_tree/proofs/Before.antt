@@ -1,5 +1,6 @@
 -- Trees that stand: what is fixed while the one at hand is edited, and that the book stands for its ways.
-use Rattle.std.proofs.Common.{◌≡◌, ◌≢◌, ℕ, zero, suc, ◌<◌, ◌≤◌, Bool, true, false, List, [], ◌∷◌, ◌++◌, length, get_or, Option, Some, None, arith, refl, sym, ap, subst, ◌∙◌, inl, inr}
+use Rattle.std.proofs.Common.{◌≡◌, ◌≢◌, ℕ, zero, suc, ◌<◌, ◌≤◌, Bool, true, false, List, [], ◌∷◌, ◌++◌, length, get_or}
+use Rattle.std.proofs.Common.{Option, Some, None, arith, refl, sym, ap, subst, ◌∙◌, inl, inr}
 use Rattle.std.specs.Prelude.{◌⊎◌, ◌==◌, ◌||◌, not, IsSome, IsTrue, if◌then◌else◌, nat_lt}
 use Rattle.std.specs.List.{All, Contains}
 use Rattle.std.proofs.lemmas.Bool.{and_parts, leb-true, lt-ltb, ltb-true}
@@ -36,8 +37,10 @@ use Rattle.qg_tree_refs.proofs.Counted.{many, total}
 use Rattle.qg_tree_refs.proofs.Owings.{times-cons}
 use Rattle.qg_tree_refs.proofs.Times.{times-nil, times-own}
 use Rattle.qg_fs_tree.specs.declared.fs_tree.FsTree.{FsTree}
-use Rattle.qg_fs_tree.specs.Standing.{IsBeside, IsElsewhere, IsKnownExtent, IsReached, IsReachedBy, Stands, name_of, names_elsewhere, nodes_of, trees_of, ways_in}
-use Rattle.qg_fs_tree.proofs.Beside.{around_of, beside_in, beside_of, elsewhere, foreign_in, foreign_of, mark_of, own_ways, slots_of}
+use Rattle.qg_fs_tree.specs.Standing.{IsBeside, IsElsewhere, IsKnownExtent, IsReached, IsReachedBy, Stands, name_of}
+use Rattle.qg_fs_tree.specs.Standing.{names_elsewhere, nodes_of, trees_of, ways_in}
+use Rattle.qg_fs_tree.proofs.Beside.{around_of, beside_in, beside_of, elsewhere, foreign_in, foreign_of, mark_of}
+use Rattle.qg_fs_tree.proofs.Beside.{own_ways, slots_of}
 use Rattle.qg_fs_tree.proofs.Counts.{names-apart, node-there, once-there, owed-ways, single-way}
 use Rattle.qg_fs_tree.proofs.Layouts.{owed_marked, owed_there}
 use Rattle.qg_fs_tree.proofs.Owes.{owed_in}

@@ -72,7 +72,8 @@ module _ (old new : FsTree) (history : Option (List Event)) (bytes : ℕ) (items
         (settled fits-called) in
         IsEditedTo-told old new history items left_items names tellings stands drafted table is_told follows replaced
         rests trees stays.owner stays.next
-        (AreOwned-after old new history items left_items names stands drafted replaced comes) rests.runs settled_then within new_table
+        (AreOwned-after old new history items left_items names stands drafted replaced comes) rests.runs settled_then
+        within new_table
 
 -- ---- what stands over any disk
 

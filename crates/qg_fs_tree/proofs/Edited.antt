@@ -1,5 +1,6 @@
 -- Trees that stand, the one at hand edited: what its book was told leaves them standing.
-use Rattle.std.proofs.Common.{◌≡◌, ℕ, ◌+◌, ◌*◌, ◌<◌, ◌≤◌, true, List, Option, None, arith, sym, ap, subst, ◌∙◌, inl, inr}
+use Rattle.std.proofs.Common.{◌≡◌, ℕ, ◌+◌, ◌*◌, ◌<◌, ◌≤◌, true, List, Option, None, arith, sym, ap, subst, ◌∙◌, inl}
+use Rattle.std.proofs.Common.{inr}
 use Rattle.std.specs.Prelude.{◌⊎◌, ◌||◌, IsTrue, nat_lt}
 use Rattle.std.specs.List.{All, filter_map, sum_by}
 use Rattle.qg_device.specs.History.{Event}
@@ -24,7 +25,8 @@ use Rattle.qg_fs_tree.specs.declared.fs_tree.FsTree.{FsTree}
 use Rattle.qg_tree_refs.specs.Heavier.{BookGetsHeavier, edit_bytes, telling_bytes}
 use Rattle.qg_tree_refs.proofs.Sums.{BookGetsHeavier-most}
 use Rattle.qg_tree_refs.proofs.Told.{BookGetsHeavier-followed}
-use Rattle.qg_fs_tree.specs.Standing.{IsEditedTo, IsReached, Stands, every_slot, made_slots, name_told, names_times, own_slots}
+use Rattle.qg_fs_tree.specs.Standing.{IsEditedTo, IsReached, Stands, every_slot, made_slots, name_told, names_times}
+use Rattle.qg_fs_tree.specs.Standing.{own_slots}
 use Rattle.qg_fs_tree.proofs.After.{AreOwned, Stands-after, beside-kept, marks-kept}
 use Rattle.qg_fs_tree.proofs.Before.{first_tree, once, placed, single}
 use Rattle.qg_fs_tree.proofs.Beside.{around_of, elsewhere, foreign_in, own_ways, slots_of}
@@ -115,7 +117,8 @@ module _ (old new : FsTree) (history : Option (List Event)) (items left_items : 
         let some_new = subst (λ (s : Sizes). 0 < s.nodesize) (sym rests.sizes) some in
         let made = made-few old.land.space new.land.space (own_ways old history) (own_ways new history) tellings
         some_new (elsewhere old history)
-        (λ at is. has-led old history items names stands drafted table at (subst (λ (s : Sizes). is_slot s at ≡ true) rests.sizes is)) has_after told.turns
+        (λ at is. has-led old history items names stands drafted table at
+        (subst (λ (s : Sizes). is_slot s at ≡ true) rests.sizes is)) has_after told.turns
         IsSlot
         (λ at is. subst (λ (s : Sizes). IsOnce (every_slot s) at) (sym rests.sizes)
         (once old history items names stands drafted at is)) place_there in

@@ -1,5 +1,6 @@
 -- What one telling makes of a book that stands for ways, names and what is beside, and what a list of them does.
-use Rattle.std.proofs.Common.{◌≡◌, ◌≢◌, ℕ, zero, suc, ◌+◌, ◌<◌, ◌≤◌, Bool, true, false, List, [], ◌∷◌, length, get_or, Option, Some, None, arith, refl, sym, ap, subst, ◌∙◌, inl, inr}
+use Rattle.std.proofs.Common.{◌≡◌, ◌≢◌, ℕ, zero, suc, ◌+◌, ◌<◌, ◌≤◌, Bool, true, false, List, [], ◌∷◌, length, get_or}
+use Rattle.std.proofs.Common.{Option, Some, None, arith, refl, sym, ap, subst, ◌∙◌, inl, inr}
 use Rattle.std.specs.Prelude.{◌⊎◌, ◌&&◌, ◌||◌, ◌==◌, nat_lt, not, if◌then◌else◌}
 use Rattle.std.specs.List.{All, Contains, sum_by}
 use Rattle.std.specs.Option.{option_or}
@@ -22,17 +23,27 @@ use Rattle.qg_extents.specs.Table.{book_of}
 use Rattle.qg_tree_edits.specs.Counting.{IsBare, IsTimely, LeadsNone, Turns, gains, losses, one}
 use Rattle.qg_tree_edits.proofs.Ways.{one-here, one-other}
 use Rattle.qg_tree_refs.specs.declared.tree_refs.TreeRefs.{TreeRefs}
-use Rattle.qg_tree_refs.specs.Exchange.{CanExchange, Exchange, Exchanges, IsKnown, IsNew, times, turns_full, what_comes, ways_to}
-use Rattle.qg_tree_refs.specs.Following.{Follows, IsProper, KeepsLevel, Step, coming_of, exchange_of, is_of_level, references_to}
+use Rattle.qg_tree_refs.specs.Exchange.{CanExchange, Exchange, Exchanges, IsKnown, IsNew, times, turns_full, what_comes}
+use Rattle.qg_tree_refs.specs.Exchange.{ways_to}
+use Rattle.qg_tree_refs.specs.Following.{Follows, IsProper, KeepsLevel, Step, coming_of, exchange_of, is_of_level}
+use Rattle.qg_tree_refs.specs.Following.{references_to}
 use Rattle.qg_tree_refs.proofs.Times.{times-append, times-nil}
 use Rattle.qg_tree_refs.proofs.Counted.{many, total}
 use Rattle.qg_tree_refs.proofs.Owings.{known-alike, many-cons, shared-no_block, shared-no_data}
 use Rattle.qg_tree_refs.proofs.Single.{count-total, length-none, length-one}
 use Rattle.qg_fs_tree.proofs.Keyed.{keyed-less, keyed-moved, keyed-none, keyed-own, keyed-same, keyed_ways}
 use Rattle.qg_fs_tree.proofs.Owings.{keyed-no_child, names-no_block, names_of}
-use Rattle.qg_fs_tree.proofs.Owes.{in-alike, is_own, keyed-other, keyed_in, length-more, many-child, mark_in, owed-own, owed-parent, owed_in, some-reference, ways-other}
+use Rattle.qg_fs_tree.proofs.Owes.{in-alike, is_own, keyed-other, keyed_in, length-more, many-child, mark_in, owed-own}
+use Rattle.qg_fs_tree.proofs.Owes.{owed-parent, owed_in, some-reference, ways-other}
 use Rattle.qg_fs_tree.proofs.SlotSums.{over, over-alike, over-moved, over-none, over-one, over-same, over-some}
-use Rattle.qg_fs_tree.proofs.Turned.{AreCounted, AreFixed, AreTrueTo, Around, GoesDown, IsCounting, IsLed, IsNewNode, IsTrueTo, Lasts, StandsFor, Stays, beside_many, beside_sum, child-stays, children_of, come-alone, come-counts, come-unclean, come_in, copies, foreign-come, foreign-stays, foreign-within, foreign_then, full_by, gains-new, keyed_sum, kept_come, kept_mark, kept_nothing, kept_same, leaves, lose_in, losses-few, moving, no_way, none_or_none, other-half, own-half, own-most, owed_sum, times_come, times_lost, total-is, turned_by, turning, turning_at, unturned, way_lost, what_come}
+use Rattle.qg_fs_tree.proofs.Turned.{AreCounted, AreFixed, AreTrueTo, Around, GoesDown, IsCounting, IsLed, IsNewNode}
+use Rattle.qg_fs_tree.proofs.Turned.{IsTrueTo, Lasts, StandsFor, Stays, beside_many, beside_sum, child-stays}
+use Rattle.qg_fs_tree.proofs.Turned.{children_of, come-alone, come-counts, come-unclean, come_in, copies, foreign-come}
+use Rattle.qg_fs_tree.proofs.Turned.{foreign-stays, foreign-within, foreign_then, full_by, gains-new, keyed_sum}
+use Rattle.qg_fs_tree.proofs.Turned.{kept_come, kept_mark, kept_nothing, kept_same, leaves, lose_in, losses-few, moving}
+use Rattle.qg_fs_tree.proofs.Turned.{no_way, none_or_none, other-half, own-half, own-most, owed_sum, times_come}
+use Rattle.qg_fs_tree.proofs.Turned.{times_lost, total-is, turned_by, turning, turning_at, unturned, way_lost}
+use Rattle.qg_fs_tree.proofs.Turned.{what_come}
 
 -- ---- plain numbers and choices
 
@@ -744,7 +755,8 @@ module _ (a : Around) (IsPlace : ℕ → Type 0) (fixed : AreFixed a IsPlace) wh
 
     counts_then : AreCounted a (book_of after.refs) (turned_by telling w) (foreign_then telling foreign)
     counts_then at reference =
-        let keyed = sum_moved (λ (f : Option Placed). times (keyed_in a.owner f) at reference) (times-nil at reference) in
+        let keyed = sum_moved (λ (f : Option Placed). times (keyed_in a.owner f) at reference)
+        (times-nil at reference) in
         let owed = sum_moved (λ (f : Option Placed). times (owed_in f) at reference) (times-nil at reference) in
         let beside = beside_moved (λ (f : Option Placed). times (owed_in f) at reference) (times-nil at reference) in
         let all = come-counts a.owner (turning foreign telling) (turning a.beside telling) at reference
@@ -883,7 +895,8 @@ module _ (a : Around) (IsPlace : ℕ → Type 0) (fixed : AreFixed a IsPlace) wh
         ≡ mark_in (foreign_then telling foreign q)
     marks_then q some =
         let mark = kept_mark (book_of before.refs q) (book_of after.refs q) (turned q) (some_then q some)
-        (done.full q) ∙ unturned (full_in (book_of before.refs q)) (turned q) (not_turned telling q timely (inl some)) in
+        (done.full q) ∙ unturned (full_in (book_of before.refs q)) (turned q)
+        (not_turned telling q timely (inl some)) in
         elim (came_or_less q (gains telling q) refl) [
           | inl (came, none, most) ↦
               mark
@@ -933,7 +946,8 @@ module _ (a : Around) (IsPlace : ℕ → Type 0) (fixed : AreFixed a IsPlace) wh
         elim (lost_only (header_of node).address q (one (header_of node).address q) refl) [
           | inl kept ↦ absurd (omega (arith, kept, some, none))
           | inr same ↦
-              let alone = (left_alone before w foreign stands (header_of node).address now truth.foreign truth.alone).1 in
+              let alone = (left_alone before w foreign stands (header_of node).address now truth.foreign
+              truth.alone).1 in
               let wrong : None ≡ Some placed = sym alone ∙ sym (ap a.beside same) ∙ there in
               absurd cc
         ]

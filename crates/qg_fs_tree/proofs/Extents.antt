@@ -1,5 +1,6 @@
 -- References to extents of trees that stand: those of the tree at hand by its names, and those of the others.
-use Rattle.std.proofs.Common.{◌≡◌, ℕ, zero, suc, ◌+◌, ◌*◌, ◌<◌, ◌≤◌, List, [], ◌∷◌, Option, Some, None, arith, refl, sym, subst, ◌∙◌, inl, inr}
+use Rattle.std.proofs.Common.{◌≡◌, ℕ, zero, suc, ◌+◌, ◌*◌, ◌<◌, ◌≤◌, List, [], ◌∷◌, Option, Some, None, arith, refl}
+use Rattle.std.proofs.Common.{sym, subst, ◌∙◌, inl, inr}
 use Rattle.std.specs.Prelude.{IsTrue}
 use Rattle.std.specs.List.{Contains, filter_map}
 use Rattle.std.proofs.lemmas.Bool.{eq-eqb}
@@ -21,7 +22,8 @@ use Rattle.qg_descent.specs.Tree.{Root, super_of}
 use Rattle.qg_descent.proofs.BranchFrames.{reach-top}
 use Rattle.qg_tree_refs.proofs.Counted.{many, total}
 use Rattle.qg_fs_tree.specs.declared.fs_tree.FsTree.{FsTree}
-use Rattle.qg_fs_tree.specs.Standing.{IsReachedBy, Stands, items_in, name_of, name_told, names_elsewhere, names_times, nodes_of}
+use Rattle.qg_fs_tree.specs.Standing.{IsReachedBy, Stands, items_in, name_of, name_told, names_elsewhere, names_times}
+use Rattle.qg_fs_tree.specs.Standing.{nodes_of}
 use Rattle.qg_fs_tree.proofs.Before.{beside-there, beside_parts, counted, later_tree, names_there, other-tree, placed}
 use Rattle.qg_fs_tree.proofs.Beside.{around_of, beside_in, foreign_in, own_ways, roots_owed, slots_of}
 use Rattle.qg_fs_tree.proofs.Counts.{branch}

@@ -1,5 +1,6 @@
 -- No image has room for so many items that a piece's reference were named too often.
-use Rattle.std.proofs.Common.{◌≡◌, ℕ, zero, suc, ◌+◌, ◌*◌, ◌<◌, ◌≤◌, Bool, true, false, List, [], ◌∷◌, length, map, Option, Some, None, arith, refl, sym, ap}
+use Rattle.std.proofs.Common.{◌≡◌, ℕ, zero, suc, ◌+◌, ◌*◌, ◌<◌, ◌≤◌, Bool, true, false, List, [], ◌∷◌, length, map}
+use Rattle.std.proofs.Common.{Option, Some, None, arith, refl, sym, ap}
 use Rattle.std.specs.Prelude.{IsTrue, if◌then◌else◌}
 use Rattle.std.specs.List.{cons_option, filter_map, sum_by}
 use Rattle.std.proofs.Math.Nat.{add-mul}

@@ -1,5 +1,6 @@
 -- Trees that stand: what is fixed while the one at hand is edited holds, and the book stands for it.
-use Rattle.std.proofs.Common.{◌≡◌, ℕ, zero, suc, ◌<◌, ◌≤◌, Bool, true, false, List, ◌++◌, Option, Some, None, arith, refl, sym, ap, subst, ◌∙◌, inl, inr}
+use Rattle.std.proofs.Common.{◌≡◌, ℕ, zero, suc, ◌<◌, ◌≤◌, Bool, true, false, List, ◌++◌, Option, Some, None, arith}
+use Rattle.std.proofs.Common.{refl, sym, ap, subst, ◌∙◌, inl, inr}
 use Rattle.std.specs.Prelude.{◌⊎◌, ◌==◌, ◌||◌, not, IsTrue, if◌then◌else◌}
 use Rattle.std.specs.List.{Contains, filter_map}
 use Rattle.std.proofs.lemmas.Bool.{lt-ltb}
@@ -32,15 +33,20 @@ use Rattle.qg_tree_refs.specs.Exchange.{times}
 use Rattle.qg_tree_refs.specs.Following.{references_to}
 use Rattle.qg_tree_refs.proofs.Counted.{many}
 use Rattle.qg_fs_tree.specs.declared.fs_tree.FsTree.{FsTree}
-use Rattle.qg_fs_tree.specs.Standing.{AreNamed, IsElsewhere, IsReachedBy, Stands, items_in, name_of, name_told, names_elsewhere, nodes_of}
-use Rattle.qg_fs_tree.proofs.Before.{IsTreeOf, alone_there, beside-kept, beside-there, beside_mark, beside_parts, both-clean, committed, counted, first_tree, foreign-clean, foreign-led, foreign_is, foreign_mark, home_other, later_tree, name_apart, names_there, not_foreign, numbers, once, other-tree, placed, reached, single, some_length, unnamed}
+use Rattle.qg_fs_tree.specs.Standing.{AreNamed, IsElsewhere, IsReachedBy, Stands, items_in, name_of, name_told}
+use Rattle.qg_fs_tree.specs.Standing.{names_elsewhere, nodes_of}
+use Rattle.qg_fs_tree.proofs.Before.{IsTreeOf, alone_there, beside-kept, beside-there, beside_mark, beside_parts}
+use Rattle.qg_fs_tree.proofs.Before.{both-clean, committed, counted, first_tree, foreign-clean, foreign-led, foreign_is}
+use Rattle.qg_fs_tree.proofs.Before.{foreign_mark, home_other, later_tree, name_apart, names_there, not_foreign}
+use Rattle.qg_fs_tree.proofs.Before.{numbers, once, other-tree, placed, reached, single, some_length, unnamed}
 use Rattle.qg_fs_tree.proofs.Beside.{around_of, beside_in, foreign_in, foreign_of, mark_of, own_ways, roots_owed}
 use Rattle.qg_fs_tree.proofs.Counts.{branch, node-there, single-way}
 use Rattle.qg_fs_tree.proofs.Exchanged.{lasting, reached_first}
 use Rattle.qg_descent.proofs.BranchItems.{from-leaf}
 use Rattle.qg_fs_tree.proofs.Lists.{from-some, has-flat, made-some}
 use Rattle.qg_fs_tree.proofs.Lying.{told-at}
-use Rattle.qg_fs_tree.proofs.Nodes.{last-step, owed-few, owed-some, pointing-few, roots-own, roots-shared, roots-some, roots-there, times-many}
+use Rattle.qg_fs_tree.proofs.Nodes.{last-step, owed-few, owed-some, pointing-few, roots-own, roots-shared, roots-some}
+use Rattle.qg_fs_tree.proofs.Nodes.{roots-there, times-many}
 use Rattle.qg_fs_tree.proofs.Owes.{mark_in}
 use Rattle.qg_fs_tree.proofs.Owings.{names_of}
 use Rattle.qg_fs_tree.proofs.Reached.{reached-some}
@@ -343,7 +349,8 @@ module _ (fs : FsTree) (history : Option (List Event)) (items : List Item) (name
       let is = beside-there fs history items names stands drafted q there in
       let slot = fixed.beside_place q is.placed is.is in
       let stands_for = StandsFor-before table in
-      let some = lasting around IsSlot fixed fs.refs (own_ways fs history) (foreign_in fs history) stands_for.counts down
+      let some = lasting around IsSlot fixed fs.refs (own_ways fs history) (foreign_in fs history) stands_for.counts
+      down
       (reached_first around IsSlot fixed fs.refs (own_ways fs history) (foreign_in fs history) stands_for) q
       (inr (inl is)) in
       stands.settled.slots q slot

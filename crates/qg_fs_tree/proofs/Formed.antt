@@ -1,5 +1,6 @@
 -- What is read is a node of a size, whatever numbers the bytes are.
-use Rattle.std.proofs.Common.{◌≡◌, ◌≢◌, ℕ, zero, suc, ◌+◌, ◌-◌, ◌*◌, ◌≤◌, Bool, true, false, cond, List, [], ◌∷◌, length, drop, map, Result, Ok, Err, refl, ap, subst, arith}
+use Rattle.std.proofs.Common.{◌≡◌, ◌≢◌, ℕ, zero, suc, ◌+◌, ◌-◌, ◌*◌, ◌≤◌, Bool, true, false, cond, List, [], ◌∷◌}
+use Rattle.std.proofs.Common.{length, drop, map, Result, Ok, Err, refl, ap, subst, arith}
 use Rattle.std.specs.Prelude.{slice_index, slice_range, ◌&&◌, ◌||◌, not, ◌==◌, nat_le}
 use Rattle.std.proofs.lemmas.Bool.{eqb-false, eqb-true, leb-true}
 use Rattle.std.proofs.lemmas.List.{length-take}
@@ -14,7 +15,8 @@ use Rattle.qg_node.specs.declared.fault.NodeFault.{NodeFault}
 use Rattle.qg_node.specs.declared.fault.NodeFault.TheVariants.{Csum, Place, Level, Empty, Bounds, Order, Slack}
 use Rattle.qg_node.specs.Nodes.{is_ascending, item_bytes, items_bytes}
 use Rattle.qg_node.specs.NodeText.{IsNode}
-use Rattle.qg_node.specs.Reading.{◌>>=◌, check, count_at, has_checksum, has_empty_fields, header_at, inner_at, item_at, items_at, leaf_at, node_read, pointers_at}
+use Rattle.qg_node.specs.Reading.{◌>>=◌, check, count_at, has_checksum, has_empty_fields, header_at, inner_at, item_at}
+use Rattle.qg_node.specs.Reading.{items_at, leaf_at, node_read, pointers_at}
 
 -- ---- readings that did not fail
 

@@ -1,5 +1,6 @@
 -- What the nodes of a tree would owe if none were full: a way to each node, and what its items name.
-use Rattle.std.proofs.Common.{◌≡◌, ◌≢◌, ℕ, zero, suc, ◌+◌, ◌≤◌, true, List, [], ◌∷◌, ◌++◌, map, Option, Some, None, arith, refl, sym, ap, ◌∙◌, inl, inr}
+use Rattle.std.proofs.Common.{◌≡◌, ◌≢◌, ℕ, zero, suc, ◌+◌, ◌≤◌, true, List, [], ◌∷◌, ◌++◌, map, Option, Some, None}
+use Rattle.std.proofs.Common.{arith, refl, sym, ap, ◌∙◌, inl, inr}
 use Rattle.std.specs.Prelude.{◌⊎◌, slice_get}
 use Rattle.std.specs.List.{filter_map, sum_by}
 use Rattle.std.proofs.lemmas.Bool.Decides.{eqb_tells}
@@ -25,7 +26,8 @@ use Rattle.qg_descent.proofs.BranchOrder.{keys_of}
 use Rattle.qg_descent.proofs.BranchRanges.{ascending-first, ascending-others}
 use Rattle.qg_descent.proofs.Branches.{branch-level, each-get}
 use Rattle.qg_tree_edits.specs.Counting.{one, pointers_there, ways, ways_each}
-use Rattle.qg_tree_edits.proofs.Ways.{one-here, one-other, sum-same, ways-inner, ways-leaf, ways-none, ways_each-cons, ways_each-none}
+use Rattle.qg_tree_edits.proofs.Ways.{one-here, one-other, sum-same, ways-inner, ways-leaf, ways-none, ways_each-cons}
+use Rattle.qg_tree_edits.proofs.Ways.{ways_each-none}
 use Rattle.qg_tree_refs.specs.Exchange.{times}
 use Rattle.qg_tree_refs.proofs.Times.{times-append, times-nil}
 use Rattle.qg_fs_tree.specs.Standing.{name_of, name_told}

@@ -1,5 +1,6 @@
 -- What a node says that is told: its level, and the address where it lies.
-use Rattle.std.proofs.Common.{◌≡◌, ℕ, ◌+◌, ◌*◌, ◌≤◌, Bool, true, false, cond, List, length, map, Option, Some, None, Result, Ok, Err, arith, sym, ap, ◌∙◌}
+use Rattle.std.proofs.Common.{◌≡◌, ℕ, ◌+◌, ◌*◌, ◌≤◌, Bool, true, false, cond, List, length, map, Option, Some, None}
+use Rattle.std.proofs.Common.{Result, Ok, Err, arith, sym, ap, ◌∙◌}
 use Rattle.std.specs.Prelude.{◌&&◌, ◌||◌, ◌==◌, not, nat_le, slice_index}
 use Rattle.std.proofs.lemmas.Bool.{eqb-true, leb-true}
 use Rattle.qg_device.specs.History.{Event, content, range}
@@ -13,7 +14,8 @@ use Rattle.qg_node.specs.declared.fault.NodeFault.{NodeFault}
 use Rattle.qg_node.specs.declared.fault.NodeFault.TheVariants.{Csum, Place, Level, Empty, Bounds, Order, Slack}
 use Rattle.qg_node.specs.Nodes.{header_of, is_ascending}
 use Rattle.qg_node.specs.NodeText.{IsLevelled}
-use Rattle.qg_node.specs.Reading.{◌>>=◌, check, count_at, has_checksum, has_empty_fields, header_at, inner_at, items_at, leaf_at, node_read, pointers_at}
+use Rattle.qg_node.specs.Reading.{◌>>=◌, check, count_at, has_checksum, has_empty_fields, header_at, inner_at, items_at}
+use Rattle.qg_node.specs.Reading.{leaf_at, node_read, pointers_at}
 use Rattle.qg_super.specs.declared.sizes.Sizes.{Sizes}
 use Rattle.qg_blocks.specs.Standing.{standing}
 use Rattle.qg_blocks.specs.Told.{fresh_at, told, told_or}

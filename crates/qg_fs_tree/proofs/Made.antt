@@ -1,6 +1,7 @@
 -- Slots that the present state has and had not before: how many there are after an edit, and after one and another; and
 -- how many slots fewer are free.
-use Rattle.std.proofs.Common.{◌≡◌, ℕ, zero, suc, ◌+◌, ◌*◌, ◌<◌, ◌≤◌, Bool, true, false, List, [], ◌∷◌, ◌==◌, arith, refl, sym, ap, ◌∙◌}
+use Rattle.std.proofs.Common.{◌≡◌, ℕ, zero, suc, ◌+◌, ◌*◌, ◌<◌, ◌≤◌, Bool, true, false, List, [], ◌∷◌, ◌==◌, arith}
+use Rattle.std.proofs.Common.{refl, sym, ap, ◌∙◌}
 use Rattle.std.specs.Prelude.{◌&&◌, ◌||◌, cond, nat_lt, not}
 use Rattle.std.specs.List.{list_any, sum_by}
 use Rattle.std.proofs.lemmas.Bool.{lt-ltb}
@@ -108,7 +109,8 @@ free_each old new at sizes held =
     let held_there = list_any (λ (slot : ℕ). slot == at) old.held_slots in
     let same = ap (λ (s : Sizes). is_slot s at && not (has_slot new at || list_any (λ (slot : ℕ). slot == at)
     new.held_slots)) sizes
-    ∙ ap (λ (slots : List ℕ). is_slot old.sizes at && not (has_slot new at || list_any (λ (slot : ℕ). slot == at) slots))
+    ∙ ap (λ (slots : List ℕ). is_slot old.sizes at
+    && not (has_slot new at || list_any (λ (slot : ℕ). slot == at) slots))
     held in
     let was = ap one_if (free_split old at) in
     let is = ap one_if (free_split new at ∙ same) in

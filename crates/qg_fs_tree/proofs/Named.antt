@@ -1,10 +1,13 @@
 -- A piece that comes to name an extent, or does so no more: the trees stand with the names that are left.
-use Rattle.std.proofs.Common.{◌≡◌, ◌≢◌, ℕ, zero, suc, ◌+◌, ◌*◌, ◌/◌, ◌%◌, ◌<◌, ◌≤◌, true, List, [], ◌∷◌, ◌++◌, length, get_or, map, Option, Some, None, arith, refl, sym, ap, subst, ◌∙◌, inl, inr}
+use Rattle.std.proofs.Common.{◌≡◌, ◌≢◌, ℕ, zero, suc, ◌+◌, ◌*◌, ◌/◌, ◌%◌, ◌<◌, ◌≤◌, true, List, [], ◌∷◌, ◌++◌, length}
+use Rattle.std.proofs.Common.{get_or, map, Option, Some, None, arith, refl, sym, ap, subst, ◌∙◌, inl, inr}
 use Rattle.std.specs.Prelude.{◌⊎◌, ◌↔◌, IsTrue, Contains, nat_lt, not, unwrap_or}
 use Rattle.std.specs.List.{filter_map, list_any}
-use Rattle.std.proofs.lemmas.Bool.{and_from, and_parts, cases_Bool, cond-false, cond-true, eqb-true, leb-true, lt-ltb, ltb-true, not-true, true≢false}
+use Rattle.std.proofs.lemmas.Bool.{and_from, and_parts, cases_Bool, cond-false, cond-true, eqb-true, leb-true, lt-ltb}
+use Rattle.std.proofs.lemmas.Bool.{ltb-true, not-true, true≢false}
 use Rattle.std.proofs.lemmas.Bool.Decides.{eqb_tells}
-use Rattle.std.proofs.lemmas.List.Elements.{All-cons, Contains-append_cases, Contains-append_left, Contains-append_right}
+use Rattle.std.proofs.lemmas.List.Elements.{All-cons, Contains-append_cases, Contains-append_left}
+use Rattle.std.proofs.lemmas.List.Elements.{Contains-append_right}
 use Rattle.qg_device.specs.History.{Event}
 use Rattle.qg_num.specs.declared.piece.Piece.{Piece}
 use Rattle.qg_node.specs.declared.item.Item.{Item}
@@ -35,11 +38,13 @@ use Rattle.qg_tree_refs.proofs.Owings.{many-cons, times-cons, times-few}
 use Rattle.qg_tree_refs.proofs.Single.{length-none, length-total}
 use Rattle.qg_tree_refs.proofs.Times.{one_of, times-own, times_here, times_there}
 use Rattle.qg_fs_tree.specs.declared.fs_tree.FsTree.{FsTree}
-use Rattle.qg_fs_tree.specs.Standing.{AreNamed, IsKnownExtent, Stands, extents_named, name_of, name_told, names_elsewhere, names_times}
+use Rattle.qg_fs_tree.specs.Standing.{AreNamed, IsKnownExtent, Stands, extents_named, name_of, name_told}
+use Rattle.qg_fs_tree.specs.Standing.{names_elsewhere, names_times}
 use Rattle.qg_fs_tree.proofs.Before.{counted, index_among, known_of, names_there, some_length}
 use Rattle.qg_fs_tree.proofs.Beside.{around_of, foreign_in, own_ways}
 use Rattle.qg_fs_tree.proofs.Exchanged.{lasting}
-use Rattle.qg_fs_tree.proofs.Extents.{beside-named, count-named, extent-total, no-root-outside, no-way-outside, none-some, piece-owed}
+use Rattle.qg_fs_tree.proofs.Extents.{beside-named, count-named, extent-total, no-root-outside, no-way-outside}
+use Rattle.qg_fs_tree.proofs.Extents.{none-some, piece-owed}
 use Rattle.qg_fs_tree.proofs.Fewer.{fixed-left}
 use Rattle.qg_fs_tree.proofs.Fixed.{down, fixed, named-within}
 use Rattle.qg_fs_tree.proofs.Lists.{from-mapped, has-mapped}

@@ -1,5 +1,6 @@
 -- Nodes that a tree reaches: what they lead to, and what they owe.
-use Rattle.std.proofs.Common.{◌≡◌, ◌≢◌, ℕ, zero, suc, ◌+◌, ◌*◌, ◌<◌, ◌≤◌, Bool, true, false, List, [], ◌∷◌, length, get_or, map, Option, Some, None, arith, refl, sym, ap, subst, ◌∙◌, inl, inr}
+use Rattle.std.proofs.Common.{◌≡◌, ◌≢◌, ℕ, zero, suc, ◌+◌, ◌*◌, ◌<◌, ◌≤◌, Bool, true, false, List, [], ◌∷◌, length}
+use Rattle.std.proofs.Common.{get_or, map, Option, Some, None, arith, refl, sym, ap, subst, ◌∙◌, inl, inr}
 use Rattle.std.specs.Prelude.{◌⊎◌, ◌==◌, if◌then◌else◌, slice_get}
 use Rattle.std.specs.List.{Contains, filter_map, flat_map, sum_by}
 use Rattle.std.proofs.lemmas.Bool.{eq-eqb}
@@ -38,7 +39,8 @@ use Rattle.qg_tree_refs.proofs.Owings.{many-alike, many-append, many-cons, times
 use Rattle.qg_tree_refs.proofs.Times.{one_of, times-append, times-nil}
 use Rattle.qg_fs_tree.specs.Standing.{name_of, name_told}
 use Rattle.qg_fs_tree.proofs.Keyed.{times-way}
-use Rattle.qg_fs_tree.proofs.Owes.{in-alike, is_own, items-have-not, node-parts, not-both, pointers-have-not, ways-other}
+use Rattle.qg_fs_tree.proofs.Owes.{in-alike, is_own, items-have-not, node-parts, not-both, pointers-have-not}
+use Rattle.qg_fs_tree.proofs.Owes.{ways-other}
 use Rattle.qg_fs_tree.proofs.Owings.{keyed-parts, names_of, pointing}
 use Rattle.qg_fs_tree.proofs.Beside.{roots_owed}
 use Rattle.qg_fs_tree.proofs.Turned.{children_of}

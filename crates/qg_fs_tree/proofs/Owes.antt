@@ -1,5 +1,6 @@
 -- What a node owes that is full or of another owner.
-use Rattle.std.proofs.Common.{◌≡◌, ◌≢◌, ℕ, zero, suc, ◌<◌, ◌≤◌, Bool, true, false, List, [], ◌∷◌, ◌++◌, length, map, get_or, Option, Some, None, arith, refl, sym, ap, ◌∙◌, inl, inr}
+use Rattle.std.proofs.Common.{◌≡◌, ◌≢◌, ℕ, zero, suc, ◌<◌, ◌≤◌, Bool, true, false, List, [], ◌∷◌, ◌++◌, length, map}
+use Rattle.std.proofs.Common.{get_or, Option, Some, None, arith, refl, sym, ap, ◌∙◌, inl, inr}
 use Rattle.std.specs.Prelude.{◌⊎◌, ◌==◌, ◌&&◌, if◌then◌else◌}
 use Rattle.std.specs.List.{Contains, filter_map, flat_map}
 use Rattle.std.proofs.lemmas.Bool.{cases_Bool, cond-true, eq-eqb}
@@ -28,11 +29,13 @@ use Rattle.qg_refs.proofs.Counting.{count-cons, count-nil}
 use Rattle.qg_refs.proofs.RankOrder.{same_itself}
 use Rattle.qg_tree_refs.specs.Exchange.{times}
 use Rattle.qg_tree_refs.proofs.Counted.{many, total, total-cons}
-use Rattle.qg_tree_refs.proofs.Owings.{HaveNot, addresses, children-alike, have-not-more, many-append, many-cons, shared-no_block, shared-no_data}
+use Rattle.qg_tree_refs.proofs.Owings.{HaveNot, addresses, children-alike, have-not-more, many-append, many-cons}
+use Rattle.qg_tree_refs.proofs.Owings.{shared-no_block, shared-no_data}
 use Rattle.qg_tree_refs.proofs.Times.{one_of, times-append, times-nil}
 use Rattle.qg_fs_tree.specs.Standing.{name_of, name_told}
 use Rattle.qg_fs_tree.proofs.Keyed.{keyed_ways}
-use Rattle.qg_fs_tree.proofs.Owings.{names-no_block, names-no_shared_block, names-no_shared_data, names_of, pointing, times-keyed}
+use Rattle.qg_fs_tree.proofs.Owings.{names-no_block, names-no_shared_block, names-no_shared_data, names_of, pointing}
+use Rattle.qg_fs_tree.proofs.Owings.{times-keyed}
 
 -- a node with its mark, where one is told that is full or of another owner
 abbrev pub owed_in : Option Placed → List Owing
@@ -231,7 +234,8 @@ node_has_not : (placed : Placed) (reference : Reference)
     → ((tree ino offset : ℕ) → one_of reference (KeyedData tree ino offset) ≡ 0)
     → HaveNot reference (owed_by_node placed)
 node_has_not placed reference child shared keyed at =
-    let pointers = pointers-have-not (header_of placed.node) placed.full reference child (own_pointers placed.node) at in
+    let pointers = pointers-have-not (header_of placed.node) placed.full reference child
+    (own_pointers placed.node) at in
     let items = items-have-not (header_of placed.node) placed.full reference shared keyed (own_items placed.node) at in
     let both = times-append
     (map (λ (p : Pointer). owed_to_child (header_of placed.node) placed.full p.child) (own_pointers placed.node))
@@ -265,7 +269,8 @@ owed-parent (Some placed) parent at differs =
     let other : (parent == (header_of placed.node).address) ≡ false = unequal_of parent (header_of placed.node).address
     (λ same. differs placed refl (sym same)) in (
       node_has_not placed (SharedBlock parent)
-          (λ child. block_child (header_of placed.node) placed.full parent child other) refl (λ tree ino offset. refl) at,
+          (λ child. block_child (header_of placed.node) placed.full parent child other) refl
+          (λ tree ino offset. refl) at,
       node_has_not placed (SharedData parent)
           (λ child. data_child (header_of placed.node) placed.full parent child)
           (ap (λ (b : Bool). if b then 1 else 0) other) (λ tree ino offset. refl) at,

@@ -17,7 +17,8 @@ use Rattle.qg_descent.proofs.BranchFrames.{reach-same}
 use Rattle.qg_tree_edits.specs.Counting.{one, ways}
 use Rattle.qg_tree_edits.proofs.Ways.{one-here}
 use Rattle.qg_fs_tree.specs.declared.fs_tree.FsTree.{FsTree}
-use Rattle.qg_fs_tree.specs.Standing.{IsElsewhere, KeepsTree, Moves, Stands, every_slot, made_slots, nodes_of, own_slots, taken_slots}
+use Rattle.qg_fs_tree.specs.Standing.{IsElsewhere, KeepsTree, Moves, Stands, every_slot, made_slots, nodes_of}
+use Rattle.qg_fs_tree.specs.Standing.{own_slots, taken_slots}
 use Rattle.qg_fs_tree.proofs.Before.{elsewhere-parts, once, placed, single}
 use Rattle.qg_fs_tree.proofs.Beside.{elsewhere, own_ways, slots_of}
 use Rattle.qg_fs_tree.proofs.Few.{own-ways}

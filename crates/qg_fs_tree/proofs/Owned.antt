@@ -1,5 +1,6 @@
 -- Fresh nodes that the tree at hand reaches are its own, and items that are taken out name no more.
-use Rattle.std.proofs.Common.{◌≡◌, ℕ, ◌≤◌, Bool, true, false, List, [], ◌∷◌, map, Option, Some, None, arith, refl, sym, ◌∙◌, inl, inr}
+use Rattle.std.proofs.Common.{◌≡◌, ℕ, ◌≤◌, Bool, true, false, List, [], ◌∷◌, map, Option, Some, None, arith, refl, sym}
+use Rattle.std.proofs.Common.{◌∙◌, inl, inr}
 use Rattle.std.specs.Prelude.{◌⊎◌, if◌then◌else◌}
 use Rattle.std.specs.List.{cons_option, filter, filter_map}
 use Rattle.qg_device.specs.History.{Event}
@@ -64,16 +65,17 @@ pub names-fewer : (owner : ℕ) (keep : Item → Bool) (items : List Item) (at :
     → names_times owner (filter_map name_told (filter keep items)) at reference
     ≤ names_times owner (filter_map name_told items) at reference
 names-fewer owner keep [] at reference = omega arith
-names-fewer owner keep (item ∷ items) at reference = from (names-fewer owner keep items at reference) (keep item) refl where
-  from : names_times owner (filter_map name_told (filter keep items)) at reference
-      ≤ names_times owner (filter_map name_told items) at reference
-      → (b : Bool) → keep item ≡ b
-      → names_times owner (filter_map name_told (if b then item ∷ filter keep items else filter keep items)) at
-      reference
-      ≤ names_times owner (filter_map name_told (item ∷ items)) at reference
-  from rest true kept =
-      names_both owner (name_told item) (filter_map name_told (filter keep items)) (filter_map name_told items) at
-      reference rest
-  from rest false out =
-      let more = names_told owner (name_told item) (filter_map name_told items) at reference in
-      omega (arith, rest, more)
+names-fewer owner keep (item ∷ items) at reference =
+    from (names-fewer owner keep items at reference) (keep item) refl where
+      from : names_times owner (filter_map name_told (filter keep items)) at reference
+          ≤ names_times owner (filter_map name_told items) at reference
+          → (b : Bool) → keep item ≡ b
+          → names_times owner (filter_map name_told (if b then item ∷ filter keep items else filter keep items)) at
+          reference
+          ≤ names_times owner (filter_map name_told (item ∷ items)) at reference
+      from rest true kept =
+          names_both owner (name_told item) (filter_map name_told (filter keep items)) (filter_map name_told items) at
+          reference rest
+      from rest false out =
+          let more = names_told owner (name_told item) (filter_map name_told items) at reference in
+          omega (arith, rest, more)

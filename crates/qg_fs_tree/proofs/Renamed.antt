@@ -1,6 +1,7 @@
 -- A tree that stands, once one address of its book and the runs that are taken have changed: it stands with other
 -- names.
-use Rattle.std.proofs.Common.{◌≡◌, ◌≢◌, ℕ, ◌+◌, ◌<◌, ◌≤◌, Bool, true, false, List, [], ◌∷◌, ◌++◌, length, get_or, map, Option, Some, None, arith, refl, sym, ap, subst, ◌∙◌, inl, inr}
+use Rattle.std.proofs.Common.{◌≡◌, ◌≢◌, ℕ, ◌+◌, ◌<◌, ◌≤◌, Bool, true, false, List, [], ◌∷◌, ◌++◌, length, get_or, map}
+use Rattle.std.proofs.Common.{Option, Some, None, arith, refl, sym, ap, subst, ◌∙◌, inl, inr}
 use Rattle.std.specs.Prelude.{◌⊎◌, ◌↔◌, ◌||◌, IsSome, IsTrue, Contains, if◌then◌else◌, nat_lt}
 use Rattle.std.specs.List.{All, filter_map, flat_map, list_any}
 use Rattle.std.specs.List.Sorted.{IsStrictlyIncreasing}
@@ -36,7 +37,8 @@ use Rattle.qg_tree_refs.specs.declared.tree_refs.TreeRefs.{TreeRefs}
 use Rattle.qg_tree_refs.specs.Following.{references_to}
 use Rattle.qg_tree_refs.specs.Settled.{IsSettled}
 use Rattle.qg_fs_tree.specs.declared.fs_tree.FsTree.{FsTree}
-use Rattle.qg_fs_tree.specs.Standing.{IsBeside, IsKnownExtent, IsReachedBy, Stands, every_slot, items_in, layout_in, name_told, names_elsewhere, names_times, nodes_of, trees_of, ways_in}
+use Rattle.qg_fs_tree.specs.Standing.{IsBeside, IsKnownExtent, IsReachedBy, Stands, every_slot, items_in, layout_in}
+use Rattle.qg_fs_tree.specs.Standing.{name_told, names_elsewhere, names_times, nodes_of, trees_of, ways_in}
 use Rattle.qg_fs_tree.proofs.Before.{elsewhere-parts, later_tree, numbers, placed, single}
 use Rattle.qg_fs_tree.proofs.Beside.{elsewhere, mark_of, own_ways, roots_owed, slots_of}
 use Rattle.qg_fs_tree.proofs.Layouts.{owed-is, owed_marked, owed_there}
@@ -189,7 +191,8 @@ module _ (old new : FsTree) (history : Option (List Event)) (items : List Item) 
         | inr (unequal, differ) ↦
             subst (λ (l : Ground). IsSome (fresh_at l.blocks.draft q)) (sym land)
             (stands.settled.newer q level (ap what_in (sym (unlike q differ)) ∙ known
-            ∙ ap (λ (b : TreeRefs). Some (record { bytes = b.nodesize; level = Some level; generation = b.next })) refs))
+            ∙ ap (λ (b : TreeRefs). Some (record { bytes = b.nodesize; level = Some level; generation = b.next }))
+            refs))
       ]
 
       clean_new : (q : ℕ) (node : Node) → fresh_at new.land.blocks.draft q ≡ None → told new.land.blocks.draft history q

@@ -1,5 +1,6 @@
 -- Nodes that are told have a text: what stands on a disk was read, and fresh nodes are such as a commit may write.
-use Rattle.std.proofs.Common.{◌≡◌, ℕ, Bool, true, false, List, length, drop, Option, Some, None, arith, refl, sym, subst, length-drop}
+use Rattle.std.proofs.Common.{◌≡◌, ℕ, Bool, true, false, List, length, drop, Option, Some, None, arith, refl, sym}
+use Rattle.std.proofs.Common.{subst, length-drop}
 use Rattle.std.specs.Prelude.{Result, Ok, Err, if◌then◌else◌}
 use Rattle.std.specs.Result.{result_ok}
 use Rattle.std.proofs.lemmas.List.{length-take}

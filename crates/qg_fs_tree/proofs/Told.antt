@@ -1,5 +1,6 @@
 -- What an edit of a tree tells its book is true to what is fixed: what both reach the last commit holds.
-use Rattle.std.proofs.Common.{◌≡◌, ℕ, suc, ◌<◌, Bool, true, false, List, [], ◌∷◌, ◌++◌, Option, Some, None, arith, refl, sym, ap, ◌∙◌, inl, inr}
+use Rattle.std.proofs.Common.{◌≡◌, ℕ, suc, ◌<◌, Bool, true, false, List, [], ◌∷◌, ◌++◌, Option, Some, None, arith, refl}
+use Rattle.std.proofs.Common.{sym, ap, ◌∙◌, inl, inr}
 use Rattle.std.specs.Prelude.{◌⊎◌, ◌==◌, not, IsTrue, if◌then◌else◌, is_some}
 use Rattle.std.specs.List.{All, Contains, list_any, sum_by}
 use Rattle.std.proofs.lemmas.Bool.{and_parts, eq-eqb}

@@ -1,5 +1,6 @@
 -- A book that stands for a count of ways, for names, and for what other trees owe, and what tellings make of it.
-use Rattle.std.proofs.Common.{◌≡◌, ◌≢◌, ℕ, ◌+◌, ◌-◌, ◌*◌, ◌<◌, ◌≤◌, Bool, true, false, List, [], ◌∷◌, ◌++◌, length, map, Option, Some, None, arith, refl, sym, ap, subst, ◌∙◌, inl, inr}
+use Rattle.std.proofs.Common.{◌≡◌, ◌≢◌, ℕ, ◌+◌, ◌-◌, ◌*◌, ◌<◌, ◌≤◌, Bool, true, false, List, [], ◌∷◌, ◌++◌, length, map}
+use Rattle.std.proofs.Common.{Option, Some, None, arith, refl, sym, ap, subst, ◌∙◌, inl, inr}
 use Rattle.std.specs.Prelude.{◌⊎◌, ⊤, ◌||◌, ◌&&◌, not, ◌==◌, if◌then◌else◌, nat_lt}
 use Rattle.std.specs.List.{Contains}
 use Rattle.std.specs.Option.{option_or}
@@ -31,13 +32,16 @@ use Rattle.qg_tree_edits.specs.Counting.{IsBare, IsTimely, LeadsNone, gains, los
 use Rattle.qg_tree_edits.proofs.Ways.{one-here, one-other}
 use Rattle.qg_tree_refs.specs.declared.tree_refs.TreeRefs.{TreeRefs}
 use Rattle.qg_tree_refs.specs.Exchange.{Exchange, times, what_comes, ways_to}
-use Rattle.qg_tree_refs.specs.Following.{coming_of, copying_in, exchange_of, full_by_copy, full_by_leaving, leaving_in, placed_by, references_to}
+use Rattle.qg_tree_refs.specs.Following.{coming_of, copying_in, exchange_of, full_by_copy, full_by_leaving, leaving_in}
+use Rattle.qg_tree_refs.specs.Following.{placed_by, references_to}
 use Rattle.qg_tree_refs.proofs.Times.{times-nil}
-use Rattle.qg_tree_refs.proofs.Counted.{IsCounted, IsCounted-list, IsCounted-over, IsCounted-plus, IsCounted-same, IsCounted-sum, IsCounted-times, many, total}
+use Rattle.qg_tree_refs.proofs.Counted.{IsCounted, IsCounted-list, IsCounted-over, IsCounted-plus, IsCounted-same}
+use Rattle.qg_tree_refs.proofs.Counted.{IsCounted-sum, IsCounted-times, many, total}
 use Rattle.qg_tree_refs.proofs.Owings.{many-alike}
 use Rattle.qg_fs_tree.proofs.Keyed.{IsCounted-keyed, keyed-most, keyed-none, keyed_ways, times-way}
 use Rattle.qg_fs_tree.proofs.Owings.{names-no_block, names_of}
-use Rattle.qg_fs_tree.proofs.Owes.{IsForeign, in-alike, is_own, keyed-other, keyed_in, mark_in, names-other, owed-own, owed_in, ways-other}
+use Rattle.qg_fs_tree.proofs.Owes.{IsForeign, in-alike, is_own, keyed-other, keyed_in, mark_in, names-other, owed-own}
+use Rattle.qg_fs_tree.proofs.Owes.{owed_in, ways-other}
 use Rattle.qg_fs_tree.proofs.SlotSums.{IsOnce, over, over-none, over-same}
 
 -- ---- one telling, by ways
@@ -122,10 +126,10 @@ foreign-within (Left old) foreign q placed is = is
 
 -- ---- what is fixed while an edit runs
 
--- The tree at hand has an owner, names, and ways that lead to slots at first. Foreign is a node at a slot that this tree
--- reaches at first, that is not fresh, and that is full or of another owner. Beside it is one that another tree reaches,
--- as it will be once the tree at hand reaches it no more: full where it was or where the owner at hand made it. Others
--- owe their roots. Clean is what the last commit holds
+-- The tree at hand has an owner, names, and ways that lead to slots at first. Foreign is a node at a slot that this
+-- tree reaches at first, that is not fresh, and that is full or of another owner. Beside it is one that another tree
+-- reaches, as it will be once the tree at hand reaches it no more: full where it was or where the owner at hand made
+-- it. Others owe their roots. Clean is what the last commit holds
 pub record Around : Type 0 where
   pub owner : ℕ
   pub names : List (ℕ × Piece)

@@ -1,6 +1,7 @@
 -- The trees of subvolumes, one of them at hand, and the references that they owe (on-disk format, "B-tree" and
 -- "backreferences"; how they stand together is this project's own). Addresses are in bytes.
-use Rattle.std.specs.Prelude.{◌≡◌, ◌≢◌, ◌⊎◌, ◌↔◌, ⊤, ℕ, ◌+◌, ◌*◌, ◌≤◌, Bool, false, ◌==◌, ◌&&◌, ◌||◌, not, List, [], ◌∷◌, ◌++◌, map, Option, Some, None, IsTrue, Contains, nat_lt, if◌then◌else◌}
+use Rattle.std.specs.Prelude.{◌≡◌, ◌≢◌, ◌⊎◌, ◌↔◌, ⊤, ℕ, ◌+◌, ◌*◌, ◌≤◌, Bool, false, ◌==◌, ◌&&◌, ◌||◌, not, List, []}
+use Rattle.std.specs.Prelude.{◌∷◌, ◌++◌, map, Option, Some, None, IsTrue, Contains, nat_lt, if◌then◌else◌}
 use Rattle.std.specs.List.{All, count_by, filter_map, flat_map, list_any, range_with_len}
 use Rattle.std.specs.List.Sorted.{IsPermutation, IsStrictlyIncreasing}
 use Rattle.std.specs.Option.{option_map}
@@ -168,10 +169,10 @@ pub record IsAtHome (fs : FsTree) (history : Option (List Event)) (q owner : ℕ
   pub reached : IsReachedBy fs history tree q
 
 -- The tree at hand has these items, and the others stand beside it, ascending by number. Each node that is not full is
--- reached by its owner; a fresh one is not full, and its owner alone reaches it. What is kept is what the trees owe, but
--- that these pieces stand for those of the items: in the midst of a command some are named that no item tells. None is
--- named more often than a reference is counted. Each node lies in a slot, and the runs that are taken are the extents of
--- these pieces and of those that the other trees tell
+-- reached by its owner; a fresh one is not full, and its owner alone reaches it. What is kept is what the trees owe,
+-- but that these pieces stand for those of the items: in the midst of a command some are named that no item tells. None
+-- is named more often than a reference is counted. Each node lies in a slot, and the runs that are taken are the
+-- extents of these pieces and of those that the other trees tell
 pub record Stands (fs : FsTree) (history : Option (List Event)) (items : List Item) (names : List (ℕ × Piece)) : Type 0
   where
     pub book : IsBookOf fs
@@ -204,10 +205,10 @@ is_full_then old new history q node =
     full_in (book_of old.refs.refs q)
     || (((header_of node).owner == old.tree.owner) && not (nat_lt 0 (ways_in new history new.tree q)))
 
--- What an edit makes of the tree at hand and of the nodes: what it reaches it reached before, or lies in a slot that was
--- free; only these are told otherwise, and only slots that were free or reached are free. What the other trees reach is
--- told as it was, and these trees are the same. A node that some tree reaches, and that the last commit holds, gets the
--- mark where the subvolume at hand is its owner and reaches it no more
+-- What an edit makes of the tree at hand and of the nodes: what it reaches it reached before, or lies in a slot that
+-- was free; only these are told otherwise, and only slots that were free or reached are free. What the other trees
+-- reach is told as it was, and these trees are the same. A node that some tree reaches, and that the last commit holds,
+-- gets the mark where the subvolume at hand is its owner and reaches it no more
 pub record Moves (old new : FsTree) (history : Option (List Event)) : Type 0 where
   pub trees : new.others ≡ old.others
   pub reach : (q : ℕ) → IsReached new history q → IsReached old history q ⊎ IsTrue (is_free_slot old.land.space q)

@@ -22,10 +22,11 @@ use std::alloc::Global;
 use std::sync::ledger::Ledger;
 
 impl FsTree {
-    /// Puts an item in its place. Its key must not be there, its body has at most 1024 bytes, and a piece that it tells is named.
+    /// Puts an item in its place. Its key must not be there, its body has at most 1024 bytes, and a piece that it tells
+    /// is named.
     ///
-    /// It takes at most 2·height + 3 slots. Over a disk that tells, no `Image` comes where the subvolume stands, the key is not there and
-    /// 3·(height + 2) slots are free. After an `Err` nothing of it is of use.
+    /// It takes at most 2·height + 3 slots. Over a disk that tells, no `Image` comes where the subvolume stands, the
+    /// key is not there and 3·(height + 2) slots are free. After an `Err` nothing of it is of use.
     pub fn insert<D: Disk, L: Ledger>(
         &mut self,
         alloc: Global,
@@ -36,17 +37,21 @@ impl FsTree {
     ) -> Result<(), BlockFault>
         requires subvolume { IsSubvolume self.old (D.history disk.old) (D.size disk.old) }
         requires short { length body ≤ 1024 }
-        ensures inserted { (items : List ItemValue) (names : List (ℕ × PieceValue)) → Stands self.old (D.history disk.old) items names
+        ensures inserted { (items : List ItemValue) (names : List (ℕ × PieceValue))
+            → Stands self.old (D.history disk.old) items names
             → IsTrue (not (has_key key items))
             → AreNamed self.old.tree.owner (with_item (record { key = key; body = body }) items) names
-            → OnOk result (IsEditedTo self.old self.new (D.history disk.old) (with_item (record { key = key; body = body }) items) names (self.old.tree.height + 2)) }
-        ensures sound { (events : List Event) → D.history disk.old ≡ Some events → (items : List ItemValue) (names : List (ℕ × PieceValue))
+            → OnOk result (IsEditedTo self.old self.new (D.history disk.old)
+            (with_item (record { key = key; body = body }) items) names (self.old.tree.height + 2)) }
+        ensures sound { (events : List Event) → D.history disk.old ≡ Some events
+            → (items : List ItemValue) (names : List (ℕ × PieceValue))
             → Stands self.old (D.history disk.old) items names → IsTrue (not (has_key key items))
             → 3 * (self.old.tree.height + 2) ≤ free_slots self.old.land.space → BreaksNone result }
         ensures grows { OnOk result (Grows 1 self.old.tree self.new.tree self.old.land self.new.land) }
         ensures others { self.new.others ≡ self.old.others }
         ensures subvolume { IsSubvolume self.new (D.history disk.new) (D.size disk.new) }
-        ensures rests { LeavesBe self.old.land self.new.land (D.history disk.old) (D.history disk.new) (D.size disk.old) (D.size disk.new)
+        ensures rests { LeavesBe self.old.land self.new.land (D.history disk.old) (D.history disk.new) (D.size disk.old)
+            (D.size disk.new)
             self.old.tree.next }
         ensures cause { HasCause BlockFault.Disk (D.faults disk.old) (D.faults disk.new) result }
         ensures reads { reads.new ≤ reads.old + 9 * (self.old.tree.height + 2) }
@@ -67,7 +72,8 @@ impl FsTree {
         self.fitting()
     }
 
-    /// Gives the item with a key another body, of at most 1024 bytes. The key must be there, and a piece that the body tells is named. Else as [`FsTree::insert`].
+    /// Gives the item with a key another body, of at most 1024 bytes. The key must be there, and a piece that the body
+    /// tells is named. Else as [`FsTree::insert`].
     pub fn replace<D: Disk, L: Ledger>(
         &mut self,
         alloc: Global,
@@ -78,17 +84,21 @@ impl FsTree {
     ) -> Result<(), BlockFault>
         requires subvolume { IsSubvolume self.old (D.history disk.old) (D.size disk.old) }
         requires short { length body ≤ 1024 }
-        ensures replaced { (items : List ItemValue) (names : List (ℕ × PieceValue)) → Stands self.old (D.history disk.old) items names
+        ensures replaced { (items : List ItemValue) (names : List (ℕ × PieceValue))
+            → Stands self.old (D.history disk.old) items names
             → IsTrue (has_key key items)
             → AreNamed self.old.tree.owner (with_item (record { key = key; body = body }) items) names
-            → OnOk result (IsEditedTo self.old self.new (D.history disk.old) (with_item (record { key = key; body = body }) items) names (self.old.tree.height + 2)) }
-        ensures sound { (events : List Event) → D.history disk.old ≡ Some events → (items : List ItemValue) (names : List (ℕ × PieceValue))
+            → OnOk result (IsEditedTo self.old self.new (D.history disk.old)
+            (with_item (record { key = key; body = body }) items) names (self.old.tree.height + 2)) }
+        ensures sound { (events : List Event) → D.history disk.old ≡ Some events
+            → (items : List ItemValue) (names : List (ℕ × PieceValue))
             → Stands self.old (D.history disk.old) items names → IsTrue (has_key key items)
             → 3 * (self.old.tree.height + 2) ≤ free_slots self.old.land.space → BreaksNone result }
         ensures grows { OnOk result (Grows 1 self.old.tree self.new.tree self.old.land self.new.land) }
         ensures others { self.new.others ≡ self.old.others }
         ensures subvolume { IsSubvolume self.new (D.history disk.new) (D.size disk.new) }
-        ensures rests { LeavesBe self.old.land self.new.land (D.history disk.old) (D.history disk.new) (D.size disk.old) (D.size disk.new)
+        ensures rests { LeavesBe self.old.land self.new.land (D.history disk.old) (D.history disk.new) (D.size disk.old)
+            (D.size disk.new)
             self.old.tree.next }
         ensures cause { HasCause BlockFault.Disk (D.faults disk.old) (D.faults disk.new) result }
         ensures reads { reads.new ≤ reads.old + 9 * (self.old.tree.height + 2) }
@@ -118,16 +128,20 @@ impl FsTree {
         reads: &mut Steps<L>,
     ) -> Result<(), BlockFault>
         requires subvolume { IsSubvolume self.old (D.history disk.old) (D.size disk.old) }
-        ensures removed { (items : List ItemValue) (names : List (ℕ × PieceValue)) → Stands self.old (D.history disk.old) items names
+        ensures removed { (items : List ItemValue) (names : List (ℕ × PieceValue))
+            → Stands self.old (D.history disk.old) items names
             → IsTrue (has_key key items)
-            → OnOk result (IsEditedTo self.old self.new (D.history disk.old) (without_key key items) names (self.old.tree.height + 2)) }
-        ensures sound { (events : List Event) → D.history disk.old ≡ Some events → (items : List ItemValue) (names : List (ℕ × PieceValue))
+            → OnOk result (IsEditedTo self.old self.new (D.history disk.old) (without_key key items) names
+            (self.old.tree.height + 2)) }
+        ensures sound { (events : List Event) → D.history disk.old ≡ Some events
+            → (items : List ItemValue) (names : List (ℕ × PieceValue))
             → Stands self.old (D.history disk.old) items names → IsTrue (has_key key items)
             → 3 * (self.old.tree.height + 2) ≤ free_slots self.old.land.space → BreaksNone result }
         ensures grows { OnOk result (Grows 0 self.old.tree self.new.tree self.old.land self.new.land) }
         ensures others { self.new.others ≡ self.old.others }
         ensures subvolume { IsSubvolume self.new (D.history disk.new) (D.size disk.new) }
-        ensures rests { LeavesBe self.old.land self.new.land (D.history disk.old) (D.history disk.new) (D.size disk.old) (D.size disk.new)
+        ensures rests { LeavesBe self.old.land self.new.land (D.history disk.old) (D.history disk.new) (D.size disk.old)
+            (D.size disk.new)
             self.old.tree.next }
         ensures cause { HasCause BlockFault.Disk (D.faults disk.old) (D.faults disk.new) result }
         ensures reads { reads.new ≤ reads.old + 9 * (self.old.tree.height + 2) }

@@ -9,8 +9,8 @@ use qg_ground::Ground;
 use qg_num::{BlockFault, Rule};
 use qg_tree_refs::TreeRefs;
 
-/// The trees of an image's subvolumes, one of them at hand, with all that edits of it change (on-disk format, "B-tree" and
-/// "backreferences"): the nodes and the space that all lie in, and the references that they owe.
+/// The trees of an image's subvolumes, one of them at hand, with all that edits of it change (on-disk format, "B-tree"
+/// and "backreferences"): the nodes and the space that all lie in, and the references that they owe.
 #[derive(Drop)]
 pub struct FsTree {
     pub tree: Tree,
@@ -38,7 +38,8 @@ impl FsTree {
     pub(crate) fn roomy(&self) -> Result<(), BlockFault>
         ensures room { OnOk result (3 * (self.now.tree.height + 2) ≤ free_slots self.now.land.space) }
         ensures enough { 3 * (self.now.tree.height + 2) ≤ free_slots self.now.land.space → IsOk result }
-        ensures few { free_slots self.now.land.space < 3 * (self.now.tree.height + 2) → result ≡ Err (Image Shape self.now.tree.address) }
+        ensures few { free_slots self.now.land.space < 3 * (self.now.tree.height + 2)
+            → result ≡ Err (Image Shape self.now.tree.address) }
     {
         if 3 * (self.tree.height() as u64 + 2) > self.land.space.free_slots() {
             return Err(BlockFault::Image {

@@ -1,11 +1,13 @@
 // Another subvolume's tree comes to hand.
-ghost use Rattle.std.specs.Prelude.{◌≡◌, ◌≢◌, ◌<◌, ℕ, List, Option, IfNone, IfSome, IsTrue, false, length, slice_index_or, slice_set};
+ghost use Rattle.std.specs.Prelude.{◌≡◌, ◌≢◌, ◌<◌, ℕ, List, Option, IfNone, IfSome, IsTrue, false, length};
+ghost use Rattle.std.specs.Prelude.{slice_index_or, slice_set};
 ghost use Rattle.std.specs.List.{All, Contains, HoldsAt, filter_map};
 ghost use Rattle.std.specs.List.Sorted.{IsNonDecreasingBy, IsPermutation};
 ghost use Rattle.qg_device.specs.History.{Event};
 ghost use Rattle.qg_node.specs.declared.item.Item.{Item as ItemValue};
 ghost use Rattle.qg_descent.specs.Tree.{Root};
-ghost use Rattle.qg_fs_tree.specs.Standing.{AreNumbered, CanTurn, IsSubvolume, IsTurned, Stands, items_in, layout_in, name_told, trees_of};
+ghost use Rattle.qg_fs_tree.specs.Standing.{AreNumbered, CanTurn, IsSubvolume, IsTurned, Stands, items_in, layout_in};
+ghost use Rattle.qg_fs_tree.specs.Standing.{name_told, trees_of};
 
 use crate::FsTree;
 use qg_descent::Tree;
@@ -47,8 +49,8 @@ impl FsTree {
     /// The tree of the subvolume `number` comes to hand, the one that was at hand goes among the others, and the book
     /// stands for the new one. The answer is whether there is such a tree; where there is none, nothing changes.
     ///
-    /// The trees are the same layout then. Where they stand, and each piece that an item of the tree at hand tells is named once, they
-    /// stand then, and the items are those of the tree that came to hand.
+    /// The trees are the same layout then. Where they stand, and each piece that an item of the tree at hand tells is
+    /// named once, they stand then, and the items are those of the tree that came to hand.
     pub fn turn_to(&mut self, number: RootId) -> bool
         ensures found { (tree : Root) → Contains (trees_of self.old) tree → tree.owner ≡ number → IsTrue result }
         ensures turned { IsTrue result → IsTurned self.old self.new number }
@@ -56,11 +58,13 @@ impl FsTree {
         ensures numbers { AreNumbered self.old → AreNumbered self.new }
         ensures layout { (history : Option (List Event)) → AreNumbered self.old → IsTrue result
             → layout_in self.new history ≡ layout_in self.old history }
-        ensures stands { (history : Option (List Event)) (bytes : ℕ) (items : List ItemValue) → IsSubvolume self.old history bytes
+        ensures stands { (history : Option (List Event)) (bytes : ℕ) (items : List ItemValue)
+            → IsSubvolume self.old history bytes
             → Stands self.old history items (filter_map name_told items) → IsTrue result
             → Stands self.new history (items_in self.new history self.new.tree)
             (filter_map name_told (items_in self.new history self.new.tree)) }
-        ensures subvolume { (history : Option (List Event)) (bytes : ℕ) → IsSubvolume self.old history bytes → CanTurn self.old → IsTrue result
+        ensures subvolume { (history : Option (List Event)) (bytes : ℕ) → IsSubvolume self.old history bytes
+            → CanTurn self.old → IsTrue result
             → IsSubvolume self.new history bytes × CanTurn self.new }
     {
         if self.tree.owner() == number {

@@ -567,7 +567,8 @@ record AreSome (there : Option (List Node)) : Type 0 where
 module _ (tree : Tree) (super : Super) (image : List ℕ) where
   some_joined : (walk : Expected → ℕ → Option Failure) (under : Pointer → Option (List Node)) (level : ℕ)
       (to : Option Key)
-      → ((pointer : Pointer) (others : List Pointer) → walk (expected_below level to pointer others) pointer.child ≡ None
+      → ((pointer : Pointer) (others : List Pointer) → walk (expected_below level to pointer others) pointer.child
+      ≡ None
       → AreSome (under pointer))
       → (pointers : List Pointer) → pointers_failure walk level to pointers ≡ None → AreSome (joined under pointers)
   some_joined walk under level to each [] none = record { nodes = []; are = refl }

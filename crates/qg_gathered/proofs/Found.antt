@@ -116,8 +116,8 @@ read_at address bytes =
 
 -- ---- what is found
 
--- the address is that of a slot; the node names it, is on a level that there is, and its keys ascend; it is a leaf exactly
--- on the lowest one
+-- the address is that of a slot; the node names it, is on a level that there is, and its keys ascend; it is a leaf
+-- exactly on the lowest one
 pub record IsFoundAt (super : Super) (address : ℕ) (node : Node) : Type 0 where
   pub slot : is_slot (sizes_of super) address ≡ true
   pub lies : address_of node ≡ address

@@ -1,5 +1,6 @@
 -- The data extents that nodes name.
-use Rattle.std.proofs.Common.{◌≡◌, ℕ, ◌+◌, ◌<◌, Bool, true, false, List, [], ◌∷◌, ◌++◌, map, length, get_or, take, Option}
+use Rattle.std.proofs.Common.{◌≡◌, ℕ, ◌+◌, ◌<◌, Bool, true, false, List, [], ◌∷◌, ◌++◌, map, length, get_or, take}
+use Rattle.std.proofs.Common.{Option}
 use Rattle.std.proofs.Common.{Some, None, refl, sym, ap, ◌∙◌, arith}
 use Rattle.std.specs.Prelude.{◌==◌}
 use Rattle.std.specs.List.{filter_map, flat_map}
@@ -58,14 +59,16 @@ unfolding file_part
 piece_tells item is =
     ap (λ b. option_and_then piece_of_part
     (when b (option_map (Inode item.key.objectid) (inode_read item.body))
-    orelse when (item.key.kind == EXTENT_DATA) (option_map (PieceOf item.key.objectid) (own_piece item)))) (apart item is)
+    orelse when (item.key.kind == EXTENT_DATA) (option_map (PieceOf item.key.objectid) (own_piece item))))
+    (apart item is)
     ∙ ap (λ b. option_and_then piece_of_part (when b (option_map (PieceOf item.key.objectid) (own_piece item)))) is
     ∙ piece_itself item.key.objectid (own_piece item)
 
 -- ---- one item more
 
 given_more : (items : List Item) (i : ℕ) (item : Item) → i < length items → item ≡ get_or items i item
-    → filter_map item_piece (take (i + 1) items) ≡ filter_map item_piece (take i items) ++ filter_map item_piece (item ∷ [])
+    → filter_map item_piece (take (i + 1) items) ≡ filter_map item_piece (take i items)
+    ++ filter_map item_piece (item ∷ [])
 given_more items i item inside is =
     ap (filter_map item_piece) (take_more items i item inside ∙ ap (λ (x : Item). take i items ++ x ∷ []) (sym is))
     ∙ filter_map-append item_piece (take i items) (item ∷ [])

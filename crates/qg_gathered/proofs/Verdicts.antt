@@ -1,5 +1,6 @@
 -- The layout of an image, by what was gathered of its nodes.
-use Rattle.std.proofs.Common.{◌≡◌, ℕ, zero, suc, ◌+◌, ◌<◌, false, List, [], ◌∷◌, ◌++◌, map, length, get_or, None, refl, sym, ap}
+use Rattle.std.proofs.Common.{◌≡◌, ℕ, zero, suc, ◌+◌, ◌<◌, false, List, [], ◌∷◌, ◌++◌, map, length, get_or, None, refl}
+use Rattle.std.proofs.Common.{sym, ap}
 use Rattle.std.proofs.Common.{subst, ◌∙◌, arith}
 use Rattle.std.specs.List.{AllAdjacentBelow, Contains, flat_map}
 use Rattle.std.specs.List.Sorted.{IsNonDecreasingBy, IsPermutation, IsStrictlyIncreasing}
@@ -81,7 +82,8 @@ named_in : (parts : List ExtentPart) (nodes : List Node) → flat_map (λ entry.
 named_in parts [] = refl
 named_in parts (node ∷ nodes) = ap (λ rest. named_by node ++ rest) (named_in parts nodes)
 
-pub extents_of_layout : (layout : Layout) → layout_extents layout ≡ flat_map (λ entry. named_by entry.1.node) layout.nodes
+pub extents_of_layout : (layout : Layout)
+    → layout_extents layout ≡ flat_map (λ entry. named_by entry.1.node) layout.nodes
 unfolding layout_extents
 extents_of_layout layout = refl
 
@@ -311,7 +313,8 @@ module _ (super : Super) (image : List ℕ) (roots : List (ℕ × RootItem)) (re
       surveyed_are : map (surveyed_where full) (map told_by sorted) ≡ map (λ entry. surveyed_of entry.0 entry.1)
           (layout_of (state_in super image)).nodes
       surveyed_are =
-          ap (map (surveyed_where full)) told_is ∙ all_surveyed full (extent_parts super image) marks_are by_address.sorted
+          ap (map (surveyed_where full)) told_is
+          ∙ all_surveyed full (extent_parts super image) marks_are by_address.sorted
           ∙ ap (map (λ (entry : ℕ × Placed). surveyed_of entry.0 entry.1)) (sym listed)
 
       -- ---- the rule `home`
@@ -425,5 +428,6 @@ module _ (super : Super) (image : List ℕ) (roots : List (ℕ × RootItem)) (re
           root_owing roots) same in
           let linked = links_tell links (are_links ∙ links_surveyed those surveyed) in (
             lists_tell owings things before owed list there,
-            subst (λ (roots : List (ℕ × ℕ)). AreLinksOf (layout_of (state_in super image)) roots links) (sym same) linked,
+            subst (λ (roots : List (ℕ × ℕ)). AreLinksOf (layout_of (state_in super image)) roots links)
+                (sym same) linked,
           )

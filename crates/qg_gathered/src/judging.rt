@@ -37,10 +37,10 @@ pub enum Judged {
 /// extent tree doesn't record what is owed, and else the rule `home` at the least address of a node that its owner
 /// doesn't reach (this project's own). Addresses are in bytes.
 ///
-/// `roots` are the addresses of the subvolumes' roots, ascending by the subvolumes' numbers; of each node of their trees
-/// `nodes` gathered once what it is, in whatever order and however many subvolumes reach it. `extents` are those that
-/// the pieces of these nodes name, in whatever order, and `parts` is what the extent tree's items say, ascending by
-/// address. Where two nodes lie at one address, as only a disk that lies has it, the rule `refs` is answered there.
+/// `roots` are the addresses of the subvolumes' roots, ascending by the subvolumes' numbers; of each node of their
+/// trees `nodes` gathered once what it is, in whatever order and however many subvolumes reach it. `extents` are those
+/// that the pieces of these nodes name, in whatever order, and `parts` is what the extent tree's items say, ascending
+/// by address. Where two nodes lie at one address, as only a disk that lies has it, the rule `refs` is answered there.
 pub fn judge_references(
     alloc: Global,
     nodes: NodesRead,

@@ -74,7 +74,8 @@ impl NodesRead {
 
     // The extents that they name, as often as they are named.
     fn named(&self, alloc: Global) -> Result<Vec<Element>, NoMemory>
-        ensures { IfOk result (λ named. named.items ≡ flat_map (λ told. told.extents) (map told_by self.now.nodes.items)) }
+        ensures { IfOk result (λ named. named.items ≡ flat_map (λ told. told.extents)
+            (map told_by self.now.nodes.items)) }
     {
         let mut named = Vec::new(alloc);
         for node in self.nodes.as_slice() {

@@ -7,12 +7,18 @@ use Rattle.qg_generator.proofs.Short.{assign-short, create-short}
 
 pub create-line : (group : ℕ) → group < 2 ^ 64 → IsLineOf (command_text (GroupCreate group)) (GroupCreate group)
 unfolding is_in_grammar
-create-line group below = record { text = refl; in_grammar = lt-ltb group (2 ^ 64) below; short = create-short group below }
+create-line group below = record {
+  text = refl;
+  in_grammar = lt-ltb group (2 ^ 64) below;
+  short = create-short group below;
+}
 
-pub assign-line : (member parent : ℕ) → member < 2 ^ 64 → parent < 2 ^ 64 → IsLineOf (command_text (Assign member parent)) (Assign member parent)
+pub assign-line : (member parent : ℕ) → member < 2 ^ 64 → parent < 2 ^ 64
+    → IsLineOf (command_text (Assign member parent)) (Assign member parent)
 unfolding is_in_grammar
 assign-line member parent below below' = record {
   text = refl;
-  in_grammar = and_from (is_word member) (is_word parent) (lt-ltb member (2 ^ 64) below) (lt-ltb parent (2 ^ 64) below');
+  in_grammar = and_from (is_word member) (is_word parent) (lt-ltb member (2 ^ 64) below)
+      (lt-ltb parent (2 ^ 64) below');
   short = assign-short member parent below below';
 }

@@ -1,13 +1,18 @@
 -- Each line of a generator is one that the grammar has: the numbers that are drawn are in range, and so it is short.
-use Rattle.std.proofs.Common.{◌≡◌, ℕ, ◌+◌, ◌*◌, ◌^◌, ◌/◌, ◌<◌, ◌≤◌, Bool, true, false, ◌&&◌, length, refl, sym, ap, ◌∙◌, subst, arith, lit<}
+use Rattle.std.proofs.Common.{◌≡◌, ℕ, ◌+◌, ◌*◌, ◌^◌, ◌/◌, ◌<◌, ◌≤◌, Bool, true, false, ◌&&◌, length, refl, sym, ap, ◌∙◌}
+use Rattle.std.proofs.Common.{subst, arith, lit<}
 use Rattle.std.specs.Prelude.{nat_lt, nat_le, ◌==◌, if◌then◌else◌}
 use Rattle.std.proofs.Math.Nat.{mod-lt, lt_trans}
 use Rattle.std.proofs.lemmas.Bool.{and_from, lt-ltb, le-leb}
 use Rattle.qg_num.specs.declared.command.Command.{Command}
 use Rattle.qg_num.specs.declared.command.Command.TheVariants.{Commit}
 use Rattle.qg_grammar.specs.ScriptText.{IsLineOf, command_text, is_in_grammar, is_sub_word, is_ino_word, is_word}
-use Rattle.qg_generator.proofs.Short.{write-short, clone-short, truncate-short, unlink-short, snap-short, delete-short, assign-short, limit-short, commit-short}
-use Rattle.qg_generator.specs.GeneratedScript.{Drawn, drawn_on, draw, after, group, sub_drawn, ino_drawn, position_drawn, length_drawn, write_drawn, clone_drawn, truncate_drawn, unlink_drawn, snap_drawn, delete_drawn, assign_drawn, limit_drawn, line_of_kind, line_drawn}
+use Rattle.qg_generator.proofs.Short.{write-short, clone-short, truncate-short, unlink-short, snap-short, delete-short}
+use Rattle.qg_generator.proofs.Short.{assign-short, limit-short, commit-short}
+use Rattle.qg_generator.specs.GeneratedScript.{Drawn, drawn_on, draw, after, group, sub_drawn, ino_drawn}
+use Rattle.qg_generator.specs.GeneratedScript.{position_drawn, length_drawn, write_drawn, clone_drawn, truncate_drawn}
+use Rattle.qg_generator.specs.GeneratedScript.{unlink_drawn, snap_drawn, delete_drawn, assign_drawn, limit_drawn}
+use Rattle.qg_generator.specs.GeneratedScript.{line_of_kind, line_drawn}
 
 -- ---- words
 
@@ -91,7 +96,8 @@ write-fits state =
     let long = length-word (after 3 state) in
     record {
       in_grammar = and_from _ _ (and_from _ _ file position) long;
-      short = write-short _ _ _ _ (sub-small state) (ino-small (after 1 state)) (position-small (after 2 state)) (length-small (after 3 state));
+      short = write-short _ _ _ _ (sub-small state) (ino-small (after 1 state)) (position-small (after 2 state))
+          (length-small (after 3 state));
     }
 
 clone-fits : (state : ℕ) → Fits (clone_drawn state)
@@ -106,7 +112,8 @@ clone-fits state =
     let from = and_from _ _ (and_from _ _ file position) long in
     record {
       in_grammar = and_from _ _ (and_from _ _ (and_from _ _ from to_sub) to_ino) to_position;
-      short = clone-short _ _ _ _ _ _ _ (sub-small state) (ino-small (after 1 state)) (position-small (after 2 state)) (length-small (after 3 state))
+      short = clone-short _ _ _ _ _ _ _ (sub-small state) (ino-small (after 1 state)) (position-small (after 2 state))
+          (length-small (after 3 state))
           (sub-small (after 4 state)) (ino-small (after 5 state)) (position-small (after 6 state));
     }
 
@@ -149,7 +156,10 @@ unfolding assign_drawn is_in_grammar
 assign-fits state =
     let parent = parent-below (after 1 state) in
     let parent_fits = lt-ltb (group 1 (1 + draw 2 (after 1 state))) (2 ^ 64) (lt_trans parent (lit< tt)) in
-    record { in_grammar = and_from _ _ (sub-group state) parent_fits; short = assign-short _ _ (sub-small state) (lt_trans parent (lit< tt)) }
+    record {
+      in_grammar = and_from _ _ (sub-group state) parent_fits;
+      short = assign-short _ _ (sub-small state) (lt_trans parent (lit< tt));
+    }
 
 limit-below : (state : ℕ) → 65536 * (1 + draw 256 state) < 16777217
 limit-below state = omega (arith, draw-below 256 state (lit< tt))
@@ -159,7 +169,10 @@ unfolding limit_drawn is_in_grammar
 limit-fits state =
     let limit = limit-below (after 1 state) in
     let limit_fits = lt-ltb (65536 * (1 + draw 256 (after 1 state))) (2 ^ 64) (lt_trans limit (lit< tt)) in
-    record { in_grammar = and_from _ _ (sub-group state) limit_fits; short = limit-short _ _ (sub-small state) (lt_trans limit (lit< tt)) }
+    record {
+      in_grammar = and_from _ _ (sub-group state) limit_fits;
+      short = limit-short _ _ (sub-small state) (lt_trans limit (lit< tt));
+    }
 
 commit-fits : (state : ℕ) → Fits (record { command = Commit; behind = state })
 unfolding is_in_grammar

@@ -2,7 +2,9 @@
 use Rattle.std.proofs.Common.{◌≡◌, ℕ, ◌<◌, ◌≤◌, refl, sym}
 use Rattle.std.proofs.lemmas.Bool.{lt-ltb, le-ltb}
 use Rattle.qg_num.specs.declared.command.Command.TheVariants.{Commit}
-use Rattle.qg_generator.specs.GeneratedScript.{Drawn, drawn_on, draw, write_drawn, clone_drawn, truncate_drawn, unlink_drawn, snap_drawn, delete_drawn, assign_drawn, limit_drawn, line_of_kind, line_drawn}
+use Rattle.qg_generator.specs.GeneratedScript.{Drawn, drawn_on, draw, write_drawn, clone_drawn, truncate_drawn}
+use Rattle.qg_generator.specs.GeneratedScript.{unlink_drawn, snap_drawn, delete_drawn, assign_drawn, limit_drawn}
+use Rattle.qg_generator.specs.GeneratedScript.{line_of_kind, line_drawn}
 
 -- a line is that of its kind, from the state behind the draw of the kind
 pub of_kind :

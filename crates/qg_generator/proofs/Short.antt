@@ -4,7 +4,8 @@ use Rattle.std.specs.Prelude.{codes}
 use Rattle.std.specs.Fmt.{decimal}
 use Rattle.std.proofs.Math.Nat.{lt_trans}
 use Rattle.std.proofs.lemmas.Fmt.{length-decimal-le}
-use Rattle.qg_num.specs.declared.command.Command.TheVariants.{Write, Clone, Truncate, Unlink, Commit, Snap, Delete, GroupCreate, Assign, Limit}
+use Rattle.qg_num.specs.declared.command.Command.TheVariants.{Write, Clone, Truncate, Unlink, Commit, Snap, Delete}
+use Rattle.qg_num.specs.declared.command.Command.TheVariants.{GroupCreate, Assign, Limit}
 use Rattle.qg_num.specs.declared.counters.Which.TheVariants.{Rfer}
 use Rattle.qg_grammar.specs.ScriptText.{command_text, then_group, then_number, then_word}
 
@@ -33,10 +34,12 @@ group-short group below =
     omega (arith, all)
 
 -- a number more, and a group more
-number-more : (front : List ℕ) (room n : ℕ) → length front ≤ room → n < 2 ^ 64 → length (front ++ then_number n) ≤ room + 21
+number-more : (front : List ℕ) (room n : ℕ) → length front ≤ room → n < 2 ^ 64
+    → length (front ++ then_number n) ≤ room + 21
 number-more front room n short below = behind front (then_number n) room 21 short (number-short n below)
 
-group-more : (front : List ℕ) (room group : ℕ) → length front ≤ room → group < 2 ^ 64 → length (front ++ then_group group) ≤ room + 42
+group-more : (front : List ℕ) (room group : ℕ) → length front ≤ room → group < 2 ^ 64
+    → length (front ++ then_group group) ≤ room + 42
 group-more front room group short below = behind front (then_group group) room 42 short (group-short group below)
 
 -- a word and three numbers, and a word and four
@@ -50,17 +53,20 @@ three-short word a b c short small small' small'' =
 four-short : (word : List ℕ) (a b c d : ℕ) → length word ≤ 8 → a < 2 ^ 64 → b < 2 ^ 64 → c < 2 ^ 64 → d < 2 ^ 64
     → length (word ++ then_number a ++ then_number b ++ then_number c ++ then_number d) ≤ 92
 four-short word a b c d short small small' small'' small''' =
-    number-more (word ++ then_number a ++ then_number b ++ then_number c) 71 d (three-short word a b c short small small' small'') small'''
+    number-more (word ++ then_number a ++ then_number b ++ then_number c) 71 d
+    (three-short word a b c short small small' small'') small'''
 
 -- ---- the line of each kind
 
-pub write-short : (sub ino off len : ℕ) → sub < 2 ^ 64 → ino < 2 ^ 64 → off < 2 ^ 64 → len < 2 ^ 64 → length (command_text (Write sub ino off len)) ≤ 256
+pub write-short : (sub ino off len : ℕ) → sub < 2 ^ 64 → ino < 2 ^ 64 → off < 2 ^ 64 → len < 2 ^ 64
+    → length (command_text (Write sub ino off len)) ≤ 256
 unfolding command_text
 write-short sub ino off len a b c d =
     let all = four-short (codes "write") sub ino off len (omega arith) a b c d in
     omega (arith, all)
 
-pub clone-short : (sub ino off len to_sub to_ino to_off : ℕ) → sub < 2 ^ 64 → ino < 2 ^ 64 → off < 2 ^ 64 → len < 2 ^ 64 → to_sub < 2 ^ 64 → to_ino < 2 ^ 64
+pub clone-short : (sub ino off len to_sub to_ino to_off : ℕ) → sub < 2 ^ 64 → ino < 2 ^ 64 → off < 2 ^ 64 → len < 2 ^ 64
+    → to_sub < 2 ^ 64 → to_ino < 2 ^ 64
     → to_off < 2 ^ 64 → length (command_text (Clone sub ino off len to_sub to_ino to_off)) ≤ 256
 unfolding command_text
 clone-short sub ino off len to_sub to_ino to_off a b c d e f g =
@@ -71,7 +77,8 @@ clone-short sub ino off len to_sub to_ino to_off a b c d e f g =
     let all = number-more (front ++ then_number to_sub ++ then_number to_ino) 134 to_off six g in
     omega (arith, all)
 
-pub truncate-short : (sub ino size : ℕ) → sub < 2 ^ 64 → ino < 2 ^ 64 → size < 2 ^ 64 → length (command_text (Truncate sub ino size)) ≤ 256
+pub truncate-short : (sub ino size : ℕ) → sub < 2 ^ 64 → ino < 2 ^ 64 → size < 2 ^ 64
+    → length (command_text (Truncate sub ino size)) ≤ 256
 unfolding command_text
 truncate-short sub ino size a b c =
     let all = three-short (codes "truncate") sub ino size (omega arith) a b c in
@@ -99,14 +106,16 @@ pub create-short : (group : ℕ) → group < 2 ^ 64 → length (command_text (Gr
 unfolding command_text
 create-short group a = let all = group-more (codes "qgroup create") 13 group (omega arith) a in omega (arith, all)
 
-pub assign-short : (member parent : ℕ) → member < 2 ^ 64 → parent < 2 ^ 64 → length (command_text (Assign member parent)) ≤ 256
+pub assign-short : (member parent : ℕ) → member < 2 ^ 64 → parent < 2 ^ 64
+    → length (command_text (Assign member parent)) ≤ 256
 unfolding command_text
 assign-short member parent a b =
     let first = group-more (codes "assign") 6 member (omega arith) a in
     let all = group-more (codes "assign" ++ then_group member) 48 parent first b in
     omega (arith, all)
 
-pub limit-short : (group max : ℕ) → group < 2 ^ 64 → max < 2 ^ 64 → length (command_text (Limit group Rfer (Some max))) ≤ 256
+pub limit-short : (group max : ℕ) → group < 2 ^ 64 → max < 2 ^ 64
+    → length (command_text (Limit group Rfer (Some max))) ≤ 256
 unfolding command_text
 limit-short group max a b =
     let front = codes "limit" ++ then_word (codes "rfer") in

@@ -2,7 +2,10 @@
 use Rattle.std.specs.Prelude.{◌≡◌, ℕ, ◌^◌, List, [], ◌∷◌, map, codes, refl}
 use Rattle.std.specs.Fmt.{digits}
 use Rattle.qg_grammar.specs.ScriptText.{command_text}
-use Rattle.qg_generator.specs.GeneratedScript.{drawn_on, draw, sub_drawn, ino_drawn, position_drawn, length_drawn, write_drawn, clone_drawn, truncate_drawn, unlink_drawn, snap_drawn, delete_drawn, assign_drawn, limit_drawn, line_of_kind, line_drawn, generated_script}
+use Rattle.qg_generator.specs.GeneratedScript.{drawn_on, draw, sub_drawn, ino_drawn, position_drawn, length_drawn}
+use Rattle.qg_generator.specs.GeneratedScript.{write_drawn, clone_drawn, truncate_drawn, unlink_drawn, snap_drawn}
+use Rattle.qg_generator.specs.GeneratedScript.{delete_drawn, assign_drawn, limit_drawn, line_of_kind, line_drawn}
+use Rattle.qg_generator.specs.GeneratedScript.{generated_script}
 
 -- ---- draws from a seed of 1, whole
 
@@ -20,11 +23,13 @@ abbrev first_line : ℕ → List ℕ
 first_line seed = command_text (line_drawn seed).command
 
 first_write : first_line 1 ≡ codes "write 257 261 155648 45056"
-unfolding line_drawn line_of_kind write_drawn sub_drawn ino_drawn position_drawn length_drawn draw drawn_on command_text digits
+unfolding line_drawn line_of_kind write_drawn sub_drawn ino_drawn position_drawn length_drawn draw drawn_on command_text
+    digits
 first_write = refl
 
 first_clone : first_line 6 ≡ codes "clone 262 262 126976 53248 259 263 147456"
-unfolding line_drawn line_of_kind clone_drawn sub_drawn ino_drawn position_drawn length_drawn draw drawn_on command_text digits
+unfolding line_drawn line_of_kind clone_drawn sub_drawn ino_drawn position_drawn length_drawn draw drawn_on command_text
+    digits
 first_clone = refl
 
 first_truncate : first_line 16 ≡ codes "truncate 256 257 69632"
@@ -67,5 +72,6 @@ two_lines_are_drawn :
     ≡ codes "qgroup create 1/1" ∷ codes "qgroup create 1/2" ∷ codes "qgroup create 2/1" ∷
     codes "assign 1/1 2/1" ∷ codes "assign 1/2 2/1" ∷
     codes "write 257 261 155648 45056" ∷ codes "write 258 263 167936 45056" ∷ []
-unfolding line_drawn line_of_kind write_drawn sub_drawn ino_drawn position_drawn length_drawn draw drawn_on command_text digits
+unfolding line_drawn line_of_kind write_drawn sub_drawn ino_drawn position_drawn length_drawn draw drawn_on command_text
+    digits
 two_lines_are_drawn = refl

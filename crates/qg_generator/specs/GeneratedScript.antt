@@ -1,9 +1,11 @@
 -- The lines of the generator (this project's own): five that make three groups and put two of them into the third, then
 -- as many as are asked for, each drawn. Draws change a state of 64 bits, which begins as the seed. Positions, lengths
 -- and limits are in bytes.
-use Rattle.std.specs.Prelude.{ℕ, zero, suc, ◌+◌, ◌*◌, ◌^◌, ◌/◌, ◌%◌, List, [], ◌∷◌, ◌++◌, Some, ◌==◌, nat_lt, if◌then◌else◌}
+use Rattle.std.specs.Prelude.{ℕ, zero, suc, ◌+◌, ◌*◌, ◌^◌, ◌/◌, ◌%◌, List, [], ◌∷◌, ◌++◌, Some, ◌==◌, nat_lt}
+use Rattle.std.specs.Prelude.{if◌then◌else◌}
 use Rattle.qg_num.specs.declared.command.Command.{Command}
-use Rattle.qg_num.specs.declared.command.Command.TheVariants.{Write, Clone, Truncate, Unlink, Commit, Snap, Delete, GroupCreate, Assign, Limit}
+use Rattle.qg_num.specs.declared.command.Command.TheVariants.{Write, Clone, Truncate, Unlink, Commit, Snap, Delete}
+use Rattle.qg_num.specs.declared.command.Command.TheVariants.{GroupCreate, Assign, Limit}
 use Rattle.qg_num.specs.declared.counters.Which.TheVariants.{Rfer}
 
 -- ---- draws

@@ -1,6 +1,7 @@
 // The draws of a generator, and the words that are drawn.
 ghost use Rattle.std.specs.Prelude.{◌≡◌, ◌<◌, ℕ};
-ghost use Rattle.qg_generator.specs.GeneratedScript.{drawn_on, draw, sub_drawn, ino_drawn, position_drawn, length_drawn};
+ghost use Rattle.qg_generator.specs.GeneratedScript.{drawn_on, draw, sub_drawn, ino_drawn, position_drawn};
+ghost use Rattle.qg_generator.specs.GeneratedScript.{length_drawn};
 
 use qg_num::{Ino, RootId};
 use std::marker::Model;

@@ -1,6 +1,7 @@
 // The lines that are drawn.
 ghost use Rattle.std.specs.Prelude.{◌≡◌};
-ghost use Rattle.qg_generator.specs.GeneratedScript.{write_drawn, clone_drawn, truncate_drawn, unlink_drawn, snap_drawn, delete_drawn, assign_drawn, limit_drawn, line_drawn};
+ghost use Rattle.qg_generator.specs.GeneratedScript.{write_drawn, clone_drawn, truncate_drawn, unlink_drawn};
+ghost use Rattle.qg_generator.specs.GeneratedScript.{snap_drawn, delete_drawn, assign_drawn, limit_drawn, line_drawn};
 
 use crate::draws::Draws;
 use crate::opening::group;

@@ -50,13 +50,25 @@ unfolding reply_text digits
 commit_reply = refl
 
 show_reply :
-    reply_text (Shown (record { group = 5; counters = record { rfer = 24576; excl = 16384 }; max_rfer = Some 50000; max_excl = None } ∷ []))
+    reply_text (Shown (record {
+      group = 5;
+      counters = record { rfer = 24576; excl = 16384 };
+      max_rfer = Some 50000;
+      max_excl = None;
+    } ∷ []))
     ≡ codes "0/5 24576 16384 50000 none" ++ 10 ∷ codes "ok" ++ 10 ∷ []
 unfolding reply_text row_text digits
 show_reply = refl
 
 ls_reply :
-    reply_text (File 4096 (record { position = 0; len = 4096; extent = 67174400; offset = 4096; stamp = 2; extent_bytes = 8192 } ∷ []))
+    reply_text (File 4096 (record {
+      position = 0;
+      len = 4096;
+      extent = 67174400;
+      offset = 4096;
+      stamp = 2;
+      extent_bytes = 8192;
+    } ∷ []))
     ≡ codes "0 4096 67174400 4096" ++ 10 ∷ codes "ok file 4096" ++ 10 ∷ []
 unfolding reply_text piece_text digits
 ls_reply = refl

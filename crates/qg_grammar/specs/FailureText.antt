@@ -1,5 +1,5 @@
--- What is said of an image that is not sound (this project's own): one line, the first rule that is broken, or the first stored counter that
--- is not the direct count.
+-- What is said of an image that is not sound (this project's own): one line, the first rule that is broken, or the
+-- first stored counter that is not the direct count.
 use Rattle.std.specs.Prelude.{ℕ, List, ◌++◌, codes}
 use Rattle.qg_num.specs.declared.counters.Which.{Which}
 use Rattle.qg_num.specs.declared.rule.Rule.{Rule}
@@ -41,4 +41,5 @@ broken_text broken address = line (codes "broken" ++ then_word (rule_text broken
 -- a group's stored counter differs from the direct count, both in bytes
 abbrev pub differs_text : ℕ → Which → ℕ → ℕ → List ℕ
 differs_text group which stored counted =
-    line (codes "differs" ++ then_group group ++ then_word (which_text which) ++ then_number stored ++ then_number counted)
+    line (codes "differs" ++ then_group group ++ then_word (which_text which) ++ then_number stored
+    ++ then_number counted)

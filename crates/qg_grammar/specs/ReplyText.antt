@@ -1,5 +1,5 @@
--- The text of each answer (this project's own). A reply is its lines, each with its newline; its last line begins with `ok` or `no`, and those
--- before it with a digit.
+-- The text of each answer (this project's own). A reply is its lines, each with its newline; its last line begins with
+-- `ok` or `no`, and those before it with a digit.
 use Rattle.std.specs.Prelude.{ℕ, List, [], ◌∷◌, ◌++◌, codes}
 use Rattle.std.specs.List.{flat_map}
 use Rattle.std.specs.Fmt.{decimal}
@@ -45,11 +45,13 @@ refusal_text refusal.NoGeneration = codes "no generation"
 -- a group, its two counters and its two limits
 unfoldable pub row_text : Row → List ℕ
 row_text row =
-    group_text row.group ++ then_number row.counters.rfer ++ then_number row.counters.excl ++ then_word (maximum_text row.max_rfer) ++ then_word (maximum_text row.max_excl)
+    group_text row.group ++ then_number row.counters.rfer ++ then_number row.counters.excl
+    ++ then_word (maximum_text row.max_rfer) ++ then_word (maximum_text row.max_excl)
 
 -- a piece's position and length, the address of its extent, and its offset there
 unfoldable pub piece_text : Piece → List ℕ
-piece_text piece = decimal piece.position ++ then_number piece.len ++ then_number piece.extent ++ then_number piece.offset
+piece_text piece = decimal piece.position ++ then_number piece.len ++ then_number piece.extent
+    ++ then_number piece.offset
 
 unfoldable pub reply_text : Answer → List ℕ
 reply_text Done = line (codes "ok")
@@ -57,6 +59,7 @@ reply_text (Commit generation) = line (codes "ok commit" ++ then_number generati
 reply_text (Sub sub) = line (codes "ok sub" ++ then_number sub)
 reply_text (Extent address) = line (codes "ok extent" ++ then_number address)
 reply_text (Shown rows) = flat_map (λ row. line (row_text row)) rows ++ line (codes "ok")
-reply_text (File size pieces) = flat_map (λ piece. line (piece_text piece)) pieces ++ line (codes "ok file" ++ then_number size)
+reply_text (File size pieces) = flat_map (λ piece. line (piece_text piece)) pieces
+    ++ line (codes "ok file" ++ then_number size)
 reply_text (Owners owners) = line (codes "ok owners" ++ flat_map then_number owners)
 reply_text (Refused why) = line (refusal_text why)

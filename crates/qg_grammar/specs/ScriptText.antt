@@ -1,12 +1,15 @@
 -- The lines of a script and the command of each line (this project's own).
 --
--- Each command has one text: words parted by single spaces, numbers in decimal without leading zeros. A line is a command's where it is that
--- text, so two spaces, a sign, a leading zero or a carriage return make it no command's.
-use Rattle.std.specs.Prelude.{◌≡◌, ℕ, ◌^◌, ◌≤◌, ◌/◌, ◌%◌, Bool, true, ◌&&◌, List, [], ◌∷◌, ◌++◌, length, codes, Option, Some, None, ◌==◌, nat_le, nat_lt, if◌then◌else◌, IsTrue}
+-- Each command has one text: words parted by single spaces, numbers in decimal without leading zeros. A line is a
+-- command's where it is that text, so two spaces, a sign, a leading zero or a carriage return make it no command's.
+use Rattle.std.specs.Prelude.{◌≡◌, ℕ, ◌^◌, ◌≤◌, ◌/◌, ◌%◌, Bool, true, ◌&&◌, List, [], ◌∷◌, ◌++◌, length, codes, Option}
+use Rattle.std.specs.Prelude.{Some, None, ◌==◌, nat_le, nat_lt, if◌then◌else◌, IsTrue}
 use Rattle.std.specs.List.{flat_map, list_all, onto_first}
 use Rattle.std.specs.Fmt.{decimal}
 use Rattle.qg_num.specs.declared.command.Command.{Command}
-use Rattle.qg_num.specs.declared.command.Command.TheVariants.{Write, Clone, Truncate, Unlink, Commit, SubCreate, Snap, Delete, QuotaOn, QuotaOff, GroupCreate, GroupDestroy, Assign, Remove, Limit, Show, Ls, Owners}
+use Rattle.qg_num.specs.declared.command.Command.TheVariants.{Write, Clone, Truncate, Unlink, Commit, SubCreate, Snap}
+use Rattle.qg_num.specs.declared.command.Command.TheVariants.{Delete, QuotaOn, QuotaOff, GroupCreate, GroupDestroy}
+use Rattle.qg_num.specs.declared.command.Command.TheVariants.{Assign, Remove, Limit, Show, Ls, Owners}
 use Rattle.qg_num.specs.declared.counters.Which.{Which}
 use Rattle.qg_num.specs.declared.counters.Which.TheVariants.{Rfer, Excl}
 
@@ -59,9 +62,11 @@ inherit_text (group ∷ groups) = then_word (codes "inherit") ++ flat_map then_g
 
 -- a command's one text
 unfoldable pub command_text : Command → List ℕ
-command_text (Write sub ino off len) = codes "write" ++ then_number sub ++ then_number ino ++ then_number off ++ then_number len
+command_text (Write sub ino off len) = codes "write" ++ then_number sub ++ then_number ino ++ then_number off
+    ++ then_number len
 command_text (Clone sub ino off len to_sub to_ino to_off) =
-    codes "clone" ++ then_number sub ++ then_number ino ++ then_number off ++ then_number len ++ then_number to_sub ++ then_number to_ino ++ then_number to_off
+    codes "clone" ++ then_number sub ++ then_number ino ++ then_number off ++ then_number len ++ then_number to_sub
+    ++ then_number to_ino ++ then_number to_off
 command_text (Truncate sub ino size) = codes "truncate" ++ then_number sub ++ then_number ino ++ then_number size
 command_text (Unlink sub ino) = codes "unlink" ++ then_number sub ++ then_number ino
 command_text Commit = codes "commit"
@@ -74,7 +79,8 @@ command_text (GroupCreate group) = codes "qgroup create" ++ then_group group
 command_text (GroupDestroy group) = codes "qgroup destroy" ++ then_group group
 command_text (Assign member parent) = codes "assign" ++ then_group member ++ then_group parent
 command_text (Remove member parent) = codes "remove" ++ then_group member ++ then_group parent
-command_text (Limit group which max) = codes "limit" ++ then_word (which_text which) ++ then_group group ++ then_word (maximum_text max)
+command_text (Limit group which max) = codes "limit" ++ then_word (which_text which) ++ then_group group
+    ++ then_word (maximum_text max)
 command_text Show = codes "show"
 command_text (Ls sub ino) = codes "ls" ++ then_number sub ++ then_number ino
 command_text (Owners address) = codes "owners" ++ then_number address
@@ -97,7 +103,8 @@ is_limit_word (Some max) = is_word max
 unfoldable pub is_in_grammar : Command → Bool
 is_in_grammar (Write sub ino off len) = is_sub_word sub && is_ino_word ino && is_word off && is_word len
 is_in_grammar (Clone sub ino off len to_sub to_ino to_off) =
-    is_sub_word sub && is_ino_word ino && is_word off && is_word len && is_sub_word to_sub && is_ino_word to_ino && is_word to_off
+    is_sub_word sub && is_ino_word ino && is_word off && is_word len && is_sub_word to_sub && is_ino_word to_ino
+    && is_word to_off
 is_in_grammar (Truncate sub ino size) = is_sub_word sub && is_ino_word ino && is_word size
 is_in_grammar (Unlink sub ino) = is_sub_word sub && is_ino_word ino
 is_in_grammar Commit = true

@@ -24,14 +24,16 @@ pub LeavesBe-with : (old mid new : Ground) (before after : Option (List Event)) 
     → LeavesBe old mid before after bytes left generation → Rests mid new after generation
     → LeavesBe old new before after bytes left generation
 LeavesBe-with old mid new before after bytes left generation one rests =
-    LeavesBe-after old mid new before after after bytes left left generation one (record { rests = rests; history = refl; size = refl })
+    LeavesBe-after old mid new before after after bytes left left generation one
+    (record { rests = rests; history = refl; size = refl })
 
 -- a node was read
 pub LeavesBe-read : (land : Ground) (new : Held) (before after : Option (List Event)) (bytes left generation : ℕ)
     → StaysBacked land.blocks new after → (after ≡ before) × (left ≡ bytes) → IsDrafted land generation
     → LeavesBe land (record land { blocks = new }) before after bytes left generation
 LeavesBe-read land new before after bytes left generation stays disk drafted = record {
-  rests = Rests-draft land (record land { blocks = new }) after generation stays.draft stays.bound refl stays.backed drafted;
+  rests = Rests-draft land (record land { blocks = new }) after generation stays.draft stays.bound refl stays.backed
+      drafted;
   history = disk.0;
   size = disk.1;
 }

@@ -33,38 +33,48 @@ some_is None some = cc
 some_is (Some node) some = (node, refl)
 
 -- it is fresh there
-pub edited-here : (land : Ground) (at : ℕ) (node : Node) → IsSome (fresh_at land.blocks.draft at) → fresh_at (edited land at node).blocks.draft at ≡ Some node
+pub edited-here : (land : Ground) (at : ℕ) (node : Node) → IsSome (fresh_at land.blocks.draft at)
+    → fresh_at (edited land at node).blocks.draft at ≡ Some node
 edited-here land at node some = sym (told-nothing (edited land at node).blocks.draft at) ∙ elim (eqb_tells at at) [
-  | inl (equal, same) ↦ told-set land.blocks.draft at node None at some ∙ ap (λ (b : Bool). if b then Some node else told land.blocks.draft None at) equal
+  | inl (equal, same) ↦ told-set land.blocks.draft at node None at some
+      ∙ ap (λ (b : Bool). if b then Some node else told land.blocks.draft None at) equal
   | inr (unequal, differ) ↦ absurd (differ refl)
 ]
 
 -- and elsewhere the same is told as before
-pub edited-others : (land : Ground) (at : ℕ) (node : Node) (history : Option (List Event)) (other : ℕ) → IsSome (fresh_at land.blocks.draft at) → other ≢ at
+pub edited-others : (land : Ground) (at : ℕ) (node : Node) (history : Option (List Event)) (other : ℕ)
+    → IsSome (fresh_at land.blocks.draft at) → other ≢ at
     → told (edited land at node).blocks.draft history other ≡ told land.blocks.draft history other
 edited-others land at node history other some differ = elim (eqb_tells other at) [
   | inl (equal, same) ↦ absurd (differ same)
-  | inr (unequal, apart) ↦ told-set land.blocks.draft at node history other some ∙ ap (λ (b : Bool). if b then Some node else told land.blocks.draft history other) unequal
+  | inr (unequal, apart) ↦ told-set land.blocks.draft at node history other some
+      ∙ ap (λ (b : Bool). if b then Some node else told land.blocks.draft history other) unequal
 ]
 
 -- the same nodes are fresh
-edited_stays : (land : Ground) (at : ℕ) (node : Node) → IsSome (fresh_at land.blocks.draft at) → (other : ℕ) → IsSome (fresh_at land.blocks.draft other) → IsSome (fresh_at (edited land at node).blocks.draft other)
+edited_stays : (land : Ground) (at : ℕ) (node : Node) → IsSome (fresh_at land.blocks.draft at) → (other : ℕ)
+    → IsSome (fresh_at land.blocks.draft other) → IsSome (fresh_at (edited land at node).blocks.draft other)
 edited_stays land at node some other was = elim (eqb_tells other at) [
-  | inl (equal, same) ↦ IsSome-is (fresh_at (edited land at node).blocks.draft other) node (ap (λ (a : ℕ). fresh_at (edited land at node).blocks.draft a) same ∙ edited-here land at node some)
+  | inl (equal, same) ↦ IsSome-is (fresh_at (edited land at node).blocks.draft other) node
+      (ap (λ (a : ℕ). fresh_at (edited land at node).blocks.draft a) same ∙ edited-here land at node some)
   | inr (unequal, differ) ↦
       IsSome-same (fresh_at land.blocks.draft other) (fresh_at (edited land at node).blocks.draft other)
-      (fresh_at-told land.blocks.draft (edited land at node).blocks.draft other (edited-others land at node None other some differ)) was
+      (fresh_at-told land.blocks.draft (edited land at node).blocks.draft other
+      (edited-others land at node None other some differ)) was
 ]
 
-edited_only : (land : Ground) (at : ℕ) (node : Node) → IsSome (fresh_at land.blocks.draft at) → (other : ℕ) → IsSome (fresh_at (edited land at node).blocks.draft other) → IsSome (fresh_at land.blocks.draft other)
+edited_only : (land : Ground) (at : ℕ) (node : Node) → IsSome (fresh_at land.blocks.draft at) → (other : ℕ)
+    → IsSome (fresh_at (edited land at node).blocks.draft other) → IsSome (fresh_at land.blocks.draft other)
 edited_only land at node some other is = elim (eqb_tells other at) [
   | inl (equal, same) ↦ subst (λ (a : ℕ). IsSome (fresh_at land.blocks.draft a)) (sym same) some
   | inr (unequal, differ) ↦
       IsSome-same (fresh_at (edited land at node).blocks.draft other) (fresh_at land.blocks.draft other)
-      (sym (fresh_at-told land.blocks.draft (edited land at node).blocks.draft other (edited-others land at node None other some differ))) is
+      (sym (fresh_at-told land.blocks.draft (edited land at node).blocks.draft other
+      (edited-others land at node None other some differ))) is
 ]
 
-pub Spares-edited : (land : Ground) (at : ℕ) (node : Node) → IsSome (fresh_at land.blocks.draft at) → Spares land (edited land at node)
+pub Spares-edited : (land : Ground) (at : ℕ) (node : Node) → IsSome (fresh_at land.blocks.draft at)
+    → Spares land (edited land at node)
 Spares-edited land at node some = record {
   sizes = refl;
   fresh = edited_stays land at node some;
@@ -73,7 +83,8 @@ Spares-edited land at node some = record {
   space = refl;
 }
 
-pub Takes-edited : (land : Ground) (at : ℕ) (node : Node) → IsSome (fresh_at land.blocks.draft at) → Takes 0 (λ q. ⊥) land (edited land at node)
+pub Takes-edited : (land : Ground) (at : ℕ) (node : Node) → IsSome (fresh_at land.blocks.draft at)
+    → Takes 0 (λ q. ⊥) land (edited land at node)
 Takes-edited land at node some = record {
   count = omega arith;
   less = λ other free. inl free;
@@ -83,26 +94,38 @@ Takes-edited land at node some = record {
 }
 
 -- a node that has a text, names its address, and has the generation to come
-pub IsDrafted-edited : (land : Ground) (generation at : ℕ) (node : Node) → IsSome (fresh_at land.blocks.draft at) → IsNodeAt land.space.sizes.nodesize at node
+pub IsDrafted-edited : (land : Ground) (generation at : ℕ) (node : Node) → IsSome (fresh_at land.blocks.draft at)
+    → IsNodeAt land.space.sizes.nodesize at node
     → (header_of node).generation ≡ generation → IsDrafted land generation → IsDrafted (edited land at node) generation
 IsDrafted-edited land generation at node some kept dated is =
     let was = some_is (fresh_at land.blocks.draft at) some in
     let old = is.each at was.0 was.1 in
-    let here : IsDraftAt land.space generation at node = record { kept = kept; dated = dated; slot = old.slot; taken = old.taken; apart = old.apart } in
+    let here : IsDraftAt land.space generation at node = record {
+      kept = kept;
+      dated = dated;
+      slot = old.slot;
+      taken = old.taken;
+      apart = old.apart;
+    } in
     record {
       sizes = record { served = is.sizes.served; nodesize = is.sizes.nodesize; slots = is.sizes.slots };
       each = λ other new there. elim (eqb_tells other at) [
         | inl (equal, same) ↦
-            let that : Some new ≡ Some node = sym there ∙ ap (λ (a : ℕ). fresh_at (edited land at node).blocks.draft a) same ∙ edited-here land at node some in
+            let that : Some new ≡ Some node = sym there
+            ∙ ap (λ (a : ℕ). fresh_at (edited land at node).blocks.draft a) same ∙ edited-here land at node some in
             let one : new ≡ node = cc in
-            subst (λ (a : ℕ). IsDraftAt land.space generation a new) (sym same) (subst (λ (n : Node). IsDraftAt land.space generation at n) (sym one) here)
+            subst (λ (a : ℕ). IsDraftAt land.space generation a new) (sym same)
+            (subst (λ (n : Node). IsDraftAt land.space generation at n) (sym one) here)
         | inr (unequal, differ) ↦
-            is.each other new (sym (fresh_at-told land.blocks.draft (edited land at node).blocks.draft other (edited-others land at node None other some differ)) ∙ there)
+            is.each other new (sym (fresh_at-told land.blocks.draft (edited land at node).blocks.draft other
+            (edited-others land at node None other some differ)) ∙ there)
       ];
     }
 
-pub Rests-edited : (land : Ground) (history : Option (List Event)) (generation at : ℕ) (node : Node) → IsSome (fresh_at land.blocks.draft at) → IsNodeAt land.space.sizes.nodesize at node
-    → (header_of node).generation ≡ generation → IsBacked land.blocks history → IsDrafted land generation → Rests land (edited land at node) history generation
+pub Rests-edited : (land : Ground) (history : Option (List Event)) (generation at : ℕ) (node : Node)
+    → IsSome (fresh_at land.blocks.draft at) → IsNodeAt land.space.sizes.nodesize at node
+    → (header_of node).generation ≡ generation → IsBacked land.blocks history → IsDrafted land generation
+    → Rests land (edited land at node) history generation
 Rests-edited land history generation at node some kept dated backed is = record {
   backed = IsBacked-set land.blocks history at node some backed;
   drafted = IsDrafted-edited land generation at node some kept dated is;
@@ -123,7 +146,8 @@ is_slot_same a b at nodesize slots =
     ap (λ (n : ℕ). is_slot (Of n a.slots) at) nodesize ∙ ap (λ (k : ℕ). is_slot (Of b.nodesize k) at) slots
 
 -- on a disk with room for all slots each fresh node can be written
-pub ArePlaced-drafted : (land : Ground) (generation bytes : ℕ) → second_place ≤ bytes → IsDrafted land generation → ArePlaced land.blocks.draft bytes
+pub ArePlaced-drafted : (land : Ground) (generation bytes : ℕ) → second_place ≤ bytes → IsDrafted land generation
+    → ArePlaced land.blocks.draft bytes
 unfolding has_slot
 ArePlaced-drafted land generation bytes room is = record {
   each = λ at node there.
@@ -133,6 +157,7 @@ ArePlaced-drafted land generation bytes room is = record {
       record {
         kept = subst (λ (n : ℕ). IsNodeAt n at node) (sym is.sizes.nodesize) draft.kept;
         slot = and_from (is_slot land.blocks.draft.sizes at) (nat_le (at + land.blocks.draft.sizes.nodesize) bytes)
-            (is_slot_same land.blocks.draft.sizes land.space.sizes at is.sizes.nodesize is.sizes.slots ∙ draft.slot) (le-leb (at + land.blocks.draft.sizes.nodesize) bytes within);
+            (is_slot_same land.blocks.draft.sizes land.space.sizes at is.sizes.nodesize is.sizes.slots ∙ draft.slot)
+            (le-leb (at + land.blocks.draft.sizes.nodesize) bytes within);
       };
 }

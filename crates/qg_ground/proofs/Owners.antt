@@ -16,14 +16,16 @@ use Rattle.qg_ground.proofs.Lands.{IsSome-is, fresh_at-told}
 -- ---- calls added up
 
 -- the owner that the fresh node at an address had
-has_owner-after : (owner : ℕ) (old mid : Ground) (at : ℕ) (node : Node) → IsOwnedBy owner old mid → HasOwner owner mid at node → HasOwner owner old at node
+has_owner-after : (owner : ℕ) (old mid : Ground) (at : ℕ) (node : Node) → IsOwnedBy owner old mid
+    → HasOwner owner mid at node → HasOwner owner old at node
 has_owner-after owner old mid at node first (inl own) = inl own
 has_owner-after owner old mid at node first (inr (was, there, same)) = elim (first.each at was there) [
   | inl own ↦ inl (sym same ∙ own)
   | inr before ↦ inr (before.0, before.1, before.2 ∙ same)
 ]
 
-pub IsOwnedBy-after : (owner : ℕ) (old mid new : Ground) → IsOwnedBy owner old mid → IsOwnedBy owner mid new → IsOwnedBy owner old new
+pub IsOwnedBy-after : (owner : ℕ) (old mid new : Ground) → IsOwnedBy owner old mid → IsOwnedBy owner mid new
+    → IsOwnedBy owner old new
 IsOwnedBy-after owner old mid new first second = record {
   each = λ at node there. has_owner-after owner old mid at node first (second.each at node there);
 }
@@ -36,13 +38,17 @@ IsOwnedBy-draft owner old new draft = record {
 
 -- ---- one node
 
-same_owner : (owner : ℕ) (land : Ground) (at now : ℕ) (other node : Node) → at ≡ now → other ≡ node → HasOwner owner land now node → HasOwner owner land at other
+same_owner : (owner : ℕ) (land : Ground) (at now : ℕ) (other node : Node) → at ≡ now → other ≡ node
+    → HasOwner owner land now node → HasOwner owner land at other
 same_owner owner land at now other node there is own =
-    subst (λ (a : ℕ). HasOwner owner land a other) (sym there) (subst (λ (n : Node). HasOwner owner land now n) (sym is) own)
+    subst (λ (a : ℕ). HasOwner owner land a other) (sym there)
+    (subst (λ (n : Node). HasOwner owner land now n) (sym is) own)
 
 -- one is fresh at an address, and the others are as they were
-pub IsOwnedBy-one : (owner : ℕ) (old mid new : Ground) (now : ℕ) (node : Node) → IsOwnedBy owner old mid → fresh_at new.blocks.draft now ≡ Some node
-    → ((at : ℕ) → at ≢ now → fresh_at new.blocks.draft at ≡ fresh_at mid.blocks.draft at) → HasOwner owner old now node → IsOwnedBy owner old new
+pub IsOwnedBy-one : (owner : ℕ) (old mid new : Ground) (now : ℕ) (node : Node) → IsOwnedBy owner old mid
+    → fresh_at new.blocks.draft now ≡ Some node
+    → ((at : ℕ) → at ≢ now → fresh_at new.blocks.draft at ≡ fresh_at mid.blocks.draft at) → HasOwner owner old now node
+    → IsOwnedBy owner old new
 IsOwnedBy-one owner old mid new now node first here others own = record {
   each = λ at other there. elim (eqb_tells at now) [
     | inl (equal, same) ↦
@@ -54,35 +60,42 @@ IsOwnedBy-one owner old mid new now node first here others own = record {
 }
 
 -- one is put
-pub IsOwnedBy-put : (owner : ℕ) (old mid new : Ground) (now : ℕ) (node : Node) → IsOwnedBy owner old mid → Puts mid new now node → HasOwner owner old now node
+pub IsOwnedBy-put : (owner : ℕ) (old mid new : Ground) (now : ℕ) (node : Node) → IsOwnedBy owner old mid
+    → Puts mid new now node → HasOwner owner old now node
     → IsOwnedBy owner old new
 IsOwnedBy-put owner old mid new now node first puts own =
-    IsOwnedBy-one owner old mid new now node first puts.here (λ at other. fresh_at-told mid.blocks.draft new.blocks.draft at (puts.others None at other)) own
+    IsOwnedBy-one owner old mid new now node first puts.here
+    (λ at other. fresh_at-told mid.blocks.draft new.blocks.draft at (puts.others None at other)) own
 
 node_at-owner : (node : Node) (address : ℕ) → (header_of (node_at address node)).owner ≡ (header_of node).owner
 node_at-owner (Leaf header items) address = refl
 node_at-owner (Inner header pointers) address = refl
 
-moved_owner : (owner : ℕ) (land : Ground) (now : ℕ) (node : Node) → HasOwner owner land now node → HasOwner owner land now (node_at now node)
+moved_owner : (owner : ℕ) (land : Ground) (now : ℕ) (node : Node) → HasOwner owner land now node
+    → HasOwner owner land now (node_at now node)
 moved_owner owner land now node (inl own) = inl (node_at-owner node now ∙ own)
 moved_owner owner land now node (inr (was, there, same)) = inr (was, there, same ∙ sym (node_at-owner node now))
 
 -- one is made
-pub IsOwnedBy-made : (owner : ℕ) (old mid new : Ground) (now : ℕ) (node : Node) → IsOwnedBy owner old mid → Makes mid new now node → HasOwner owner old now node
+pub IsOwnedBy-made : (owner : ℕ) (old mid new : Ground) (now : ℕ) (node : Node) → IsOwnedBy owner old mid
+    → Makes mid new now node → HasOwner owner old now node
     → IsOwnedBy owner old new
 IsOwnedBy-made owner old mid new now node first makes own =
     IsOwnedBy-put owner old mid new now (node_at now node) first makes.puts (moved_owner owner old now node own)
 
-owned_there : (old new : Ground) (history : Option (List Event)) (at now owner generation : ℕ) (o : Option Node) → fresh_at old.blocks.draft at ≡ o
+owned_there : (old new : Ground) (history : Option (List Event)) (at now owner generation : ℕ) (o : Option Node)
+    → fresh_at old.blocks.draft at ≡ o
     → Owned old new history at now owner generation → IsOwnedBy owner old new
 owned_there old new history at now owner generation None is owned =
     let copies = owned.copied is in
     IsOwnedBy-put owner old old new now copies.copy (IsOwnedBy-draft owner old old refl) copies.puts (inl copies.owned)
 owned_there old new history at now owner generation (Some node) is owned =
-    IsOwnedBy-draft owner old new (ap (λ (g : Ground). g.blocks.draft) (owned.kept (IsSome-is (fresh_at old.blocks.draft at) node is)).1)
+    IsOwnedBy-draft owner old new
+    (ap (λ (g : Ground). g.blocks.draft) (owned.kept (IsSome-is (fresh_at old.blocks.draft at) node is)).1)
 
 -- one is owned
-pub IsOwnedBy-owned : (old new : Ground) (history : Option (List Event)) (at now owner generation : ℕ) → Owned old new history at now owner generation
+pub IsOwnedBy-owned : (old new : Ground) (history : Option (List Event)) (at now owner generation : ℕ)
+    → Owned old new history at now owner generation
     → IsOwnedBy owner old new
 IsOwnedBy-owned old new history at now owner generation owned =
     owned_there old new history at now owner generation (fresh_at old.blocks.draft at) refl owned
@@ -92,7 +105,8 @@ pub IsOwnedBy-left : (owner : ℕ) (old new : Ground) (at : ℕ) → LetsGo old 
 IsOwnedBy-left owner old new at left = record {
   each = λ q node there. elim (eqb_tells q at) [
     | inl (equal, same) ↦
-        let here : fresh_at new.blocks.draft at ≡ Some node = sym (ap (λ (a : ℕ). fresh_at new.blocks.draft a) same) ∙ there in
+        let here : fresh_at new.blocks.draft at ≡ Some node = sym (ap (λ (a : ℕ). fresh_at new.blocks.draft a) same)
+        ∙ there in
         elim left.here [
           | inl kept ↦ let was : fresh_at old.blocks.draft at ≡ Some node = sym kept ∙ here in
               inr (node, ap (λ (a : ℕ). fresh_at old.blocks.draft a) same ∙ was, refl)

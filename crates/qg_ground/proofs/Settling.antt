@@ -41,7 +41,8 @@ PutsFresh-puts old new now generation node puts spares slots is = record {
 -- where fresh nodes are the same their levels are
 pub KeepsLevels-draft : (old new : Ground) → new.blocks.draft ≡ old.blocks.draft → KeepsLevels old new
 KeepsLevels-draft old new draft =
-    let same : (at : ℕ) → fresh_at new.blocks.draft at ≡ fresh_at old.blocks.draft at = λ at. ap (λ (d : Draft). fresh_at d at) draft in
+    let same : (at : ℕ) → fresh_at new.blocks.draft at ≡ fresh_at old.blocks.draft at =
+    λ at. ap (λ (d : Draft). fresh_at d at) draft in
     record {
       sizes = ap (λ (d : Draft). d.sizes) draft;
       each = λ at node there. (node, sym (same at) ∙ there, refl);
@@ -49,13 +50,16 @@ KeepsLevels-draft old new draft =
     }
 
 -- a node that was emptied, where fresh nodes are the same since
-pub Empties-draft : (old mid new : Ground) (at : ℕ) → new.blocks.draft ≡ mid.blocks.draft → new.space ≡ mid.space → Empties old mid at → Empties old new at
+pub Empties-draft : (old mid new : Ground) (at : ℕ) → new.blocks.draft ≡ mid.blocks.draft → new.space ≡ mid.space
+    → Empties old mid at → Empties old new at
 Empties-draft old mid new at draft space empties =
-    let same : (q : ℕ) → fresh_at new.blocks.draft q ≡ fresh_at mid.blocks.draft q = λ q. ap (λ (d : Draft). fresh_at d q) draft in
+    let same : (q : ℕ) → fresh_at new.blocks.draft q ≡ fresh_at mid.blocks.draft q =
+    λ q. ap (λ (d : Draft). fresh_at d q) draft in
     record {
       space = space ∙ empties.space;
       sizes = ap (λ (d : Draft). d.sizes) draft ∙ empties.sizes;
       each = λ q node there. empties.each q node (sym (same q) ∙ there);
-      stays = λ q some. IsSome-same (fresh_at mid.blocks.draft q) (fresh_at new.blocks.draft q) (same q) (empties.stays q some);
+      stays = λ q some. IsSome-same (fresh_at mid.blocks.draft q) (fresh_at new.blocks.draft q) (same q)
+          (empties.stays q some);
       here = (empties.here.0, same at ∙ empties.here.1, empties.here.2, empties.here.3);
     }

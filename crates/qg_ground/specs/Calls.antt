@@ -15,8 +15,8 @@ pub record CanTakeSlot (land : Ground) (history : Option (List Event)) (generati
   pub drafted : IsDrafted land generation
   pub slots : 0 < free_slots land.space
 
--- what is left so, whatever is answered: fresh nodes are such as a commit may write, what the last commit holds is as it was, and the disk
--- is not written
+-- what is left so, whatever is answered: fresh nodes are such as a commit may write, what the last commit holds is as
+-- it was, and the disk is not written
 pub record LeavesBe (old new : Ground) (before after : Option (List Event)) (bytes left generation : ℕ) : Type 0 where
   pub rests : Rests old new after generation
   pub history : after ≡ before
@@ -34,7 +34,8 @@ pub record FailsByDisk {T : Type 0} (history : Option (List Event)) (before now 
   pub sound : (events : List Event) → history ≡ Some events → BreaksNone result
   pub cause : HasCause Disk before now result
 
--- over a disk that tells a call answers by what is found at an address, and it answers `Disk` only where the disk's count of faults rose
+-- over a disk that tells a call answers by what is found at an address, and it answers `Disk` only where the disk's
+-- count of faults rose
 pub record FailsToRead {T : Type 0} (land : Ground) (history : Option (List Event)) (at before now : ℕ)
     (result : Result T BlockFault) : Type 0 where
   pub answers : (events : List Event) → history ≡ Some events

@@ -20,15 +20,16 @@ node_at address node = with_header (record (header_of node) { address = address 
 pub record Puts (old new : Ground) (now : ℕ) (node : Node) : Type 0 where
   pub free : IsTrue (is_free_slot old.space now)
   pub here : fresh_at new.blocks.draft now ≡ Some node
-  pub others : (history : Option (List Event)) (at : ℕ) → at ≢ now → told new.blocks.draft history at ≡ told old.blocks.draft history at
+  pub others : (history : Option (List Event)) (at : ℕ) → at ≢ now
+      → told new.blocks.draft history at ≡ told old.blocks.draft history at
 
 -- a node is made: it is put, its slot is taken, and no other slot is taken or given back
 pub record Makes (old new : Ground) (now : ℕ) (node : Node) : Type 0 where
   pub puts : Puts old new now (node_at now node)
   pub slots : new.space.slots ≡ with_number now old.space.slots
 
--- a node is copied: the copy is put, by this tree and of this generation. It is a copy of what is told, and over any disk of what is in
--- memory. Of slots only the copy's is taken, and only the node's own may have been given back
+-- a node is copied: the copy is put, by this tree and of this generation. It is a copy of what is told, and over any
+-- disk of what is in memory. Of slots only the copy's is taken, and only the node's own may have been given back
 pub record Copies (old new : Ground) (history : Option (List Event)) (at now owner generation : ℕ) : Type 0 where
   pub copy : Node
   pub puts : Puts old new now copy
@@ -38,12 +39,14 @@ pub record Copies (old new : Ground) (history : Option (List Event)) (at now own
   pub lent : (node : Node) → held_at old.blocks at ≡ Some node → copy ≡ node_copy node now owner generation
   pub slots : MayLack at (with_number now old.space.slots) new.space.slots
 
--- a tree owns the node in the place of the one at an address: a fresh one is that node, and nothing changes; any other is copied
+-- a tree owns the node in the place of the one at an address: a fresh one is that node, and nothing changes; any other
+-- is copied
 pub record Owned (old new : Ground) (history : Option (List Event)) (at now owner generation : ℕ) : Type 0 where
   pub kept : IsSome (fresh_at old.blocks.draft at) → (now ≡ at) × (new ≡ old)
   pub copied : fresh_at old.blocks.draft at ≡ None → Copies old new history at now owner generation
 
--- one slot is taken, which was free, and a fresh node lies there, where none did. All else of space and fresh nodes is as it was
+-- one slot is taken, which was free, and a fresh node lies there, where none did. All else of space and fresh nodes is
+-- as it was
 pub record PutsFresh (old new : Ground) (now : ℕ) : Type 0 where
   pub free : IsTrue (is_free_slot old.space now)
   pub sizes : new.blocks.draft.sizes ≡ old.blocks.draft.sizes
@@ -57,7 +60,8 @@ pub record PutsFresh (old new : Ground) (now : ℕ) : Type 0 where
 -- a node has this owner, or the one that the fresh node at the same address had
 abbrev pub HasOwner : ℕ → Ground → ℕ → Node → Type 0
 HasOwner owner land at node =
-    ((header_of node).owner ≡ owner) ⊎ ((was : Node) × (fresh_at land.blocks.draft at ≡ Some was) × ((header_of was).owner ≡ (header_of node).owner))
+    ((header_of node).owner ≡ owner) ⊎ ((was : Node) × (fresh_at land.blocks.draft at ≡ Some was)
+    × ((header_of was).owner ≡ (header_of node).owner))
 
 -- each fresh node has this owner, or the one that the fresh node at its address had before
 pub record IsOwnedBy (owner : ℕ) (old new : Ground) : Type 0 where
@@ -65,11 +69,12 @@ pub record IsOwnedBy (owner : ℕ) (old new : Ground) : Type 0 where
 
 -- ---- slots in all
 
--- at most so many slots are taken, all of which were free. `Gone` are addresses whose nodes a book was told are copied or left: these
--- alone may have been given back
+-- at most so many slots are taken, all of which were free. `Gone` are addresses whose nodes a book was told are copied
+-- or left: these alone may have been given back
 pub record Takes (most : ℕ) (Gone : ℕ → Type 0) (old new : Ground) : Type 0 where
   pub count : free_slots old.space ≤ most + free_slots new.space
   pub less : (at : ℕ) → IsTrue (is_free_slot new.space at) → IsTrue (is_free_slot old.space at) ⊎ Gone at
   pub taken : (at : ℕ) → (Gone at → ⊥) → IsTrue (has_slot old.space at) → IsTrue (has_slot new.space at)
   pub fresh : (at : ℕ) → (Gone at → ⊥) → IsSome (fresh_at old.blocks.draft at) → IsSome (fresh_at new.blocks.draft at)
-  pub only : (at : ℕ) → IsSome (fresh_at new.blocks.draft at) → IsSome (fresh_at old.blocks.draft at) ⊎ (IsTrue (is_free_slot old.space at) ⊎ Gone at)
+  pub only : (at : ℕ) → IsSome (fresh_at new.blocks.draft at) → IsSome (fresh_at old.blocks.draft at)
+      ⊎ (IsTrue (is_free_slot old.space at) ⊎ Gone at)

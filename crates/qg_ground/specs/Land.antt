@@ -15,8 +15,8 @@ pub record IsGround (land : Ground) : Type 0 where
   pub nodesize : land.blocks.draft.sizes.nodesize ≡ land.space.sizes.nodesize
   pub slots : land.blocks.draft.sizes.slots ≡ land.space.sizes.slots
 
--- a fresh node that a commit may write: it has a text and names its address, it has the generation to come, and it lies in a slot that
--- the present state has and the last commit has not
+-- a fresh node that a commit may write: it has a text and names its address, it has the generation to come, and it lies
+-- in a slot that the present state has and the last commit has not
 pub record IsDraftAt (space : Holding) (generation at : ℕ) (node : Node) : Type 0 where
   pub kept : IsNodeAt space.sizes.nodesize at node
   pub dated : (header_of node).generation ≡ generation
@@ -27,10 +27,11 @@ pub record IsDraftAt (space : Holding) (generation at : ℕ) (node : Node) : Typ
 -- nodes and space are of one image, and each fresh node is one that a commit may write
 pub record IsDrafted (land : Ground) (generation : ℕ) : Type 0 where
   pub sizes : IsGround land
-  pub each : (at : ℕ) (node : Node) → fresh_at land.blocks.draft at ≡ Some node → IsDraftAt land.space generation at node
+  pub each : (at : ℕ) (node : Node) → fresh_at land.blocks.draft at ≡ Some node
+      → IsDraftAt land.space generation at node
 
--- what a call leaves so, whatever it answers: clean nodes are those of the disk, fresh ones may be written, sizes and the bound on clean
--- nodes are as they were, and so are the runs of the present state and what the last commit holds
+-- what a call leaves so, whatever it answers: clean nodes are those of the disk, fresh ones may be written, sizes and
+-- the bound on clean nodes are as they were, and so are the runs of the present state and what the last commit holds
 pub record Rests (old new : Ground) (history : Option (List Event)) (generation : ℕ) : Type 0 where
   pub backed : IsBacked new.blocks history
   pub drafted : IsDrafted new generation

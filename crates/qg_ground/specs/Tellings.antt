@@ -1,4 +1,5 @@
--- What a tree tells the book of references, and what the book then does to nodes and space (this project's own). Addresses are in bytes.
+-- What a tree tells the book of references, and what the book then does to nodes and space (this project's own).
+-- Addresses are in bytes.
 use Rattle.std.specs.Prelude.{◌≡◌, ◌≢◌, ◌⊎◌, ℕ, false, List, [], Option, Some, None, IsSome, IsTrue}
 use Rattle.qg_device.specs.History.{Event}
 use Rattle.qg_node.specs.declared.node.Node.{Node}
@@ -8,8 +9,8 @@ use Rattle.qg_blocks.specs.Told.{fresh_at, told}
 use Rattle.qg_space.specs.Holding.{has_slot, is_free_slot, without_slot}
 use Rattle.qg_ground.specs.declared.ground.Ground.{Ground}
 
--- one thing that a book is told: a node, as it then stood, was copied to a slot; a node was made in a slot; the tree reaches a node, as
--- it then stood, no more
+-- one thing that a book is told: a node, as it then stood, was copied to a slot; a node was made in a slot; the tree
+-- reaches a node, as it then stood, no more
 pub data Telling : Type 0 where
   Copied : (node : Node) (copy : ℕ) → Telling
   Made : (address : ℕ) → Telling
@@ -29,7 +30,8 @@ IsCopyAt address node copy = (owner : ℕ) × (generation : ℕ) × (copy ≡ no
 pub record IsCopied (land : Ground) (history : Option (List Event)) (at copy : ℕ) : Type 0 where
   pub clean : fresh_at land.blocks.draft at ≡ None
   pub fresh : IsSome (fresh_at land.blocks.draft copy)
-  pub same : (node new : Node) → told land.blocks.draft history at ≡ Some node → fresh_at land.blocks.draft copy ≡ Some new → IsCopyAt copy node new
+  pub same : (node new : Node) → told land.blocks.draft history at ≡ Some node
+      → fresh_at land.blocks.draft copy ≡ Some new → IsCopyAt copy node new
 
 -- ---- what the book does
 
@@ -42,25 +44,29 @@ pub record TakesNone (old new : Ground) : Type 0 where
   pub draft : new.blocks.draft ≡ old.blocks.draft
   pub slots : new.space.slots ≡ old.space.slots
 
--- fresh nodes are as they were. Of the slots of the present state this one may have been given back, and no other is given or taken
+-- fresh nodes are as they were. Of the slots of the present state this one may have been given back, and no other is
+-- given or taken
 pub record GivesBack (old new : Ground) (at : ℕ) : Type 0 where
   pub draft : new.blocks.draft ≡ old.blocks.draft
   pub slots : MayLack at old.space.slots new.space.slots
 
--- nodes elsewhere are told as before, whatever a disk tells; a fresh node here may have been forgotten. Of the slots of the present state
--- this one may have been given back, and no other is given or taken
+-- nodes elsewhere are told as before, whatever a disk tells; a fresh node here may have been forgotten. Of the slots of
+-- the present state this one may have been given back, and no other is given or taken
 pub record LetsGo (old new : Ground) (at : ℕ) : Type 0 where
   pub here : (fresh_at new.blocks.draft at ≡ fresh_at old.blocks.draft at) ⊎ (fresh_at new.blocks.draft at ≡ None)
-  pub others : (history : Option (List Event)) (other : ℕ) → other ≢ at → told new.blocks.draft history other ≡ told old.blocks.draft history other
+  pub others : (history : Option (List Event)) (other : ℕ) → other ≢ at
+      → told new.blocks.draft history other ≡ told old.blocks.draft history other
   pub slots : MayLack at old.space.slots new.space.slots
 
 -- ---- what a tree does between two tellings
 
--- fresh nodes stay fresh, maybe edited, new ones lie in slots that were free, and slots may be taken. No other node and no run changes
+-- fresh nodes stay fresh, maybe edited, new ones lie in slots that were free, and slots may be taken. No other node and
+-- no run changes
 pub record Spares (old new : Ground) : Type 0 where
   pub sizes : new.blocks.draft.sizes ≡ old.blocks.draft.sizes
   pub fresh : (at : ℕ) → IsSome (fresh_at old.blocks.draft at) → IsSome (fresh_at new.blocks.draft at)
-  pub only : (at : ℕ) → IsSome (fresh_at new.blocks.draft at) → IsSome (fresh_at old.blocks.draft at) ⊎ IsTrue (is_free_slot old.space at)
+  pub only : (at : ℕ) → IsSome (fresh_at new.blocks.draft at) → IsSome (fresh_at old.blocks.draft at)
+      ⊎ IsTrue (is_free_slot old.space at)
   pub taken : (at : ℕ) → IsTrue (has_slot old.space at) → IsTrue (has_slot new.space at)
   pub space : new.space ≡ record old.space { slots = new.space.slots }
 
@@ -75,12 +81,14 @@ pub record KeepsLevels (old new : Ground) : Type 0 where
 abbrev pub HoldsNothing : Node → Type 0
 HoldsNothing node = (own_items node ≡ []) × (own_pointers node ≡ [])
 
--- a fresh node, which names its own address, was emptied before it is left, and is then of any level. Nodes are fresh where nodes were, each
--- other one of the level that the one before had, and space is as it was
+-- a fresh node, which names its own address, was emptied before it is left, and is then of any level. Nodes are fresh
+-- where nodes were, each other one of the level that the one before had, and space is as it was
 pub record Empties (old new : Ground) (at : ℕ) : Type 0 where
   pub space : new.space ≡ old.space
   pub sizes : new.blocks.draft.sizes ≡ old.blocks.draft.sizes
   pub each : (q : ℕ) (node : Node) → fresh_at new.blocks.draft q ≡ Some node
-      → (was : Node) × (fresh_at old.blocks.draft q ≡ Some was) × (((header_of was).level ≡ (header_of node).level) ⊎ ((q ≡ at) × HoldsNothing node))
+      → (was : Node) × (fresh_at old.blocks.draft q ≡ Some was)
+      × (((header_of was).level ≡ (header_of node).level) ⊎ ((q ≡ at) × HoldsNothing node))
   pub stays : (q : ℕ) → IsSome (fresh_at old.blocks.draft q) → IsSome (fresh_at new.blocks.draft q)
-  pub here : (node : Node) × (fresh_at new.blocks.draft at ≡ Some node) × HoldsNothing node × ((header_of node).address ≡ at)
+  pub here : (node : Node) × (fresh_at new.blocks.draft at ≡ Some node) × HoldsNothing node
+      × ((header_of node).address ≡ at)

@@ -20,8 +20,8 @@ use qg_node::Node;
 use qg_num::{Address, BlockFault, Steps};
 use std::sync::ledger::Ledger;
 
-/// Puts a new node into a free slot, whatever address it names, and tells the book. The answer is its address, in bytes. The node has a
-/// text, and the generation to come.
+/// Puts a new node into a free slot, whatever address it names, and tells the book. The answer is its address, in
+/// bytes. The node has a text, and the generation to come.
 pub fn make_node<D: Disk, L: Ledger, B: Book<D, L>>(
     land: &mut Ground,
     disk: &mut D,
@@ -34,9 +34,11 @@ pub fn make_node<D: Disk, L: Ledger, B: Book<D, L>>(
     requires stands { B.stands book.old land.old disk.old }
     ensures made { IfOk result (λ now. Makes land.old land.new now node) }
     ensures takes { OnOk result (Takes 1 (λ q. ⊥) land.old land.new) }
-    ensures rests { LeavesBe land.old land.new (D.history disk.old) (D.history disk.new) (D.size disk.old) (D.size disk.new)
+    ensures rests { LeavesBe land.old land.new (D.history disk.old) (D.history disk.new) (D.size disk.old)
+        (D.size disk.new)
         (header_of node).generation }
-    ensures told { (before : B) (log : List Telling) → B.follows before log book.old → IfOk result (λ now. B.follows before (log ++ Made now ∷ []) book.new) }
+    ensures told { (before : B) (log : List Telling) → B.follows before log book.old
+        → IfOk result (λ now. B.follows before (log ++ Made now ∷ []) book.new) }
     ensures book { KeepsBook B.stands B.settled book.old book.new land.old land.new disk.old disk.new result }
     ensures fails { FailsByDisk (D.history disk.old) (D.faults disk.old) (D.faults disk.new) result }
     ensures reads { (most : ℕ) → ((q : ℕ) → B.to_read book.old q ≤ most) → reads.new ≤ reads.old + most }
@@ -59,13 +61,18 @@ pub fn leave_node<D: Disk, L: Ledger, B: Book<D, L>>(
     requires backed { IsBacked land.old.blocks (D.history disk.old) }
     requires stands { B.stands book.old land.old disk.old }
     ensures gone { OnOk result (LetsGo land.old land.new at) }
-    ensures takes { (generation : ℕ) → IsDrafted land.old generation → OnOk result (Takes 0 (λ q. q ≡ at) land.old land.new) }
-    ensures rests { (generation : ℕ) → IsDrafted land.old generation → Rests land.old land.new (D.history disk.new) generation }
+    ensures takes { (generation : ℕ) → IsDrafted land.old generation
+        → OnOk result (Takes 0 (λ q. q ≡ at) land.old land.new) }
+    ensures rests { (generation : ℕ) → IsDrafted land.old generation
+        → Rests land.old land.new (D.history disk.new) generation }
     ensures told { (node : NodeValue) → told land.old.blocks.draft (D.history disk.old) at ≡ Some node
-        → (before : B) (log : List Telling) → B.follows before log book.old → OnOk result (B.follows before (log ++ Left node ∷ []) book.new) }
+        → (before : B) (log : List Telling) → B.follows before log book.old
+        → OnOk result (B.follows before (log ++ Left node ∷ []) book.new) }
     ensures stands { OnOk result (B.stands book.new land.new disk.new) }
-    ensures settled { (before : Land) → Empties before land.old at → B.settled book.old before disk.old → OnOk result (B.settled book.new land.new disk.new) }
-    ensures answers { (events : List Event) → D.history disk.old ≡ Some events → Answers result at (found land.old.blocks.draft (content events) at) }
+    ensures settled { (before : Land) → Empties before land.old at → B.settled book.old before disk.old
+        → OnOk result (B.settled book.new land.new disk.new) }
+    ensures answers { (events : List Event) → D.history disk.old ≡ Some events
+        → Answers result at (found land.old.blocks.draft (content events) at) }
     ensures disk { (D.history disk.new ≡ D.history disk.old) × (D.size disk.new ≡ D.size disk.old) }
     ensures cause { HasCause BlockFault.Disk (D.faults disk.old) (D.faults disk.new) result }
     ensures reads { reads.new ≤ reads.old + (1 + B.to_read book.old at) }

@@ -1,5 +1,6 @@
 // A node that a tree may edit.
-ghost use Rattle.std.specs.Prelude.{◌≡◌, ◌+◌, ◌≤◌, false, ℕ, List, [], ◌∷◌, ◌++◌, Option, Some, None, Ok, IfOk, OnOk, IsSome, is_some, if◌then◌else◌};
+ghost use Rattle.std.specs.Prelude.{◌≡◌, ◌+◌, ◌≤◌, false, ℕ, List, [], ◌∷◌, ◌++◌, Option, Some, None, Ok, IfOk, OnOk};
+ghost use Rattle.std.specs.Prelude.{IsSome, is_some, if◌then◌else◌};
 ghost use Rattle.qg_node.specs.declared.node.Node.{Node as NodeValue};
 ghost use Rattle.qg_node.specs.Nodes.{header_of};
 ghost use Rattle.qg_image.specs.Table.{with_number};
@@ -50,7 +51,8 @@ fn copy_node(
     }
 }
 
-/// Reads the node at an address and copies it to a free slot, where the copy is fresh. After an `Err` the slot may be taken.
+/// Reads the node at an address and copies it to a free slot, where the copy is fresh. After an `Err` the slot may be
+/// taken.
 fn copy_out<D: Disk, L: Ledger>(
     alloc: Global,
     land: &mut Ground,
@@ -65,7 +67,8 @@ fn copy_out<D: Disk, L: Ledger>(
     ensures copied { IfOk result (λ now. Copies land.old land.new (D.history disk.old) at now owner next) }
     ensures slots { IfOk result (λ now. land.new.space.slots ≡ with_number now land.old.space.slots) }
     ensures spares { Spares land.old land.new }
-    ensures rests { LeavesBe land.old land.new (D.history disk.old) (D.history disk.new) (D.size disk.old) (D.size disk.new) next }
+    ensures rests { LeavesBe land.old land.new (D.history disk.old) (D.history disk.new) (D.size disk.old)
+        (D.size disk.new) next }
     ensures fails { FailsToRead land.old (D.history disk.old) at (D.faults disk.old) (D.faults disk.new) result }
     ensures reads { reads.new ≡ reads.old + 1 }
 {
@@ -74,9 +77,10 @@ fn copy_out<D: Disk, L: Ledger>(
     Ok(put_node(land, copy)?)
 }
 
-/// Where a tree may edit the node at an address, in bytes. A fresh node is edited where it lies, and nothing changes. Any other is read
-/// and copied to a free slot; the copy is fresh, has the tree `owner` as owner and the generation `next` to come, and the book is told. A
-/// node that was read from the free slot that its copy takes is told as one that is made, since nothing refers to it.
+/// Where a tree may edit the node at an address, in bytes. A fresh node is edited where it lies, and nothing changes.
+/// Any other is read and copied to a free slot; the copy is fresh, has the tree `owner` as owner and the generation
+/// `next` to come, and the book is told. A node that was read from the free slot that its copy takes is told as one
+/// that is made, since nothing refers to it.
 ///
 /// `Image` comes only where a rule is broken at `at`, and `Disk` only where the disk's count rose.
 pub fn own_node<D: Disk, L: Ledger, B: Book<D, L>>(
@@ -95,18 +99,21 @@ pub fn own_node<D: Disk, L: Ledger, B: Book<D, L>>(
     // What is edited, and what of slots, nodes and disk is as it was.
     ensures owned { IfOk result (λ now. Owned land.old land.new (D.history disk.old) at now owner next) }
     ensures takes { OnOk result (Takes 1 (λ q. q ≡ at) land.old land.new) }
-    ensures rests { LeavesBe land.old land.new (D.history disk.old) (D.history disk.new) (D.size disk.old) (D.size disk.new) next }
+    ensures rests { LeavesBe land.old land.new (D.history disk.old) (D.history disk.new) (D.size disk.old)
+        (D.size disk.new) next }
 
     // What the book is told.
     ensures same { IsSome (fresh_at land.old.blocks.draft at) → (result ≡ Ok at) × (book.new ≡ book.old) }
-    ensures told { (node : NodeValue) → told land.old.blocks.draft (D.history disk.old) at ≡ Some node → fresh_at land.old.blocks.draft at ≡ None
+    ensures told { (node : NodeValue) → told land.old.blocks.draft (D.history disk.old) at ≡ Some node
+        → fresh_at land.old.blocks.draft at ≡ None
         → is_free_slot land.old.space at ≡ false → (before : B) (log : List Telling) → B.follows before log book.old
         → IfOk result (λ now. B.follows before (log ++ Copied node now ∷ []) book.new) }
     ensures book { KeepsBook B.stands B.settled book.old book.new land.old land.new disk.old disk.new result }
 
     // Answers have their causes.
     ensures fails { FailsToRead land.old (D.history disk.old) at (D.faults disk.old) (D.faults disk.new) result }
-    ensures reads { reads.new ≤ reads.old + (if is_some (fresh_at land.old.blocks.draft at) then 0 else 1 + B.to_read book.old at) }
+    ensures reads { reads.new ≤ reads.old + (if is_some (fresh_at land.old.blocks.draft at) then 0 else 1
+        + B.to_read book.old at) }
 {
     if land.blocks.is_fresh(at) {
         return Ok(at);

@@ -41,15 +41,16 @@ fn node_at(node: Node, address: Address) -> Node
     }
 }
 
-/// Puts a node into a free slot, where it is fresh. The answer is its address. After an `Err` the slot may be taken, and nodes are as
-/// they were.
+/// Puts a node into a free slot, where it is fresh. The answer is its address. After an `Err` the slot may be taken,
+/// and nodes are as they were.
 pub(crate) fn put_node(land: &mut Ground, node: Node) -> Result<Address, NoMemory>
     requires { 0 < free_slots land.old.space }
     ensures made { IfOk result (λ now. Makes land.old land.new now node) }
     ensures err { OnErr result (land.new.blocks ≡ land.old.blocks) }
     ensures spares { Spares land.old land.new }
     ensures bound { land.new.blocks.bound ≡ land.old.blocks.bound }
-    ensures backed { (history : Option (List Event)) → IsBacked land.old.blocks history → IsBacked land.new.blocks history }
+    ensures backed { (history : Option (List Event)) → IsBacked land.old.blocks history
+        → IsBacked land.new.blocks history }
 {
     let slot = take_slot(&mut land.space)?;
     land.blocks.put_fresh(node_at(node, slot))?;

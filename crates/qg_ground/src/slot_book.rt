@@ -9,8 +9,8 @@ use qg_space::Space;
 use std::marker::Model;
 use std::sync::ledger::Ledger;
 
-/// The book of a tree whose nodes no other tree reaches (this project's own): a node that is copied or left is gone, and its slot is
-/// given back. It counts what it is told.
+/// The book of a tree whose nodes no other tree reaches (this project's own): a node that is copied or left is gone,
+/// and its slot is given back. It counts what it is told.
 #[derive(Drop)]
 pub struct SlotBook {
     told: u64,

@@ -1,5 +1,6 @@
 -- The hierarchy and the limits agree with a quota.
-use Rattle.std.proofs.Common.{◌≡◌, ℕ, ◌<◌, Bool, false, List, [], ◌∷◌, length, map, take, get_or, ◌+◌, ◌++◌, Option, Some, None, refl, sym, ap, subst, ◌∙◌, inl, inr}
+use Rattle.std.proofs.Common.{◌≡◌, ℕ, ◌<◌, Bool, false, List, [], ◌∷◌, length, map, take, get_or, ◌+◌, ◌++◌, Option}
+use Rattle.std.proofs.Common.{Some, None, refl, sym, ap, subst, ◌∙◌, inl, inr}
 use Rattle.std.specs.Prelude.{is_err, is_some, OnOk, Result, Ok, Err}
 use Rattle.std.specs.Bool.{then_some}
 use Rattle.std.specs.List.Sorted.{IsStrictlySortedBy}
@@ -26,7 +27,8 @@ use Rattle.qg_groups.proofs.Limits.{limit-in, limits-found, limits-left, limits-
 use Rattle.qg_groups.proofs.Tables.{key-found, keys-made, keys-still, next-front, none-before}
 
 -- where no refusal holds, a call can fail for want of memory alone
-pub only-memory : (cause : Option HierFault) (fault : HierFault) → cause ≡ None → IsCause cause fault → fault ≡ why.NoMemory
+pub only-memory : (cause : Option HierFault) (fault : HierFault) → cause ≡ None → IsCause cause fault
+    → fault ≡ why.NoMemory
 only-memory cause fault none is = elim is [
   | inl memory ↦ memory
   | inr some ↦ absurd (none_some (sym none ∙ some))
@@ -53,7 +55,8 @@ module _ (state : QuotaState) (quota : Quota) where
 -- a quota by its two lists
 pub quota-by : (made quota : Quota) → made.groups ≡ quota.groups → made.pairs ≡ quota.pairs → made ≡ quota
 quota-by made quota groups pairs =
-    ap (λ (g : List (ℕ × Group)). record { groups = g; pairs = made.pairs }) groups ∙ ap (λ (p : List (ℕ × ℕ)). record { groups = quota.groups; pairs = p }) pairs
+    ap (λ (g : List (ℕ × Group)). record { groups = g; pairs = made.pairs }) groups
+    ∙ ap (λ (p : List (ℕ × ℕ)). record { groups = quota.groups; pairs = p }) pairs
 
 -- groups ascend
 pub groups-ascend : (state : QuotaState) → IsTracked state → IsStrictlySortedBy nat_cmp (keys_of state.quota.groups)
@@ -72,22 +75,28 @@ ok-then (Err e) P Q so holds = tt
 -- ---- what is made anew
 
 -- the numbers so far with the next one
-pub keys-next : (groups : List (ℕ × Group)) (i : ℕ) (one : ℕ × Group) → IsStrictlySortedBy nat_cmp (keys_of groups) → i < length groups → one ≡ get_or groups i one
+pub keys-next : (groups : List (ℕ × Group)) (i : ℕ) (one : ℕ × Group) → IsStrictlySortedBy nat_cmp (keys_of groups)
+    → i < length groups → one ≡ get_or groups i one
     → with_number one.0 (keys_of (take i groups)) ≡ keys_of (take (i + 1) groups)
 keys-next groups i one ascend inside is =
-    ap (λ (h : Hierarchy). h.groups) (sym (hierarchy_created one.0 one.1 (record { groups = take i groups; pairs = [] })))
+    ap (λ (h : Hierarchy). h.groups)
+    (sym (hierarchy_created one.0 one.1 (record { groups = take i groups; pairs = [] })))
     ∙ ap (λ (front : List (ℕ × Group)). keys_of front) (next-front groups i one ascend inside is)
 
 -- the next group isn't there yet
-pub free-create : (groups : List (ℕ × Group)) (i : ℕ) (one : ℕ × Group) (hierarchy : Hierarchy) → IsStrictlySortedBy nat_cmp (keys_of groups) → i < length groups
+pub free-create : (groups : List (ℕ × Group)) (i : ℕ) (one : ℕ × Group) (hierarchy : Hierarchy)
+    → IsStrictlySortedBy nat_cmp (keys_of groups) → i < length groups
     → one ≡ get_or groups i one → hierarchy.groups ≡ keys_of (take i groups) → create_fault hierarchy one.0 ≡ None
 free-create groups i one hierarchy ascend inside is made =
     ap (λ (b : Bool). then_some b why.GroupThere)
-    (ap (λ (ks : List ℕ). has_number one.0 ks) made ∙ key-found one.0 (take i groups) ∙ ap (λ (o : Option Group). is_some o) (none-before groups i one ascend inside is))
+    (ap (λ (ks : List ℕ). has_number one.0 ks) made ∙ key-found one.0 (take i groups)
+    ∙ ap (λ (o : Option Group). is_some o) (none-before groups i one ascend inside is))
 
 -- one subvolume's group more
-pub made-next : (subs : List (ℕ × ℕ)) (stamp i : ℕ) (one : ℕ × ℕ) (made pushed : List (ℕ × Group)) (number : ℕ) (group : Group) → i < length subs → one ≡ get_or subs i one
-    → made ≡ map (λ sub. (sub, new_group stamp)) (keys_of (take i subs)) → pushed ≡ made ++ (number, group) ∷ [] → number ≡ one.0 → group ≡ new_group stamp
+pub made-next : (subs : List (ℕ × ℕ)) (stamp i : ℕ) (one : ℕ × ℕ) (made pushed : List (ℕ × Group)) (number : ℕ)
+    (group : Group) → i < length subs → one ≡ get_or subs i one
+    → made ≡ map (λ sub. (sub, new_group stamp)) (keys_of (take i subs)) → pushed ≡ made ++ (number, group) ∷ []
+    → number ≡ one.0 → group ≡ new_group stamp
     → pushed ≡ map (λ sub. (sub, new_group stamp)) (keys_of (take (i + 1) subs))
 made-next subs stamp i one made pushed number group inside is before push numbered new =
     let f : ℕ → ℕ × Group = λ sub. (sub, new_group stamp) in
@@ -104,7 +113,8 @@ numbers-made stamp [] = refl
 numbers-made stamp (n ∷ numbers) = ap (λ (ns : List ℕ). n ∷ ns) (numbers-made stamp numbers)
 
 -- groups that ascend are sound without relations
-pub sound-alone : (stamp : ℕ) (numbers : List ℕ) → IsStrictlySortedBy nat_cmp numbers → IsSound (hierarchy_of (quota_for stamp numbers))
+pub sound-alone : (stamp : ℕ) (numbers : List ℕ) → IsStrictlySortedBy nat_cmp numbers
+    → IsSound (hierarchy_of (quota_for stamp numbers))
 unfolding IsStrictlySortedBy
 sound-alone stamp numbers ascend = record {
   groups = subst (λ (ns : List ℕ). IsStrictlySortedBy nat_cmp ns) (sym (numbers-made stamp numbers)) ascend;
@@ -118,51 +128,67 @@ sound-alone stamp numbers ascend = record {
 
 module _ (old new : QuotaState) (tracked : IsTracked old) where
   -- a group that was put among the others
-  pub tracked-put : (n : ℕ) (group : Group) → new.quota.groups ≡ with_value n group old.quota.groups → new.hierarchy ≡ created n old.hierarchy → new.quota.pairs ≡ new.hierarchy.pairs
+  pub tracked-put : (n : ℕ) (group : Group) → new.quota.groups ≡ with_value n group old.quota.groups
+      → new.hierarchy ≡ created n old.hierarchy → new.quota.pairs ≡ new.hierarchy.pairs
       → IsSound new.hierarchy → IsSetAt old.limits.maxima new.limits.maxima n (limits_in group) → IsTracked new
   tracked-put n group groups hierarchy pairs sound set =
       let made : Quota = with_group n group old.quota in
-      let above : new.hierarchy ≡ hierarchy_of made = hierarchy ∙ ap (λ (h : Hierarchy). created n h) tracked.same ∙ sym (hierarchy_created n group old.quota) in
+      let above : new.hierarchy ≡ hierarchy_of made = hierarchy ∙ ap (λ (h : Hierarchy). created n h) tracked.same
+      ∙ sym (hierarchy_created n group old.quota) in
       tracked-of new made (quota-by new.quota made groups (pairs ∙ ap (λ (h : Hierarchy). h.pairs) above)) above sound
-      (set-both-ways old.limits.maxima new.limits.maxima (limits_by old.quota.groups) (limits_by made.groups) n (limits_in group) tracked.limits set (limits-put n group old.quota.groups))
+      (set-both-ways old.limits.maxima new.limits.maxima (limits_by old.quota.groups) (limits_by made.groups) n
+      (limits_in group) tracked.limits set (limits-put n group old.quota.groups))
 
   -- a group that was taken away
-  pub tracked-left : (n : ℕ) → new.quota.groups ≡ without_key n old.quota.groups → new.hierarchy ≡ destroyed n old.hierarchy → new.quota.pairs ≡ new.hierarchy.pairs
+  pub tracked-left : (n : ℕ) → new.quota.groups ≡ without_key n old.quota.groups
+      → new.hierarchy ≡ destroyed n old.hierarchy → new.quota.pairs ≡ new.hierarchy.pairs
       → IsSound new.hierarchy → IsSetAt old.limits.maxima new.limits.maxima n no_maxima → IsTracked new
   tracked-left n groups hierarchy pairs sound set =
       let made : Quota = machine.destroyed n old.quota in
-      let above : new.hierarchy ≡ hierarchy_of made = hierarchy ∙ ap (λ (h : Hierarchy). destroyed n h) tracked.same ∙ sym (hierarchy_destroyed n old.quota) in
+      let above : new.hierarchy ≡ hierarchy_of made = hierarchy ∙ ap (λ (h : Hierarchy). destroyed n h) tracked.same
+      ∙ sym (hierarchy_destroyed n old.quota) in
       tracked-of new made (quota-by new.quota made groups (pairs ∙ ap (λ (h : Hierarchy). h.pairs) above)) above sound
-      (set-both-ways old.limits.maxima new.limits.maxima (limits_by old.quota.groups) (limits_by made.groups) n no_maxima tracked.limits set (limits-left n old.quota.groups))
+      (set-both-ways old.limits.maxima new.limits.maxima (limits_by old.quota.groups)
+      (limits_by made.groups) n no_maxima tracked.limits set (limits-left n old.quota.groups))
 
   -- a limit that was set
-  pub tracked-limited : (n : ℕ) (group : Group) (which : Which) (max : Option ℕ) → value_at n old.quota.groups ≡ Some group
-      → new.quota.groups ≡ with_value n (with_limit which max group) old.quota.groups → new.quota.pairs ≡ old.quota.pairs → new.hierarchy ≡ old.hierarchy
+  pub tracked-limited : (n : ℕ) (group : Group) (which : Which) (max : Option ℕ)
+      → value_at n old.quota.groups ≡ Some group
+      → new.quota.groups ≡ with_value n (with_limit which max group) old.quota.groups
+      → new.quota.pairs ≡ old.quota.pairs → new.hierarchy ≡ old.hierarchy
       → HasMax old.limits new.limits n which max → IsTracked new
   tracked-limited n group which max found groups pairs hierarchy set =
       let made : Quota = with_group n (with_limit which max group) old.quota in
       let keys : keys_of made.groups ≡ keys_of old.quota.groups =
-      keys-still n (with_limit which max group) old.quota.groups tracked.sound.groups (ap (λ (o : Option Group). is_some o) found) in
-      let same : hierarchy_of old.quota ≡ hierarchy_of made = ap (λ (ks : List ℕ). record { groups = ks; pairs = old.quota.pairs }) (sym keys) in
+      keys-still n (with_limit which max group) old.quota.groups tracked.sound.groups
+      (ap (λ (o : Option Group). is_some o) found) in
+      let same : hierarchy_of old.quota ≡ hierarchy_of made =
+      ap (λ (ks : List ℕ). record { groups = ks; pairs = old.quota.pairs }) (sym keys) in
       let both : with_max which max (maxima_of old.limits n) ≡ limits_in (with_limit which max group) =
-      ap (λ (x : Maxima). with_max which max x) (tracked.limits n ∙ limits-found old.quota.groups n group found) ∙ sym (limit-in which max group) in
+      ap (λ (x : Maxima). with_max which max x) (tracked.limits n ∙ limits-found old.quota.groups n group found)
+      ∙ sym (limit-in which max group) in
       let set_all : IsSetAt old.limits.maxima new.limits.maxima n (limits_in (with_limit which max group)) =
       subst (λ (x : Maxima). IsSetAt old.limits.maxima new.limits.maxima n x) both set in
       let above : new.hierarchy ≡ hierarchy_of made = hierarchy ∙ tracked.same ∙ same in
-      tracked-of new made (quota-by new.quota made groups pairs) above (subst (λ (h : Hierarchy). IsSound h) (same ∙ sym above) tracked.sound)
-      (set-both-ways old.limits.maxima new.limits.maxima (limits_by old.quota.groups) (limits_by made.groups) n (limits_in (with_limit which max group)) tracked.limits set_all
+      tracked-of new made (quota-by new.quota made groups pairs) above
+      (subst (λ (h : Hierarchy). IsSound h) (same ∙ sym above) tracked.sound)
+      (set-both-ways old.limits.maxima new.limits.maxima (limits_by old.quota.groups) (limits_by made.groups) n
+      (limits_in (with_limit which max group)) tracked.limits set_all
       (limits-put n (with_limit which max group) old.quota.groups))
 
   -- quota that was counted anew
-  pub tracked-recounted : IsRecounted old.quota new.quota → new.hierarchy ≡ old.hierarchy → SameMaxima old.limits new.limits → IsTracked new
+  pub tracked-recounted : IsRecounted old.quota new.quota → new.hierarchy ≡ old.hierarchy
+      → SameMaxima old.limits new.limits → IsTracked new
   tracked-recounted counted hierarchy same =
       let keys : keys_of new.quota.groups ≡ keys_of old.quota.groups =
-      sym (keys-made limits_in new.quota.groups) ∙ ap (λ (t : List (ℕ × Maxima)). keys_of t) counted.limits ∙ keys-made limits_in old.quota.groups in
+      sym (keys-made limits_in new.quota.groups) ∙ ap (λ (t : List (ℕ × Maxima)). keys_of t) counted.limits
+      ∙ keys-made limits_in old.quota.groups in
       let above : hierarchy_of old.quota ≡ hierarchy_of new.quota =
       ap (λ (ks : List ℕ). record { groups = ks; pairs = old.quota.pairs }) (sym keys)
       ∙ ap (λ (ps : List (ℕ × ℕ)). record { groups = keys_of new.quota.groups; pairs = ps }) (sym counted.pairs) in
       record {
         sound = subst (λ (h : Hierarchy). IsSound h) above tracked.sound;
         same = hierarchy ∙ tracked.same ∙ above;
-        limits = λ group. same group ∙ tracked.limits group ∙ ap (λ (t : List (ℕ × Maxima)). maxima_at t group) (sym counted.limits);
+        limits = λ group. same group ∙ tracked.limits group
+            ∙ ap (λ (t : List (ℕ × Maxima)). maxima_at t group) (sym counted.limits);
       }

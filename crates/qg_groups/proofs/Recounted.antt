@@ -40,7 +40,8 @@ recounted-self (Some quota) = record { limits = refl; pairs = refl }
 -- the numbers of the groups stay
 pub keys-recounted : (old new : Quota) → IsRecounted old new → keys_of new.groups ≡ keys_of old.groups
 keys-recounted old new counted =
-    sym (keys-made limits_in new.groups) ∙ ap (λ (table : List (ℕ × Maxima)). keys_of table) counted.limits ∙ keys-made limits_in old.groups
+    sym (keys-made limits_in new.groups) ∙ ap (λ (table : List (ℕ × Maxima)). keys_of table) counted.limits
+    ∙ keys-made limits_in old.groups
 
 pairs-same : (old new : Quota) → IsRecounted old new → new.pairs ≡ old.pairs
 pairs-same old new counted = counted.pairs
@@ -59,7 +60,8 @@ pairs-recounted (Some old) None same = absurd same
 pairs-recounted (Some old) (Some new) same = pairs-same old new same
 
 -- a command of quota is refused for the same
-still : (old new : Quota) (live : List ℕ) (given : Command) → keys_of new.groups ≡ keys_of old.groups → new.pairs ≡ old.pairs
+still : (old new : Quota) (live : List ℕ) (given : Command) → keys_of new.groups ≡ keys_of old.groups
+    → new.pairs ≡ old.pairs
     → change_refusal (Some new) live given ≡ change_refusal (Some old) live given
 still old new live command.QuotaOn keys pairs = refl
 still old new live command.QuotaOff keys pairs = refl
@@ -76,13 +78,16 @@ still old new live (command.GroupDestroy group) keys pairs =
     ∷ refuse (list_any (λ pair. pair.1 == group) ps || has_number group live) why.Busy ∷ [])) pairs
 still old new live (command.Assign member parent) keys pairs =
     ap (λ (ks : List ℕ). first_some
-    (None ∷ refuse (not (nat_lt (level_of_group member) (level_of_group parent))) why.Level ∷ refuse (not (has_number member ks)) why.NoGroup
+    (None ∷ refuse (not (nat_lt (level_of_group member) (level_of_group parent))) why.Level
+    ∷ refuse (not (has_number member ks)) why.NoGroup
     ∷ refuse (not (has_number parent ks)) why.NoGroup ∷ refuse (has_pair member parent new.pairs) why.Related
     ∷ refuse (nat_le most_relations (length new.pairs)) why.TooMany ∷ [])) keys
     ∙ ap (λ (ps : List (ℕ × ℕ)). first_some
     (None ∷ refuse (not (nat_lt (level_of_group member) (level_of_group parent))) why.Level
-    ∷ refuse (not (has_number member (keys_of old.groups))) why.NoGroup ∷ refuse (not (has_number parent (keys_of old.groups))) why.NoGroup
-    ∷ refuse (has_pair member parent ps) why.Related ∷ refuse (nat_le most_relations (length ps)) why.TooMany ∷ [])) pairs
+    ∷ refuse (not (has_number member (keys_of old.groups))) why.NoGroup
+    ∷ refuse (not (has_number parent (keys_of old.groups))) why.NoGroup
+    ∷ refuse (has_pair member parent ps) why.Related ∷ refuse (nat_le most_relations (length ps)) why.TooMany ∷ []))
+    pairs
 still old new live (command.Remove member parent) keys pairs =
     ap (λ (ps : List (ℕ × ℕ)). first_some (None ∷ refuse (not (has_pair member parent ps)) why.NotRelated ∷ [])) pairs
 still old new live (command.Limit group which max) keys pairs =
@@ -94,4 +99,5 @@ pub refusal-recounted : (old new : Option Quota) (live : List ℕ) (given : Comm
 refusal-recounted None None live given same = refl
 refusal-recounted None (Some new) live given same = absurd same
 refusal-recounted (Some old) None live given same = absurd same
-refusal-recounted (Some old) (Some new) live given same = still old new live given (keys-recounted old new same) (pairs-same old new same)
+refusal-recounted (Some old) (Some new) live given same = still old new live given (keys-recounted old new same)
+    (pairs-same old new same)

@@ -1,5 +1,6 @@
 -- When commands of quota are refused and what they change, by quota alone and as the machine has it.
-use Rattle.std.proofs.Common.{◌≡◌, ℕ, Bool, true, false, List, [], ◌∷◌, ◌++◌, Option, Some, None, refl, sym, ap, length, nat_lt}
+use Rattle.std.proofs.Common.{◌≡◌, ℕ, Bool, true, false, List, [], ◌∷◌, ◌++◌, Option, Some, None, refl, sym, ap, length}
+use Rattle.std.proofs.Common.{nat_lt}
 use Rattle.std.specs.Prelude.{◌||◌, ◌==◌, not, nat_le}
 use Rattle.std.specs.Bool.{then_some}
 use Rattle.std.specs.List.{list_any}
@@ -23,14 +24,16 @@ use Rattle.qg_machine.specs.Step.{Changes, with_quota}
 use Rattle.qg_hier.specs.declared.fault.HierFault.TheVariants as fault
 use Rattle.qg_hier.specs.Faults.{no_group}
 use Rattle.qg_hier.specs.Groups.{has_members, has_number}
-use Rattle.qg_groups.specs.Changing.{change_fault, change_refusal, change_refusals, group_changed, groups_in, is_group_change, is_group_command, pairs_in}
+use Rattle.qg_groups.specs.Changing.{change_fault, change_refusal, change_refusals, group_changed, groups_in}
+use Rattle.qg_groups.specs.Changing.{is_group_change, is_group_command, pairs_in}
 use Rattle.qg_groups.specs.OnOrOff.{quota_changed}
 use Rattle.qg_groups.proofs.Tables.{key-found}
 
 -- ---- a command that isn't refused finds no fault
 
 -- none of some holds exactly if the first doesn't, nor any behind it
-pub none-of : {A : Type 0} (o : Option A) (rest : List (Option A)) → first_some (o ∷ rest) ≡ None → (o ≡ None) × (first_some rest ≡ None)
+pub none-of : {A : Type 0} (o : Option A) (rest : List (Option A)) → first_some (o ∷ rest) ≡ None
+    → (o ≡ None) × (first_some rest ≡ None)
 none-of None rest none = (refl, none)
 none-of (Some x) rest none = absurd (some_none none) where
   some_none : Some x ≡ None → ⊥
@@ -56,7 +59,8 @@ one_answer false b x y none = refl
 first_two : {A : Type 0} (o p : Option A) → o ≡ None → p ≡ None → first_some (o ∷ p ∷ []) ≡ None
 first_two o p none other = rw (none, other) refl
 
-first_four : {A : Type 0} (o p q r : Option A) → o ≡ None → p ≡ None → q ≡ None → r ≡ None → first_some (o ∷ p ∷ q ∷ r ∷ []) ≡ None
+first_four : {A : Type 0} (o p q r : Option A) → o ≡ None → p ≡ None → q ≡ None → r ≡ None
+    → first_some (o ∷ p ∷ q ∷ r ∷ []) ≡ None
 first_four o p q r a b c d = rw (a, b, c, d) refl
 
 -- the refusals of the quota that is on, and of a group that isn't there
@@ -66,12 +70,14 @@ missing quota group = refuse (not (has_number group (keys_of quota.groups))) why
 abbrev wrong_level : ℕ → ℕ → Option Refusal
 wrong_level member parent = refuse (not (nat_lt (level_of_group member) (level_of_group parent))) why.Level
 
-pub free-change : (quota : Quota) (live : List ℕ) (given : Command) → change_refusal (Some quota) live given ≡ None → change_fault (hierarchy_of quota) given ≡ None
+pub free-change : (quota : Quota) (live : List ℕ) (given : Command) → change_refusal (Some quota) live given ≡ None
+    → change_fault (hierarchy_of quota) given ≡ None
 free-change quota live (command.GroupCreate group) none =
     let there : Option Refusal = refuse (has_number group (keys_of quota.groups)) why.GroupThere in
     let many : Option Refusal = refuse (nat_le most_groups (length (keys_of quota.groups))) why.TooMany in
     let level = none-of (refuse (not (not (level_of_group group == 0))) why.Level) (there ∷ many ∷ []) none in
-    other_answer (has_number group (keys_of quota.groups)) why.GroupThere fault.GroupThere (none-of there (many ∷ []) level.1).0
+    other_answer (has_number group (keys_of quota.groups)) why.GroupThere fault.GroupThere
+    (none-of there (many ∷ []) level.1).0
 free-change quota live (command.GroupDestroy group) none =
     let members : Bool = has_members (hierarchy_of quota) group in
     let busy : Option Refusal = refuse (members || has_number group live) why.Busy in
@@ -82,15 +88,18 @@ free-change quota live (command.GroupDestroy group) none =
 free-change quota live (command.Assign member parent) none =
     let related : Option Refusal = refuse (has_pair member parent quota.pairs) why.Related in
     let many : Option Refusal = refuse (nat_le most_relations (length quota.pairs)) why.TooMany in
-    let level = none-of (wrong_level member parent) (missing quota member ∷ missing quota parent ∷ related ∷ many ∷ []) none in
+    let level = none-of (wrong_level member parent) (missing quota member ∷ missing quota parent ∷ related ∷ many ∷ [])
+    none in
     let below = none-of (missing quota member) (missing quota parent ∷ related ∷ many ∷ []) level.1 in
     let above = none-of (missing quota parent) (related ∷ many ∷ []) below.1 in
-    first_four (then_some (not (nat_lt (level_of_group member) (level_of_group parent))) fault.Level) (no_group (hierarchy_of quota) member) (no_group (hierarchy_of quota) parent)
+    first_four (then_some (not (nat_lt (level_of_group member) (level_of_group parent))) fault.Level)
+    (no_group (hierarchy_of quota) member) (no_group (hierarchy_of quota) parent)
     (then_some (has_pair member parent quota.pairs) fault.Related)
     (other_answer (not (nat_lt (level_of_group member) (level_of_group parent))) why.Level fault.Level level.0)
     (other_answer (not (has_number member (keys_of quota.groups))) why.NoGroup fault.NoGroup below.0)
     (other_answer (not (has_number parent (keys_of quota.groups))) why.NoGroup fault.NoGroup above.0)
-    (other_answer (has_pair member parent quota.pairs) why.Related fault.Related (none-of related (many ∷ []) above.1).0)
+    (other_answer (has_pair member parent quota.pairs) why.Related fault.Related
+    (none-of related (many ∷ []) above.1).0)
 free-change quota live (command.Remove member parent) none =
     let apart = none-of (refuse (not (has_pair member parent quota.pairs)) why.NotRelated) [] none in
     other_answer (not (has_pair member parent quota.pairs)) why.NotRelated fault.NotRelated apart.0
@@ -103,10 +112,12 @@ free-change quota live _ none = refl
 
 refused : (state : State) (quota : Option Quota) (given : Command) → is_group_command given ≡ true
     → refusal (record state { quota = quota }) given
-    ≡ first_some (change_refusals quota (keys_of state.subvolumes) given ++ no_commit (record state { quota = quota }) given ∷ [])
+    ≡ first_some (change_refusals quota (keys_of state.subvolumes) given
+    ++ no_commit (record state { quota = quota }) given ∷ [])
 unfolding refusal
 refused state None command.QuotaOn is =
-    ap (λ (n : ℕ). first_some (refuse (nat_lt most_groups n) why.TooMany ∷ no_commit (record state { quota = None }) command.QuotaOn ∷ []))
+    ap (λ (n : ℕ). first_some (refuse (nat_lt most_groups n) why.TooMany ∷ no_commit (record state { quota = None })
+    command.QuotaOn ∷ []))
     (sym (length-map state.subvolumes (λ (entry : ℕ × Subvolume). entry.0)))
 refused state (Some quota) command.QuotaOn is = refl
 refused state None command.QuotaOff is = refl
@@ -115,7 +126,8 @@ refused state None (command.GroupCreate group) is = refl
 refused state (Some quota) (command.GroupCreate group) is = refl
 refused state None (command.GroupDestroy group) is = refl
 refused state (Some quota) (command.GroupDestroy group) is =
-    ap (λ (b : Bool). first_some (missing quota group ∷ refuse (list_any (λ pair. pair.1 == group) quota.pairs || b) why.Busy
+    ap (λ (b : Bool). first_some (missing quota group ∷ refuse (list_any (λ pair. pair.1 == group) quota.pairs || b)
+    why.Busy
     ∷ no_commit (record state { quota = Some quota }) (command.GroupDestroy group) ∷ []))
     (sym (key-found group state.subvolumes))
 refused state None (command.Assign member parent) is = refl
@@ -128,7 +140,8 @@ refused state quota _ is = absurd (true≢false (sym is))
 
 -- a command of quota is refused by quota and the live subvolumes, and then by the room for its commit
 pub refusal-is : (state : State) (given : Command) → is_group_command given ≡ true
-    → refusal state given ≡ first_some (change_refusals state.quota (keys_of state.subvolumes) given ++ no_commit state given ∷ [])
+    → refusal state given ≡ first_some (change_refusals state.quota (keys_of state.subvolumes) given
+    ++ no_commit state given ∷ [])
 refusal-is state given is = refused state state.quota given is
 
 -- the groups and relations that there are
@@ -147,7 +160,8 @@ pairs-told state = told state.quota where
 -- ---- changes of the machine
 
 -- what the machine changes by a command of groups
-pub changes-by : (old : State) (given : Command) (reply : Answer) (new : State) → is_group_change given ≡ true → reply ≡ answer.Done
+pub changes-by : (old : State) (given : Command) (reply : Answer) (new : State) → is_group_change given ≡ true
+    → reply ≡ answer.Done
     → new ≡ with_quota old (group_changed (next_generation old) given) → Changes old given reply new
 changes-by old (command.GroupCreate group) reply new is done changed = (done, changed)
 changes-by old (command.GroupDestroy group) reply new is done changed = (done, changed)
@@ -157,8 +171,10 @@ changes-by old (command.Limit group which max) reply new is done changed = (done
 changes-by old _ reply new is done changed = absurd (true≢false (sym is))
 
 -- and by any command of quota
-pub changes-quota : (old : State) (given : Command) (reply : Answer) (new : State) → is_group_command given ≡ true → reply ≡ answer.Done
-    → new ≡ record old { quota = quota_changed (next_generation old) (keys_of old.subvolumes) given old.quota } → Changes old given reply new
+pub changes-quota : (old : State) (given : Command) (reply : Answer) (new : State) → is_group_command given ≡ true
+    → reply ≡ answer.Done
+    → new ≡ record old { quota = quota_changed (next_generation old) (keys_of old.subvolumes) given old.quota }
+    → Changes old given reply new
 changes-quota old command.QuotaOn reply new is done changed = (done, changed)
 changes-quota old command.QuotaOff reply new is done changed = (done, changed)
 changes-quota old (command.GroupCreate group) reply new is done changed = (done, changed)

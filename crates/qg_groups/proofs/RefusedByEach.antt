@@ -1,5 +1,6 @@
 -- Why commands of quota and lists of snapshots are refused, as it is looked for.
-use Rattle.std.proofs.Common.{◌≡◌, ℕ, ◌+◌, ◌<◌, Bool, true, false, List, [], ◌∷◌, Option, Some, None, refl, sym, ap, ◌∙◌, drop, get_or, length}
+use Rattle.std.proofs.Common.{◌≡◌, ℕ, ◌+◌, ◌<◌, Bool, true, false, List, [], ◌∷◌, Option, Some, None, refl, sym, ap}
+use Rattle.std.proofs.Common.{◌∙◌, drop, get_or, length}
 use Rattle.std.specs.Prelude.{◌||◌, ◌==◌, is_some, not}
 use Rattle.std.specs.List.{list_any}
 use Rattle.std.proofs.lemmas.Bool.{true≢false}
@@ -18,7 +19,8 @@ use Rattle.qg_groups.specs.OnOrOff.{parents_refusal, snap_refusal}
 -- ---- live subvolumes
 
 -- a number is among the keys exactly if some entry has it
-pub keys-any : {A : Type 0} (n : ℕ) (table : List (ℕ × A)) → has_number n (keys_of table) ≡ list_any (λ entry. entry.0 == n) table
+pub keys-any : {A : Type 0} (n : ℕ) (table : List (ℕ × A))
+    → has_number n (keys_of table) ≡ list_any (λ entry. entry.0 == n) table
 keys-any n [] = refl
 keys-any n (entry ∷ table) = ap (λ (b : Bool). (entry.0 == n) || b) (keys-any n table)
 
@@ -27,7 +29,8 @@ keys-any n (entry ∷ table) = ap (λ (b : Bool). (entry.0 == n) || b) (keys-any
 -- why one group of a list is refused, behind earlier ones
 abbrev pub parent_refusal : Quota → List ℕ → ℕ → Option Refusal
 parent_refusal quota earlier group = first_some
-    (refuse (not (not (level_of_group group == 0))) why.Level ∷ is_missing (Some quota) group ∷ refuse (has_number group earlier) why.Related ∷ [])
+    (refuse (not (not (level_of_group group == 0))) why.Level ∷ is_missing (Some quota) group
+    ∷ refuse (has_number group earlier) why.Related ∷ [])
 
 -- the first of two that is something
 abbrev behind : Option Refusal → Option Refusal → Option Refusal
@@ -38,7 +41,8 @@ pub last-is : (o : Option Refusal) → first_some (o ∷ []) ≡ o
 last-is None = refl
 last-is (Some x) = refl
 
-one-then : (a b c rest : Option Refusal) → first_some (a ∷ b ∷ c ∷ rest ∷ []) ≡ behind (first_some (a ∷ b ∷ c ∷ [])) rest
+one-then : (a b c rest : Option Refusal)
+    → first_some (a ∷ b ∷ c ∷ rest ∷ []) ≡ behind (first_some (a ∷ b ∷ c ∷ [])) rest
 one-then (Some x) b c rest = refl
 one-then None (Some x) c rest = refl
 one-then None None (Some x) rest = refl
@@ -57,9 +61,11 @@ same-earlier : (quota : Option Quota) (one other parents : List ℕ) → ((n : �
     → parents_refusal quota one parents ≡ parents_refusal quota other parents
 same-earlier quota one other [] same = refl
 same-earlier quota one other (group ∷ parents) same =
-    ap (λ (b : Bool). first_some (refuse (not (not (level_of_group group == 0))) why.Level ∷ is_missing quota group ∷ refuse b why.Related
+    ap (λ (b : Bool). first_some (refuse (not (not (level_of_group group == 0))) why.Level ∷ is_missing quota group
+    ∷ refuse b why.Related
     ∷ parents_refusal quota (group ∷ one) parents ∷ [])) (same group)
-    ∙ ap (λ (rest : Option Refusal). first_some (refuse (not (not (level_of_group group == 0))) why.Level ∷ is_missing quota group
+    ∙ ap (λ (rest : Option Refusal). first_some (refuse (not (not (level_of_group group == 0))) why.Level
+    ∷ is_missing quota group
     ∷ refuse (has_number group other) why.Related ∷ rest ∷ []))
     (same-earlier quota (group ∷ one) (group ∷ other) parents (λ n. ap (λ (b : Bool). (group == n) || b) (same n)))
 
@@ -68,10 +74,12 @@ module _ (quota : Quota) (earlier : List ℕ) where
   parents-then : (group : ℕ) (parents : List ℕ) → parents_refusal (Some quota) earlier (group ∷ parents)
       ≡ behind (parent_refusal quota earlier group) (parents_refusal (Some quota) (group ∷ earlier) parents)
   parents-then group parents =
-      one-then (refuse (not (not (level_of_group group == 0))) why.Level) (is_missing (Some quota) group) (refuse (has_number group earlier) why.Related)
+      one-then (refuse (not (not (level_of_group group == 0))) why.Level) (is_missing (Some quota) group)
+      (refuse (has_number group earlier) why.Related)
       (parents_refusal (Some quota) (group ∷ earlier) parents)
 
-  module _ (parents : List ℕ) (i one : ℕ) (refused : Option Refusal) (inside : i < length parents) (is : one ≡ get_or parents i one)
+  module _ (parents : List ℕ) (i one : ℕ) (refused : Option Refusal) (inside : i < length parents)
+      (is : one ≡ get_or parents i one)
       (told : refused ≡ parent_refusal quota earlier one) where
     -- what is left of the list begins with the next group
     rest-is : drop i parents ≡ one ∷ drop (i + 1) parents
@@ -82,7 +90,8 @@ module _ (quota : Quota) (earlier : List ℕ) where
     list-then =
         ap (λ (rest : List ℕ). parents_refusal (Some quota) earlier rest) rest-is
         ∙ parents-then one (drop (i + 1) parents)
-        ∙ ap (λ (o : Option Refusal). behind o (parents_refusal (Some quota) (one ∷ earlier) (drop (i + 1) parents))) (sym told)
+        ∙ ap (λ (o : Option Refusal). behind o (parents_refusal (Some quota) (one ∷ earlier) (drop (i + 1) parents)))
+        (sym told)
 
     -- where it is refused, so is the list
     pub parents-told : is_some refused ≡ true → refused ≡ parents_refusal (Some quota) earlier (drop i parents)
@@ -90,12 +99,15 @@ module _ (quota : Quota) (earlier : List ℕ) where
         sym (list-then ∙ behind-some refused (parents_refusal (Some quota) (one ∷ earlier) (drop (i + 1) parents)) some)
 
     -- and where it isn't, those behind it are looked at, with this one among the earlier
-    pub parents-next : (next : List ℕ) → is_some refused ≡ false → ((other : ℕ) → has_number other next ≡ ((one == other) || has_number other earlier))
-        → parents_refusal (Some quota) earlier (drop i parents) ≡ parents_refusal (Some quota) next (drop (i + 1) parents)
+    pub parents-next : (next : List ℕ) → is_some refused ≡ false
+        → ((other : ℕ) → has_number other next ≡ ((one == other) || has_number other earlier))
+        → parents_refusal (Some quota) earlier (drop i parents) ≡ parents_refusal (Some quota) next
+        (drop (i + 1) parents)
     parents-next next none more =
         list-then ∙ behind-none refused (parents_refusal (Some quota) (one ∷ earlier) (drop (i + 1) parents)) none
         ∙ same-earlier (Some quota) (one ∷ earlier) next (drop (i + 1) parents) (λ n. sym (more n))
 
 -- a snapshot's list is refused for its groups, while quota is on
-pub list-told : (quota : Quota) (parents : List ℕ) → snap_refusal (Some quota) parents ≡ parents_refusal (Some quota) [] parents
+pub list-told : (quota : Quota) (parents : List ℕ)
+    → snap_refusal (Some quota) parents ≡ parents_refusal (Some quota) [] parents
 list-told quota parents = last-is (parents_refusal (Some quota) [] parents)

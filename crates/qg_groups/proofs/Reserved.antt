@@ -1,5 +1,6 @@
 -- Reservations as commands ask for them, and what is held between two commits.
-use Rattle.std.proofs.Common.{◌≡◌, ℕ, ◌<◌, ◌≤◌, Bool, true, false, List, [], ◌∷◌, arith, Option, Some, None, refl, sym, ap, subst, ◌∙◌, inl, inr}
+use Rattle.std.proofs.Common.{◌≡◌, ℕ, ◌<◌, ◌≤◌, Bool, true, false, List, [], ◌∷◌, arith, Option, Some, None, refl, sym}
+use Rattle.std.proofs.Common.{ap, subst, ◌∙◌, inl, inr}
 use Rattle.std.specs.Prelude.{◌/◌, ◌⊎◌, ◌||◌, ◌&&◌, ◌==◌, nat_le, nat_lt, if◌then◌else◌}
 use Rattle.std.specs.Option.{option_map}
 use Rattle.std.proofs.lemmas.Bool.{and_parts, eqb-true, ltb-true}
@@ -39,14 +40,19 @@ level-lowest n number = elim (either (n == 5) (nat_le 256 n && nat_lt n 28147497
 ]
 
 -- a subvolume whose number is among the groups' has its group
-pub has-group : (quota : Quota) (sub : ℕ) → has_key sub quota.groups ≡ true → is_subvolume_number sub ≡ true → HasGroup quota sub
-has-group quota sub there number = record { there = key-found sub quota.groups ∙ there; level = level-lowest sub number }
+pub has-group : (quota : Quota) (sub : ℕ) → has_key sub quota.groups ≡ true → is_subvolume_number sub ≡ true
+    → HasGroup quota sub
+has-group quota sub there number = record {
+  there = key-found sub quota.groups ∙ there;
+  level = level-lowest sub number;
+}
 
 -- ---- why a reservation is refused
 
 module _ (state : State) (sub n : ℕ) where
   -- while quota is on, as the machine refuses it
-  pub refusal-told : (quota : Quota) (judged : Judged) → state.quota ≡ Some quota → over_in judged ≡ over quota state.pending sub n
+  pub refusal-told : (quota : Quota) (judged : Judged) → state.quota ≡ Some quota
+      → over_in judged ≡ over quota state.pending sub n
       → refusal_in judged ≡ over_limit state sub n
   refusal-told quota judged on is =
       ap (λ (found : Option (ℕ × Which)). option_map (λ one. why.Quota one.0 one.1) found) is
@@ -59,7 +65,8 @@ module _ (state : State) (sub n : ℕ) where
 -- ---- what is held
 
 -- a command that reserves nothing adds nothing
-pub holds-nothing : (state : QuotaState) (given : Accepted) (pending : List Accepted) → given.amount ≡ 0 → HoldsAll state pending
+pub holds-nothing : (state : QuotaState) (given : Accepted) (pending : List Accepted) → given.amount ≡ 0
+    → HoldsAll state pending
     → HoldsAll state (given ∷ pending)
 holds-nothing state given pending none holds group =
     let more = reserved-more (hierarchy_of state.quota) given pending group in
@@ -79,5 +86,6 @@ module _ (state : QuotaState) where
   bound-more bound more le most group = omega (arith, le, most group)
 
 -- as much is held as before
-pub bound-still : (old new : QuotaState) (bound : ℕ) → SameHeld old.limits new.limits → HoldsAtMost bound old → HoldsAtMost bound new
+pub bound-still : (old new : QuotaState) (bound : ℕ) → SameHeld old.limits new.limits → HoldsAtMost bound old
+    → HoldsAtMost bound new
 bound-still old new bound same most group = omega (arith, same group, most group)

@@ -1,6 +1,7 @@
--- What commands change of quota groups, and when they are refused, by quota alone (btrfs-qgroup(8); the order of refusals is this project's
--- own).
-use Rattle.std.specs.Prelude.{◌≡◌, ℕ, ◌<◌, not, ◌||◌, ◌==◌, List, [], ◌∷◌, length, Option, Some, None, is_some, IsTrue, Bool, false, true, nat_le, nat_lt}
+-- What commands change of quota groups, and when they are refused, by quota alone (btrfs-qgroup(8); the order of
+-- refusals is this project's own).
+use Rattle.std.specs.Prelude.{◌≡◌, ℕ, ◌<◌, not, ◌||◌, ◌==◌, List, [], ◌∷◌, length, Option, Some, None, is_some, IsTrue}
+use Rattle.std.specs.Prelude.{Bool, false, true, nat_le, nat_lt}
 use Rattle.std.specs.List.{All, IsDistinct, list_any}
 use Rattle.qg_num.specs.declared.command.Command.{Command}
 use Rattle.qg_num.specs.declared.command.Command.TheVariants as command
@@ -19,8 +20,8 @@ use Rattle.qg_hier.specs.Groups.{has_number, is_kept}
 
 -- ---- changes
 
--- quota after a command of groups that is done in this generation; no other command changes it (btrfs-qgroup(8), "qgroup create" to
--- "qgroup limit")
+-- quota after a command of groups that is done in this generation; no other command changes it (btrfs-qgroup(8),
+-- "qgroup create" to "qgroup limit")
 abbrev pub group_changed : ℕ → Command → Quota → Quota
 group_changed stamp (command.GroupCreate group) quota = with_group group (new_group stamp) quota
 group_changed stamp (command.GroupDestroy group) quota = destroyed group quota
@@ -55,7 +56,8 @@ change_fault hierarchy (command.Remove member parent) = remove_fault hierarchy m
 change_fault hierarchy (command.Limit group which max) = no_group hierarchy group
 change_fault hierarchy _ = None
 
--- the groups that a snapshot's group is to be put into: each is there and above level 0, and none is named twice (this project's own)
+-- the groups that a snapshot's group is to be put into: each is there and above level 0, and none is named twice (this
+-- project's own)
 pub record AreParents (quota : Quota) (parents : List ℕ) : Type 0 where
   pub there : All (λ parent. IsTrue (is_kept (hierarchy_of quota) parent)) parents
   pub above : All (λ parent. 0 < level_of_group parent) parents
@@ -87,19 +89,26 @@ is_off quota = refuse (not (is_some quota)) why.NoQuota
 abbrev pub is_missing : Option Quota → ℕ → Option Refusal
 is_missing quota group = refuse (not (has_number group (groups_in quota))) why.NoGroup
 
--- what a command of quota may be refused for before the room for its commit is looked at, in order, where these subvolumes live
+-- what a command of quota may be refused for before the room for its commit is looked at, in order, where these
+-- subvolumes live
 abbrev pub change_refusals : Option Quota → List ℕ → Command → List (Option Refusal)
-change_refusals quota live command.QuotaOn = refuse (is_some quota) why.QuotaOn ∷ refuse (nat_lt most_groups (length live)) why.TooMany ∷ []
+change_refusals quota live command.QuotaOn =
+    refuse (is_some quota) why.QuotaOn ∷ refuse (nat_lt most_groups (length live)) why.TooMany ∷ []
 change_refusals quota live command.QuotaOff = is_off quota ∷ []
 change_refusals quota live (command.GroupCreate group) =
-    is_off quota ∷ refuse (not (not (level_of_group group == 0))) why.Level ∷ refuse (has_number group (groups_in quota)) why.GroupThere
+    is_off quota ∷ refuse (not (not (level_of_group group == 0))) why.Level
+    ∷ refuse (has_number group (groups_in quota)) why.GroupThere
     ∷ refuse (nat_le most_groups (length (groups_in quota))) why.TooMany ∷ []
 change_refusals quota live (command.GroupDestroy group) =
-    is_off quota ∷ is_missing quota group ∷ refuse (list_any (λ pair. pair.1 == group) (pairs_in quota) || has_number group live) why.Busy ∷ []
+    is_off quota ∷ is_missing quota group ∷ refuse (list_any (λ pair. pair.1 == group) (pairs_in quota)
+    || has_number group live) why.Busy ∷ []
 change_refusals quota live (command.Assign member parent) =
-    is_off quota ∷ refuse (not (nat_lt (level_of_group member) (level_of_group parent))) why.Level ∷ is_missing quota member ∷ is_missing quota parent
-    ∷ refuse (has_pair member parent (pairs_in quota)) why.Related ∷ refuse (nat_le most_relations (length (pairs_in quota))) why.TooMany ∷ []
-change_refusals quota live (command.Remove member parent) = is_off quota ∷ refuse (not (has_pair member parent (pairs_in quota))) why.NotRelated ∷ []
+    is_off quota ∷ refuse (not (nat_lt (level_of_group member) (level_of_group parent))) why.Level
+    ∷ is_missing quota member ∷ is_missing quota parent
+    ∷ refuse (has_pair member parent (pairs_in quota)) why.Related
+    ∷ refuse (nat_le most_relations (length (pairs_in quota))) why.TooMany ∷ []
+change_refusals quota live (command.Remove member parent) =
+    is_off quota ∷ refuse (not (has_pair member parent (pairs_in quota))) why.NotRelated ∷ []
 change_refusals quota live (command.Limit group which max) = is_off quota ∷ is_missing quota group ∷ []
 change_refusals quota live _ = []
 

@@ -20,7 +20,8 @@ IfPath (Path path) P = P path
 
 -- the stored counters of a group, in bytes; nothing is counted where it isn't there
 abbrev pub counters_at : List (ℕ × Group) → ℕ → Counters
-counters_at groups group = unwrap_or (option_map (λ found. found.counters) (value_at group groups)) (record { rfer = 0; excl = 0 })
+counters_at groups group = unwrap_or (option_map (λ found. found.counters) (value_at group groups))
+    (record { rfer = 0; excl = 0 })
 
 -- groups with their stored counters
 abbrev pub counted_path : List (ℕ × Group) → List ℕ → List (ℕ × Counters)

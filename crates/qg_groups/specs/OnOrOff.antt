@@ -1,4 +1,5 @@
--- What commands ask of quota that may be off, and what they leave of it (btrfs-qgroup(8); the order of refusals is this project's own).
+-- What commands ask of quota that may be off, and what they leave of it (btrfs-qgroup(8); the order of refusals is this
+-- project's own).
 use Rattle.std.specs.Prelude.{ℕ, ◌&&◌, ◌==◌, not, List, [], ◌∷◌, length, Option, Some, None, is_some, nat_lt}
 use Rattle.std.specs.List.{list_any}
 use Rattle.std.specs.Option.{option_map}
@@ -18,7 +19,8 @@ use Rattle.qg_groups.specs.Tracked.{path_of}
 
 -- ---- commands of quota
 
--- quota after a command of quota that is done in this generation, where these subvolumes live: turned on, it has a group for each of them
+-- quota after a command of quota that is done in this generation, where these subvolumes live: turned on, it has a
+-- group for each of them
 abbrev pub quota_changed : ℕ → List ℕ → Command → Option Quota → Option Quota
 quota_changed stamp live command.QuotaOn quota = Some (quota_for stamp live)
 quota_changed stamp live command.QuotaOff quota = None
@@ -26,18 +28,20 @@ quota_changed stamp live given quota = option_map (group_changed stamp given) qu
 
 -- ---- snapshots
 
--- why a snapshot's group can't be put into some groups, one after the other, behind earlier ones: each is above level 0, is there, and was
--- not named before
+-- why a snapshot's group can't be put into some groups, one after the other, behind earlier ones: each is above level
+-- 0, is there, and was not named before
 abbrev pub parents_refusal : Option Quota → List ℕ → List ℕ → Option Refusal
 parents_refusal quota earlier [] = None
 parents_refusal quota earlier (group ∷ groups) = first_some
-    (refuse (not (not (level_of_group group == 0))) why.Level ∷ is_missing quota group ∷ refuse (list_any (λ before. before == group) earlier) why.Related
+    (refuse (not (not (level_of_group group == 0))) why.Level ∷ is_missing quota group
+    ∷ refuse (list_any (λ before. before == group) earlier) why.Related
     ∷ parents_refusal quota (group ∷ earlier) groups ∷ [])
 
 -- and why a snapshot with such a list is refused, before limits are looked at: while quota is off there are no groups
 abbrev pub snap_refusal : Option Quota → List ℕ → Option Refusal
 snap_refusal quota parents =
-    first_some (refuse (not (is_some quota) && nat_lt 0 (length parents)) why.NoQuota ∷ parents_refusal quota [] parents ∷ [])
+    first_some (refuse (not (is_some quota) && nat_lt 0 (length parents)) why.NoQuota ∷ parents_refusal quota [] parents
+    ∷ [])
 
 -- ---- reservations
 

@@ -59,7 +59,8 @@ fn relate(hierarchy: &mut Hierarchy, pairs: &[(GroupId, GroupId)]) -> Result<(),
 /// The limits of groups. Nothing is held.
 pub(crate) fn limits_from(alloc: Global, groups: &[(GroupId, Group)]) -> Result<Limits, NoMemory>
     requires { IsStrictlySortedBy nat_cmp (keys_of groups.now) }
-    ensures limits { IfOk result (λ limits. (group : ℕ) → maxima_of limits group ≡ maxima_at (limits_by groups.now) group) }
+    ensures limits { IfOk result (λ limits. (group : ℕ)
+        → maxima_of limits group ≡ maxima_at (limits_by groups.now) group) }
     ensures held { IfOk result (λ limits. (group : ℕ) → held_of limits group ≡ 0) }
 {
     let mut limits = Limits::new(alloc);

@@ -74,7 +74,8 @@ impl QuotaState {
         requires tracked { IsTracked self.old }
         requires member { CanJoin self.old.quota member parents.now }
         ensures tracked { OnOk result (IsTracked self.new) }
-        ensures quota { OnOk result (self.new.quota ≡ fold (λ made parent. assigned member parent made) self.old.quota parents.now) }
+        ensures quota { OnOk result
+            (self.new.quota ≡ fold (λ made parent. assigned member parent made) self.old.quota parents.now) }
         ensures held { SameHeld self.old.limits self.new.limits }
     {
         for parent in parents {

@@ -293,7 +293,8 @@ fn is_named(numbers: &BTreeSet<u64>, number: u64) -> bool
 
 // Puts a number into a set.
 fn put_number(numbers: &mut BTreeSet<u64>, number: u64) -> Result<(), NoMemory>
-    ensures { OnOk result ((other : ℕ) → has_number other numbers.new.keys ≡ (number == other || has_number other numbers.old.keys)) }
+    ensures { OnOk result ((other : ℕ)
+        → has_number other numbers.new.keys ≡ (number == other || has_number other numbers.old.keys)) }
 {
     numbers.insert(number)?;
     Ok(())

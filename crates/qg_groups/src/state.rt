@@ -138,7 +138,8 @@ impl QuotaState {
     pub fn judge(&self, alloc: Global, sub: RootId, n: u64) -> Result<Judged, NoMemory>
         requires tracked { IsTracked self.now }
         requires group { HasGroup self.now.quota sub }
-        ensures value { IfOk result (λ judged. (pending : List Accepted) → HoldsAll self.now pending → over_in judged ≡ over self.now.quota pending sub n) }
+        ensures value { IfOk result (λ judged. (pending : List Accepted) → HoldsAll self.now pending
+            → over_in judged ≡ over self.now.quota pending sub n) }
         ensures path { IfOk result (λ judged. IfPath judged (λ path. path ≡ path_of self.now.quota sub)) }
     {
         let path = match self.hierarchy.above(GroupId::from_number(sub.value())) {
@@ -157,8 +158,10 @@ impl QuotaState {
         requires fits { All (λ group. held_of self.old.limits group + n < 2 ^ 64) path.now }
         ensures tracked { IsTracked self.new }
         ensures quota { self.new.quota ≡ self.old.quota }
-        ensures holds { OnOk result ((given : Accepted) (pending : List Accepted) → path.now ≡ path_of self.old.quota given.sub
-            → HasGroup self.old.quota given.sub → given.amount ≡ n → HoldsAll self.old pending → HoldsAll self.new (given ∷ pending)) }
+        ensures holds { OnOk result ((given : Accepted) (pending : List Accepted)
+            → path.now ≡ path_of self.old.quota given.sub
+            → HasGroup self.old.quota given.sub → given.amount ≡ n → HoldsAll self.old pending
+            → HoldsAll self.new (given ∷ pending)) }
         ensures most { OnOk result ((bound : ℕ) → HoldsAtMost bound self.old → HoldsAtMost (bound + n) self.new) }
     {
         self.limits.hold(path, n)

@@ -1,5 +1,6 @@
 -- Relations as pairs of numbers, and what stays sound.
-use Rattle.std.proofs.Common.{◌≡◌, ℕ, zero, suc, ◌*◌, ◌/◌, ◌<◌, ◌≤◌, ◌^◌, Bool, true, false, List, [], ◌∷◌, Option, None, Some, refl, sym, ap, subst, ◌∙◌, arith, inl, inr, nat_lt, ◌⊎◌, zero-lt-suc}
+use Rattle.std.proofs.Common.{◌≡◌, ℕ, zero, suc, ◌*◌, ◌/◌, ◌<◌, ◌≤◌, ◌^◌, Bool, true, false, List, [], ◌∷◌, Option}
+use Rattle.std.proofs.Common.{None, Some, refl, sym, ap, subst, ◌∙◌, arith, inl, inr, nat_lt, ◌⊎◌, zero-lt-suc}
 use Rattle.std.specs.Prelude.{◌&&◌, ◌||◌, ◌==◌, not, is_some, IsTrue, MatchOption}
 use Rattle.std.specs.List.{filter, list_any}
 use Rattle.std.specs.BTreeSet.{BTreeSet, IsOrdered, IsUpperBound}
@@ -38,7 +39,8 @@ above_nothing zero above = absurd (omega (arith, above))
 above_nothing (suc n) above = omega arith
 
 -- none is greater
-pub upper : (groups : BTreeSet ℕ) (last : ℕ) → IsUpperBound nat_cmp groups last → (group : ℕ) → has_number group groups.keys ≡ true → group ≤ last
+pub upper : (groups : BTreeSet ℕ) (last : ℕ) → IsUpperBound nat_cmp groups last → (group : ℕ)
+    → has_number group groups.keys ≡ true → group ≤ last
 upper groups last bound group has = ge_from_not_lt last group (bound group (sym (number_found group groups.keys) ∙ has))
 
 -- ---- a pair that passes a test
@@ -63,7 +65,8 @@ same_number n = grind (arith, nat_tests)
 same_itself : (pair : ℕ × ℕ) → same_pair pair pair ≡ true
 same_itself pair = and_both (pair.0 == pair.0) (pair.1 == pair.1) (same_number pair.0) (same_number pair.1)
 
-pub pair_at : (p : ℕ × ℕ → Bool) (pairs : List (ℕ × ℕ)) → list_any p pairs ≡ true → (pair : ℕ × ℕ) × (has_pair pair.0 pair.1 pairs ≡ true) × (p pair ≡ true)
+pub pair_at : (p : ℕ × ℕ → Bool) (pairs : List (ℕ × ℕ)) → list_any p pairs ≡ true
+    → (pair : ℕ × ℕ) × (has_pair pair.0 pair.1 pairs ≡ true) × (p pair ≡ true)
 pair_at p [] some = absurd (true≢false (sym some))
 pair_at p (pair ∷ pairs) some = elim (or_cases (p pair) (list_any p pairs) some) [
   | inl here ↦ (pair, or_left (same_pair pair pair) (has_pair pair.0 pair.1 pairs) (same_itself pair), here)
@@ -72,7 +75,8 @@ pair_at p (pair ∷ pairs) some = elim (or_cases (p pair) (list_any p pairs) som
       (found.0, or_right (same_pair found.0 pair) (has_pair found.0.0 found.0.1 pairs) found.1, found.2)
 ]
 
-pub any_pair : (p : ℕ × ℕ → Bool) (pairs : List (ℕ × ℕ)) (a b : ℕ) → has_pair a b pairs ≡ true → p (a, b) ≡ true → list_any p pairs ≡ true
+pub any_pair : (p : ℕ × ℕ → Bool) (pairs : List (ℕ × ℕ)) (a b : ℕ) → has_pair a b pairs ≡ true → p (a, b) ≡ true
+    → list_any p pairs ≡ true
 any_pair p [] a b has passes = absurd (true≢false (sym has))
 any_pair p (pair ∷ pairs) a b has passes = elim (or_cases (same_pair (a, b) pair) (has_pair a b pairs) has) [
   | inl here ↦ or_left (p pair) (list_any p pairs) (ap p (sym (pair_is (a, b) pair here)) ∙ passes)
@@ -82,7 +86,8 @@ any_pair p (pair ∷ pairs) a b has passes = elim (or_cases (same_pair (a, b) pa
 -- ---- pairs without those of one number
 
 -- no pair begins with a number, where it is paired with none
-pub none_of : (of : ℕ) (pairs : List (ℕ × ℕ)) → ((other : ℕ) → has_pair of other pairs ≡ false) → list_any (λ pair. not (not (pair.0 == of))) pairs ≡ false
+pub none_of : (of : ℕ) (pairs : List (ℕ × ℕ)) → ((other : ℕ) → has_pair of other pairs ≡ false)
+    → list_any (λ pair. not (not (pair.0 == of))) pairs ≡ false
 none_of of pairs none = elim (cases_Bool (list_any (λ pair. not (not (pair.0 == of))) pairs)) [
   | inl some ↦
       let found = pair_at (λ (pair : ℕ × ℕ). not (not (pair.0 == of))) pairs some in
@@ -99,7 +104,8 @@ pub other_pairs : (of other : ℕ) (pair : ℕ × ℕ) → not (pair.0 == of) �
 other_pairs of other pair apart = ap (λ (b : Bool). not (b && (pair.1 == other))) (not_true (pair.0 == of) apart)
 
 -- what is left without those of a number
-pub left_pair : (of m p : ℕ) (pairs : List (ℕ × ℕ)) → has_pair m p (filter (λ pair. not (pair.0 == of)) pairs) ≡ true → (has_pair m p pairs ≡ true) × ((m == of) ≡ false)
+pub left_pair : (of m p : ℕ) (pairs : List (ℕ × ℕ)) → has_pair m p (filter (λ pair. not (pair.0 == of)) pairs) ≡ true
+    → (has_pair m p pairs ≡ true) × ((m == of) ≡ false)
 left_pair of m p pairs has =
     let found = pair_at (λ (pair : ℕ × ℕ). not (pair.0 == of) && same_pair (m, p) pair) pairs
     (sym (any_filtered (same_pair (m, p)) (λ (pair : ℕ × ℕ). not (pair.0 == of)) pairs) ∙ has) in
@@ -111,26 +117,34 @@ left_pair of m p pairs has =
 
 -- ---- who has members
 
-pub members_some : (groups : BTreeSet ℕ) (up down : BTreeSet (ℕ × ℕ)) (group other : ℕ) → AreKept groups up down → has_pair group other down.keys ≡ true → has_members (seen groups up) group ≡ true
+pub members_some : (groups : BTreeSet ℕ) (up down : BTreeSet (ℕ × ℕ)) (group other : ℕ) → AreKept groups up down
+    → has_pair group other down.keys ≡ true → has_members (seen groups up) group ≡ true
 members_some groups up down group other kept has =
-    any_pair (λ (pair : ℕ × ℕ). pair.1 == group) up.keys other group (sym (kept.turned other group) ∙ has) (same_number group)
+    any_pair (λ (pair : ℕ × ℕ). pair.1 == group) up.keys other group (sym (kept.turned other group) ∙ has)
+    (same_number group)
 
-pub members_none : (groups : BTreeSet ℕ) (up down : BTreeSet (ℕ × ℕ)) (group : ℕ) → AreKept groups up down → ((other : ℕ) → has_pair group other down.keys ≡ false) → has_members (seen groups up) group ≡ false
+pub members_none : (groups : BTreeSet ℕ) (up down : BTreeSet (ℕ × ℕ)) (group : ℕ) → AreKept groups up down
+    → ((other : ℕ) → has_pair group other down.keys ≡ false) → has_members (seen groups up) group ≡ false
 members_none groups up down group kept none = elim (cases_Bool (has_members (seen groups up) group)) [
   | inl some ↦
       let found = pair_at (λ (pair : ℕ × ℕ). pair.1 == group) up.keys some in
       let is : found.0.1 ≡ group = number_is found.0.1 group found.2 in
-      absurd (true≢false (sym found.1 ∙ ap (λ (b : ℕ). has_pair found.0.0 b up.keys) is ∙ sym (kept.turned found.0.0 group) ∙ none found.0.0))
+      absurd (true≢false (sym found.1 ∙ ap (λ (b : ℕ). has_pair found.0.0 b up.keys) is
+      ∙ sym (kept.turned found.0.0 group) ∙ none found.0.0))
   | inr h ↦ h
 ]
 
 -- ---- a group goes
 
-pub kept_destroyed : (groups left : BTreeSet ℕ) (up down fewer turned : BTreeSet (ℕ × ℕ)) (group : ℕ) → AreKept groups up down → ((other : ℕ) → has_pair group other down.keys ≡ false)
-    → fewer.keys ≡ filter (λ pair. not (pair.0 == group)) up.keys → ((a b : ℕ) → has_pair b a turned.keys ≡ has_pair a b fewer.keys)
+pub kept_destroyed : (groups left : BTreeSet ℕ) (up down fewer turned : BTreeSet (ℕ × ℕ)) (group : ℕ)
+    → AreKept groups up down → ((other : ℕ) → has_pair group other down.keys ≡ false)
+    → fewer.keys ≡ filter (λ pair. not (pair.0 == group)) up.keys
+    → ((a b : ℕ) → has_pair b a turned.keys ≡ has_pair a b fewer.keys)
     → IsOrdered pair_cmp fewer → IsOrdered pair_cmp turned → PairsFit fewer → PairsFit turned
-    → ((other : ℕ) → has_number other left.keys ≡ (not (group == other) && has_number other groups.keys)) → IsOrdered nat_cmp left → AreKept left fewer turned
-kept_destroyed groups left up down fewer turned group kept none is same ordered turned_ordered fit turned_fit has ascend =
+    → ((other : ℕ) → has_number other left.keys ≡ (not (group == other) && has_number other groups.keys))
+    → IsOrdered nat_cmp left → AreKept left fewer turned
+kept_destroyed groups left up down fewer turned group kept none is same ordered turned_ordered fit turned_fit has
+    ascend =
     let back : (m p : ℕ) → has_pair m p fewer.keys ≡ true → (has_pair m p up.keys ≡ true) × ((m == group) ≡ false) =
     λ m p there. left_pair group m p up.keys (subst (λ (pairs : List (ℕ × ℕ)). has_pair m p pairs ≡ true) is there) in
     let stays : (n : ℕ) → (group == n) ≡ false → has_number n groups.keys ≡ true → has_number n left.keys ≡ true =
@@ -139,7 +153,8 @@ kept_destroyed groups left up down fewer turned group kept none is same ordered 
       sound = record {
         groups = ascend;
         pairs = ordered;
-        members = λ m p there. stays m (sym (turn m group) ∙ (back m p there).1) (kept.sound.members m p (back m p there).0);
+        members = λ m p there. stays m (sym (turn m group) ∙ (back m p there).1)
+            (kept.sound.members m p (back m p there).0);
         parents = λ m p there. stays p (not_parent m p (back m p there).0) (kept.sound.parents m p (back m p there).0);
         rising = λ m p there. kept.sound.rising m p (back m p there).0;
       };
@@ -153,7 +168,8 @@ kept_destroyed groups left up down fewer turned group kept none is same ordered 
 
       not_parent : (m p : ℕ) → has_pair m p up.keys ≡ true → (group == p) ≡ false
       not_parent m p there = elim (cases_Bool (group == p)) [
-        | inl here ↦ absurd (true≢false (sym there ∙ sym (kept.turned m p) ∙ ap (λ (n : ℕ). has_pair n m down.keys) (sym (number_is group p here)) ∙ none m))
+        | inl here ↦ absurd (true≢false (sym there ∙ sym (kept.turned m p)
+            ∙ ap (λ (n : ℕ). has_pair n m down.keys) (sym (number_is group p here)) ∙ none m))
         | inr h ↦ h
       ]
 
@@ -168,22 +184,30 @@ turned_pair a b of other = swap (b == other) (a == of) where
 
 -- ---- what the first pair of a number says
 
-pub no_other : (of : ℕ) (pairs : List (ℕ × ℕ)) (first : Option ℕ) → MatchOption first ((other : ℕ) → has_pair of other pairs ≡ false) (λ other. IsTrue (has_pair of other pairs)) → is_some first ≡ false
+pub no_other : (of : ℕ) (pairs : List (ℕ × ℕ)) (first : Option ℕ)
+    → MatchOption first ((other : ℕ) → has_pair of other pairs ≡ false) (λ other. IsTrue (has_pair of other pairs))
+    → is_some first ≡ false
     → (other : ℕ) → has_pair of other pairs ≡ false
 no_other of pairs None told is = told
 no_other of pairs (Some other) told is = absurd (true≢false is)
 
-pub some_other : (of : ℕ) (pairs : List (ℕ × ℕ)) (first : Option ℕ) → MatchOption first ((other : ℕ) → has_pair of other pairs ≡ false) (λ other. IsTrue (has_pair of other pairs)) → is_some first ≡ true
+pub some_other : (of : ℕ) (pairs : List (ℕ × ℕ)) (first : Option ℕ)
+    → MatchOption first ((other : ℕ) → has_pair of other pairs ≡ false) (λ other. IsTrue (has_pair of other pairs))
+    → is_some first ≡ true
     → (other : ℕ) × (has_pair of other pairs ≡ true)
 some_other of pairs None told is = absurd (true≢false (sym is))
 some_other of pairs (Some other) told is = (other, told)
 
 -- ---- why a group can't go
 
-pub destroy_busy : (hierarchy : Hierarchy) (group : ℕ) → is_kept hierarchy group ≡ true → has_members hierarchy group ≡ true → destroy_fault hierarchy group ≡ Some why.Busy
+pub destroy_busy : (hierarchy : Hierarchy) (group : ℕ) → is_kept hierarchy group ≡ true
+    → has_members hierarchy group ≡ true → destroy_fault hierarchy group ≡ Some why.Busy
 destroy_busy hierarchy group kept busy =
-    ap (λ (b : Bool). first_some (then_some (not b) why.NoGroup ∷ then_some (has_members hierarchy group) why.Busy ∷ [])) kept ∙ ap (λ (b : Bool). first_some (then_some b why.Busy ∷ [])) busy
+    ap (λ (b : Bool). first_some (then_some (not b) why.NoGroup ∷ then_some (has_members hierarchy group) why.Busy
+    ∷ [])) kept ∙ ap (λ (b : Bool). first_some (then_some b why.Busy ∷ [])) busy
 
-pub destroy_free : (hierarchy : Hierarchy) (group : ℕ) → is_kept hierarchy group ≡ true → has_members hierarchy group ≡ false → destroy_fault hierarchy group ≡ None
+pub destroy_free : (hierarchy : Hierarchy) (group : ℕ) → is_kept hierarchy group ≡ true
+    → has_members hierarchy group ≡ false → destroy_fault hierarchy group ≡ None
 destroy_free hierarchy group kept free =
-    ap (λ (b : Bool). first_some (then_some (not b) why.NoGroup ∷ then_some (has_members hierarchy group) why.Busy ∷ [])) kept ∙ ap (λ (b : Bool). first_some (then_some b why.Busy ∷ [])) free
+    ap (λ (b : Bool). first_some (then_some (not b) why.NoGroup ∷ then_some (has_members hierarchy group) why.Busy
+    ∷ [])) kept ∙ ap (λ (b : Bool). first_some (then_some b why.Busy ∷ [])) free

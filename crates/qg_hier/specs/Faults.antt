@@ -18,12 +18,14 @@ create_fault hierarchy group = then_some (is_kept hierarchy group) why.GroupTher
 
 -- the group isn't kept, or some relation has it as parent
 abbrev pub destroy_fault : Hierarchy → ℕ → Option HierFault
-destroy_fault hierarchy group = first_some (no_group hierarchy group ∷ then_some (has_members hierarchy group) why.Busy ∷ [])
+destroy_fault hierarchy group =
+    first_some (no_group hierarchy group ∷ then_some (has_members hierarchy group) why.Busy ∷ [])
 
 -- the member's level isn't less than the parent's, or the member or the parent isn't kept, or they are related already
 abbrev pub assign_fault : Hierarchy → ℕ → ℕ → Option HierFault
 assign_fault hierarchy member parent = first_some
-    (then_some (not (nat_lt (level_of_group member) (level_of_group parent))) why.Level ∷ no_group hierarchy member ∷ no_group hierarchy parent
+    (then_some (not (nat_lt (level_of_group member) (level_of_group parent))) why.Level ∷ no_group hierarchy member
+    ∷ no_group hierarchy parent
     ∷ then_some (has_pair member parent hierarchy.pairs) why.Related ∷ [])
 
 -- they aren't related

@@ -32,7 +32,10 @@ created group hierarchy = record hierarchy { groups = with_number group hierarch
 
 -- the group goes, and with it its relations to its parents
 abbrev pub destroyed : ℕ → Hierarchy → Hierarchy
-destroyed group hierarchy = record { groups = filter (λ kept. not (kept == group)) hierarchy.groups; pairs = filter (λ pair. not (pair.0 == group)) hierarchy.pairs }
+destroyed group hierarchy = record {
+  groups = filter (λ kept. not (kept == group)) hierarchy.groups;
+  pairs = filter (λ pair. not (pair.0 == group)) hierarchy.pairs;
+}
 
 -- with the relation of a member and its parent too
 abbrev pub assigned : ℕ → ℕ → Hierarchy → Hierarchy
@@ -40,7 +43,8 @@ assigned member parent hierarchy = record hierarchy { pairs = with_pair (member,
 
 -- without that relation
 abbrev pub unassigned : ℕ → ℕ → Hierarchy → Hierarchy
-unassigned member parent hierarchy = record hierarchy { pairs = filter (λ pair. not (same_pair pair (member, parent))) hierarchy.pairs }
+unassigned member parent hierarchy =
+    record hierarchy { pairs = filter (λ pair. not (same_pair pair (member, parent))) hierarchy.pairs }
 
 -- ---- chains
 
@@ -54,11 +58,14 @@ groups_above hierarchy group = filter (λ above. is_below hierarchy.pairs group 
 abbrev pub pair_cmp : ℕ × ℕ → ℕ × ℕ → Ordering
 pair_cmp pair other = ordering_then (nat_cmp pair.0 other.0) (nat_cmp pair.1 other.1)
 
--- groups ascend by number, and relations, each once; each relation is between kept groups, and its member's level is less than its
--- parent's (btrfs-qgroup(8))
+-- groups ascend by number, and relations, each once; each relation is between kept groups, and its member's level is
+-- less than its parent's (btrfs-qgroup(8))
 pub record IsSound (hierarchy : Hierarchy) : Type 0 where
   pub groups : IsStrictlySortedBy nat_cmp hierarchy.groups
   pub pairs : IsStrictlySortedBy pair_cmp hierarchy.pairs
-  pub members : (member parent : ℕ) → IsTrue (has_pair member parent hierarchy.pairs) → IsTrue (is_kept hierarchy member)
-  pub parents : (member parent : ℕ) → IsTrue (has_pair member parent hierarchy.pairs) → IsTrue (is_kept hierarchy parent)
-  pub rising : (member parent : ℕ) → IsTrue (has_pair member parent hierarchy.pairs) → level_of_group member < level_of_group parent
+  pub members : (member parent : ℕ) → IsTrue (has_pair member parent hierarchy.pairs)
+      → IsTrue (is_kept hierarchy member)
+  pub parents : (member parent : ℕ) → IsTrue (has_pair member parent hierarchy.pairs)
+      → IsTrue (is_kept hierarchy parent)
+  pub rising : (member parent : ℕ) → IsTrue (has_pair member parent hierarchy.pairs)
+      → level_of_group member < level_of_group parent

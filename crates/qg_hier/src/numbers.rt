@@ -21,7 +21,8 @@ pub(crate) fn has_number(numbers: &BTreeSet<u64>, number: u64) -> bool
 /// Puts a number into a set. Where memory is refused, nothing has changed.
 pub(crate) fn put_number(numbers: &mut BTreeSet<u64>, number: u64) -> Result<(), NoMemory>
     ensures ok { OnOk result (numbers.new.keys ≡ with_number number numbers.old.keys) }
-    ensures has { OnOk result ((other : ℕ) → has_number other numbers.new.keys ≡ (number == other || has_number other numbers.old.keys)) }
+    ensures has { OnOk result ((other : ℕ)
+        → has_number other numbers.new.keys ≡ (number == other || has_number other numbers.old.keys)) }
     ensures err { OnErr result (numbers.new.keys ≡ numbers.old.keys) }
     ensures ordered { IsOrdered nat_cmp numbers.new }
 {
@@ -33,7 +34,8 @@ pub(crate) fn put_number(numbers: &mut BTreeSet<u64>, number: u64) -> Result<(),
 pub(crate) fn take_number(numbers: &mut BTreeSet<u64>, number: u64)
     requires { IsOrdered nat_cmp numbers.old }
     ensures left { numbers.new.keys ≡ filter (λ kept. not (kept == number)) numbers.old.keys }
-    ensures has { (other : ℕ) → has_number other numbers.new.keys ≡ (not (number == other) && has_number other numbers.old.keys) }
+    ensures has { (other : ℕ)
+        → has_number other numbers.new.keys ≡ (not (number == other) && has_number other numbers.old.keys) }
     ensures ordered { IsOrdered nat_cmp numbers.new }
 {
     numbers.remove(&number);

@@ -1,5 +1,6 @@
 // Sets of pairs of groups' numbers.
-ghost use Rattle.std.specs.Prelude.{◌≡◌, ◌+◌, ◌==◌, ◌&&◌, ◌||◌, ℕ, false, not, length, if◌then◌else◌, MatchOption, IfOk, IsTrue, OnOk, OnErr};
+ghost use Rattle.std.specs.Prelude.{◌≡◌, ◌+◌, ◌==◌, ◌&&◌, ◌||◌, ℕ, false, not, length, if◌then◌else◌, MatchOption};
+ghost use Rattle.std.specs.Prelude.{IfOk, IsTrue, OnOk, OnErr};
 ghost use Rattle.std.specs.List.{filter};
 ghost use Rattle.std.specs.Ordering.{nat_cmp};
 ghost use Rattle.std.specs.BTreeSet.{IsOrdered};
@@ -27,7 +28,8 @@ pub(crate) fn put_pair(
 ) -> Result<(), NoMemory>
     requires fit { PairsFit pairs.old }
     ensures ok { OnOk result (pairs.new.keys ≡ with_pair (of, other) pairs.old.keys) }
-    ensures has { OnOk result ((a b : ℕ) → has_pair a b pairs.new.keys ≡ (same_pair (a, b) (of, other) || has_pair a b pairs.old.keys)) }
+    ensures has { OnOk result ((a b : ℕ)
+        → has_pair a b pairs.new.keys ≡ (same_pair (a, b) (of, other) || has_pair a b pairs.old.keys)) }
     ensures fit { PairsFit pairs.new }
     ensures err { OnErr result (pairs.new.keys ≡ pairs.old.keys) }
     ensures ordered { IsOrdered pair_cmp pairs.new }
@@ -41,8 +43,10 @@ pub(crate) fn take_pair(pairs: &mut BTreeSet<(u64, u64)>, of: u64, other: u64)
     requires ordered { IsOrdered pair_cmp pairs.old }
     requires fit { PairsFit pairs.old }
     ensures left { pairs.new.keys ≡ filter (λ pair. not (same_pair pair (of, other))) pairs.old.keys }
-    ensures has { (a b : ℕ) → has_pair a b pairs.new.keys ≡ (not (same_pair (a, b) (of, other)) && has_pair a b pairs.old.keys) }
-    ensures fewer { length pairs.new.keys + (if has_pair of other pairs.old.keys then 1 else 0) ≡ length pairs.old.keys }
+    ensures has { (a b : ℕ)
+        → has_pair a b pairs.new.keys ≡ (not (same_pair (a, b) (of, other)) && has_pair a b pairs.old.keys) }
+    ensures fewer { length pairs.new.keys + (if has_pair of other pairs.old.keys then 1 else 0)
+        ≡ length pairs.old.keys }
     ensures fit { PairsFit pairs.new }
     ensures ordered { IsOrdered pair_cmp pairs.new }
 {
@@ -52,7 +56,8 @@ pub(crate) fn take_pair(pairs: &mut BTreeSet<(u64, u64)>, of: u64, other: u64)
 /// The least number that a number is paired with, and none where it is with none.
 pub(crate) fn first_other(pairs: &BTreeSet<(u64, u64)>, of: u64) -> Option<u64>
     requires fit { PairsFit pairs.now }
-    ensures { MatchOption result ((other : ℕ) → has_pair of other pairs.now.keys ≡ false) (λ other. IsTrue (has_pair of other pairs.now.keys)) }
+    ensures { MatchOption result ((other : ℕ) → has_pair of other pairs.now.keys ≡ false)
+        (λ other. IsTrue (has_pair of other pairs.now.keys)) }
 {
     match pairs.range((of, 0)..=(of, u64::MAX)).next() {
         Some(pair) => Some(pair.1),
@@ -69,7 +74,8 @@ pub(crate) fn put_others(
     requires fit { PairsFit pairs.now }
     requires ordered { IsOrdered nat_cmp into.old }
     ensures ordered { IsOrdered nat_cmp into.new }
-    ensures has { OnOk result ((other : ℕ) → has_number other into.new.keys ≡ (has_number other into.old.keys || has_pair of other pairs.now.keys)) }
+    ensures has { OnOk result ((other : ℕ)
+        → has_number other into.new.keys ≡ (has_number other into.old.keys || has_pair of other pairs.now.keys)) }
 {
     for pair in pairs.range((of, 0)..=(of, u64::MAX)) {
         put_number(into, pair.1)?;

@@ -26,7 +26,8 @@ WholePiece-is_piece piece is =
     let some = nat_lt 0 piece.len in
     let offset = is_aligned piece.offset in
     let extent = is_aligned piece.extent_bytes in
-    let to_in = and_parts (position && len && some && offset && extent) (nat_le (piece.offset + piece.len) piece.extent_bytes) is in
+    let to_in = and_parts (position && len && some && offset && extent)
+    (nat_le (piece.offset + piece.len) piece.extent_bytes) is in
     let to_extent = and_parts (position && len && some && offset) extent to_in.0 in
     let to_offset = and_parts (position && len && some) offset to_extent.0 in
     let to_some = and_parts (position && len) some to_offset.0 in
@@ -43,11 +44,14 @@ WholePiece-is_piece piece is =
 pub is_piece-WholePiece : (piece : Piece) → WholePiece piece → is_piece piece ≡ true
 unfolding is_piece
 is_piece-WholePiece piece whole =
-    let to_len = and_from (is_aligned piece.position) (is_aligned piece.len) (eq-eqb (piece.position % sector) 0 whole.position) (eq-eqb (piece.len % sector) 0 whole.len) in
+    let to_len = and_from (is_aligned piece.position) (is_aligned piece.len)
+    (eq-eqb (piece.position % sector) 0 whole.position) (eq-eqb (piece.len % sector) 0 whole.len) in
     let to_some = and_from _ (nat_lt 0 piece.len) to_len (lt-ltb 0 piece.len whole.some) in
     let to_offset = and_from _ (is_aligned piece.offset) to_some (eq-eqb (piece.offset % sector) 0 whole.offset) in
-    let to_extent = and_from _ (is_aligned piece.extent_bytes) to_offset (eq-eqb (piece.extent_bytes % sector) 0 whole.extent) in
-    and_from _ (nat_le (piece.offset + piece.len) piece.extent_bytes) to_extent (le-leb (piece.offset + piece.len) piece.extent_bytes whole.in_extent)
+    let to_extent = and_from _ (is_aligned piece.extent_bytes) to_offset
+    (eq-eqb (piece.extent_bytes % sector) 0 whole.extent) in
+    and_from _ (nat_le (piece.offset + piece.len) piece.extent_bytes) to_extent
+    (le-leb (piece.offset + piece.len) piece.extent_bytes whole.in_extent)
 
 -- ---- pieces from a position on
 
@@ -57,18 +61,22 @@ pub record FirstPiece (from size : ℕ) (piece : Piece) (pieces : List Piece) : 
   pub is : is_piece piece ≡ true
   pub rest : are_pieces (piece_end piece) size pieces ≡ true
 
-pub FirstPiece-are_pieces : (from size : ℕ) (piece : Piece) (pieces : List Piece) → are_pieces from size (piece ∷ pieces) ≡ true → FirstPiece from size piece pieces
+pub FirstPiece-are_pieces : (from size : ℕ) (piece : Piece) (pieces : List Piece)
+    → are_pieces from size (piece ∷ pieces) ≡ true → FirstPiece from size piece pieces
 unfolding are_pieces
 FirstPiece-are_pieces from size piece pieces are =
-    let to_rest = and_parts (nat_le from piece.position && is_piece piece) (are_pieces (piece_end piece) size pieces) are in
+    let to_rest = and_parts (nat_le from piece.position && is_piece piece) (are_pieces (piece_end piece) size pieces)
+    are in
     let to_piece = and_parts (nat_le from piece.position) (is_piece piece) to_rest.0 in
     record { begins = leb-true from piece.position to_piece.0; is = to_piece.1; rest = to_rest.1 }
 
-pub are_pieces-FirstPiece : (from size : ℕ) (piece : Piece) (pieces : List Piece) → FirstPiece from size piece pieces → are_pieces from size (piece ∷ pieces) ≡ true
+pub are_pieces-FirstPiece : (from size : ℕ) (piece : Piece) (pieces : List Piece) → FirstPiece from size piece pieces
+    → are_pieces from size (piece ∷ pieces) ≡ true
 unfolding are_pieces
 are_pieces-FirstPiece from size piece pieces first =
     and_from (nat_le from piece.position && is_piece piece) (are_pieces (piece_end piece) size pieces)
-    (and_from (nat_le from piece.position) (is_piece piece) (le-leb from piece.position first.begins) first.is) first.rest
+    (and_from (nat_le from piece.position) (is_piece piece) (le-leb from piece.position first.begins) first.is)
+    first.rest
 
 -- ---- a file
 
@@ -80,7 +88,8 @@ pub record WholeFile (file : File) : Type 0 where
 pub WholeFile-is_file : (file : File) → is_file file ≡ true → WholeFile file
 unfolding is_file
 WholeFile-is_file file is =
-    let to_pieces = and_parts (is_aligned file.size && nat_le file.size largest_size) (are_pieces 0 file.size file.pieces) is in
+    let to_pieces = and_parts (is_aligned file.size && nat_le file.size largest_size)
+    (are_pieces 0 file.size file.pieces) is in
     let to_least = and_parts (is_aligned file.size) (nat_le file.size largest_size) to_pieces.0 in
     record { size = to_least.0; least = leb-true file.size largest_size to_least.1; pieces = to_pieces.1 }
 
@@ -88,4 +97,5 @@ pub is_file-WholeFile : (file : File) → WholeFile file → is_file file ≡ tr
 unfolding is_file
 is_file-WholeFile file whole =
     and_from (is_aligned file.size && nat_le file.size largest_size) (are_pieces 0 file.size file.pieces)
-    (and_from (is_aligned file.size) (nat_le file.size largest_size) whole.size (le-leb file.size largest_size whole.least)) whole.pieces
+    (and_from (is_aligned file.size) (nat_le file.size largest_size) whole.size
+    (le-leb file.size largest_size whole.least)) whole.pieces

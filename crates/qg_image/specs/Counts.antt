@@ -1,4 +1,5 @@
--- What a quota group counts, for each group anew (btrfs-qgroup(8), "referenced" and "exclusive"). Counters are in bytes.
+-- What a quota group counts, for each group anew (btrfs-qgroup(8), "referenced" and "exclusive"). Counters are in
+-- bytes.
 use Rattle.std.specs.Prelude.{ℕ, Bool, ◌&&◌, not, List}
 use Rattle.std.specs.List.{list_any, filter, flat_map, sum_by}
 use Rattle.qg_num.specs.declared.counters.Counters.{Counters}
@@ -14,7 +15,8 @@ reach_of_group layout hierarchy group = distinct (flat_map (reach layout) (membe
 
 -- some subvolume that is no member reaches what begins at an address
 unfoldable pub is_reached_outside : Layout → Hierarchy → ℕ → ℕ → Bool
-is_reached_outside layout hierarchy group address = list_any (λ sub. not (is_member hierarchy group sub) && reaches layout sub address) (keys_of layout.roots)
+is_reached_outside layout hierarchy group address =
+    list_any (λ sub. not (is_member hierarchy group sub) && reaches layout sub address) (keys_of layout.roots)
 
 abbrev pub bytes_of : List Element → ℕ
 bytes_of elements = sum_by (λ element. element.bytes) elements
@@ -25,8 +27,13 @@ referenced layout hierarchy group = bytes_of (reach_of_group layout hierarchy gr
 
 -- the bytes of those of them that no subvolume outside the members reaches
 unfoldable pub exclusive : Layout → Hierarchy → ℕ → ℕ
-exclusive layout hierarchy group = bytes_of (filter (λ element. not (is_reached_outside layout hierarchy group element.address)) (reach_of_group layout hierarchy group))
+exclusive layout hierarchy group =
+    bytes_of (filter (λ element. not (is_reached_outside layout hierarchy group element.address))
+    (reach_of_group layout hierarchy group))
 
 -- a group's direct count
 abbrev pub direct_count : Layout → Hierarchy → ℕ → Counters
-direct_count layout hierarchy group = record { rfer = referenced layout hierarchy group; excl = exclusive layout hierarchy group }
+direct_count layout hierarchy group = record {
+  rfer = referenced layout hierarchy group;
+  excl = exclusive layout hierarchy group;
+}

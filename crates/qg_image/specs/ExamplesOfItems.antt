@@ -23,19 +23,32 @@ first_piece_item = record {
 
 first_write_is_a_file :
     files_of 2 (first_inode_item ∷ first_piece_item ∷ [])
-    ≡ Some ((257, record { size = 8192; generation = 2; transid = 2; pieces = record { position = 0; len = 8192; extent = 67174400; offset = 0; stamp = 2; extent_bytes = 8192 } ∷ [] }) ∷ [])
-unfolding files_of are_files is_file_item is_file are_pieces is_piece file_part inode_read extent_data_read inode_text extent_data_text u64_bytes u16_bytes u64_at
+    ≡ Some ((
+      257,
+      record {
+        size = 8192;
+        generation = 2;
+        transid = 2;
+        pieces = record { position = 0; len = 8192; extent = 67174400; offset = 0; stamp = 2; extent_bytes = 8192 }
+            ∷ [];
+      },
+    ) ∷ [])
+unfolding files_of are_files is_file_item is_file are_pieces is_piece file_part inode_read extent_data_read inode_text
+    extent_data_text u64_bytes u16_bytes u64_at
 first_write_is_a_file = refl
 
 piece_without_its_file : files_of 2 (first_piece_item ∷ []) ≡ None
-unfolding files_of are_files is_file_item is_file are_pieces is_piece file_part inode_read extent_data_read inode_text extent_data_text u64_bytes u16_bytes u64_at
+unfolding files_of are_files is_file_item is_file are_pieces is_piece file_part inode_read extent_data_read inode_text
+    extent_data_text u64_bytes u16_bytes u64_at
 piece_without_its_file = refl
 
 generation_to_come : files_of 1 (first_inode_item ∷ first_piece_item ∷ []) ≡ None
-unfolding files_of are_files is_file_item is_file are_pieces is_piece file_part inode_read extent_data_read inode_text extent_data_text u64_bytes u16_bytes u64_at
+unfolding files_of are_files is_file_item is_file are_pieces is_piece file_part inode_read extent_data_read inode_text
+    extent_data_text u64_bytes u16_bytes u64_at
 generation_to_come = refl
 
 -- an item of another tree stands for no file
-item_of_another_tree : files_of 2 (record { key = record { objectid = 257; kind = 132; offset = 0 }; body = [] } ∷ []) ≡ None
+item_of_another_tree : files_of 2 (record { key = record { objectid = 257; kind = 132; offset = 0 }; body = [] } ∷ [])
+    ≡ None
 unfolding files_of are_files is_file_item is_file are_pieces is_piece file_part inode_read extent_data_read
 item_of_another_tree = refl

@@ -23,20 +23,28 @@ abbrev pub leaf_of : ℕ → ℕ → ℕ → Bool → List (ℕ × File) → ℕ
 leaf_of address generation owner full files = (
   address,
   record {
-    node = Leaf (record { address = address; generation = generation; owner = owner; level = 0 }) (flat_map (λ entry. file_items entry.0 entry.1) files);
+    node = Leaf (record { address = address; generation = generation; owner = owner; level = 0 })
+        (flat_map (λ entry. file_items entry.0 entry.1) files);
     full = full;
   },
 )
 
 -- a pointer to a node of a generation whose first key is that of a file
 abbrev pub pointer : ℕ → ℕ → ℕ → Pointer
-pointer ino child generation = record { key = record { objectid = ino; kind = 1; offset = 0 }; child = child; generation = generation }
+pointer ino child generation = record {
+  key = record { objectid = ino; kind = 1; offset = 0 };
+  child = child;
+  generation = generation;
+}
 
 -- a node above leaves
 abbrev pub inner_of : ℕ → ℕ → ℕ → Bool → List Pointer → ℕ × Placed
 inner_of address generation owner full pointers = (
   address,
-  record { node = Inner (record { address = address; generation = generation; owner = owner; level = 1 }) pointers; full = full },
+  record {
+    node = Inner (record { address = address; generation = generation; owner = owner; level = 1 }) pointers;
+    full = full;
+  },
 )
 
 -- a layout of nodes of 16384 bytes
@@ -49,17 +57,38 @@ first_file = (257, file 8192 (piece 0 8192 0 ∷ []))
 
 -- the file 258: 4096 bytes in an extent at 67182592
 abbrev pub second_file : ℕ × File
-second_file = (258, file 4096 (record { position = 0; len = 4096; extent = 67182592; offset = 0; stamp = 2; extent_bytes = 4096 } ∷ []))
+second_file = (
+  258,
+  file 4096 (record {
+    position = 0;
+    len = 4096;
+    extent = 67182592;
+    offset = 0;
+    stamp = 2;
+    extent_bytes = 4096;
+  } ∷ []),
+)
 
 -- the file 257 once its first 4096 bytes are written anew, into an extent at 67186688
 abbrev pub rewritten_file : ℕ × File
-rewritten_file = (257, file 8192 (record { position = 0; len = 4096; extent = 67186688; offset = 0; stamp = 4; extent_bytes = 4096 } ∷ piece 4096 4096 4096 ∷ []))
+rewritten_file = (
+  257,
+  file 8192 (record {
+    position = 0;
+    len = 4096;
+    extent = 67186688;
+    offset = 0;
+    stamp = 4;
+    extent_bytes = 4096;
+  } ∷ piece 4096 4096 4096 ∷ []),
+)
 
 -- ---- a snapshot, and then a write into its source
 --
--- In generation 2 subvolume 5 had a root above the leaves 1048576 and 1064960. Generation 3 made 256 its snapshot, whose root 1097728 leads
--- to both. In generation 4 subvolume 5 writes into its first file: its root is now 1114112 and its first leaf 1130496, both copies. The old
--- first leaf was made by 5, and 5 no longer reaches it: it has the full mark.
+-- In generation 2 subvolume 5 had a root above the leaves 1048576 and 1064960. Generation 3 made 256 its snapshot,
+-- whose root 1097728 leads to both. In generation 4 subvolume 5 writes into its first file: its root is now 1114112 and
+-- its first leaf 1130496, both copies. The old first leaf was made by 5, and 5 no longer reaches it: it has the full
+-- mark.
 
 abbrev pub written_source_by : Bool → Layout
 written_source_by full =
@@ -87,48 +116,58 @@ written_source-reach :
     ∷ record { address = 1064960; bytes = 16384 }
     ∷ record { address = 67182592; bytes = 4096 }
     ∷ []
-unfolding reach reach_of_root pieces_of file_part inode_read extent_data_read inode_text extent_data_text u64_bytes u16_bytes u64_at
+unfolding reach reach_of_root pieces_of file_part inode_read extent_data_read inode_text extent_data_text u64_bytes
+    u16_bytes u64_at
 written_source-reach = refl
 
 written_source-owners_of_old_leaf : owners written_source 1048576 ≡ 256 ∷ []
-unfolding owners reach reach_of_root pieces_of file_part inode_read extent_data_read inode_text extent_data_text u64_bytes u16_bytes u64_at
+unfolding owners reach reach_of_root pieces_of file_part inode_read extent_data_read inode_text extent_data_text
+    u64_bytes u16_bytes u64_at
 written_source-owners_of_old_leaf = refl
 
 written_source-owners_of_shared_leaf : owners written_source 1064960 ≡ 5 ∷ 256 ∷ []
-unfolding owners reach reach_of_root pieces_of file_part inode_read extent_data_read inode_text extent_data_text u64_bytes u16_bytes u64_at
+unfolding owners reach reach_of_root pieces_of file_part inode_read extent_data_read inode_text extent_data_text
+    u64_bytes u16_bytes u64_at
 written_source-owners_of_shared_leaf = refl
 
 written_source-owners_of_new_leaf : owners written_source 1130496 ≡ 5 ∷ []
-unfolding owners reach reach_of_root pieces_of file_part inode_read extent_data_read inode_text extent_data_text u64_bytes u16_bytes u64_at
+unfolding owners reach reach_of_root pieces_of file_part inode_read extent_data_read inode_text extent_data_text
+    u64_bytes u16_bytes u64_at
 written_source-owners_of_new_leaf = refl
 
 -- the new leaf still names the old extent, for the bytes that were not written anew
 written_source-owners_of_old_extent : owners written_source 67174400 ≡ 5 ∷ 256 ∷ []
-unfolding owners reach reach_of_root pieces_of file_part inode_read extent_data_read inode_text extent_data_text u64_bytes u16_bytes u64_at
+unfolding owners reach reach_of_root pieces_of file_part inode_read extent_data_read inode_text extent_data_text
+    u64_bytes u16_bytes u64_at
 written_source-owners_of_old_extent = refl
 
 written_source-owners_of_new_extent : owners written_source 67186688 ≡ 5 ∷ []
-unfolding owners reach reach_of_root pieces_of file_part inode_read extent_data_read inode_text extent_data_text u64_bytes u16_bytes u64_at
+unfolding owners reach reach_of_root pieces_of file_part inode_read extent_data_read inode_text extent_data_text
+    u64_bytes u16_bytes u64_at
 written_source-owners_of_new_extent = refl
 
 -- three nodes, and the extents of 8192, 4096 and 4096 bytes
 written_source-referenced : referenced written_source two_groups 5 ≡ 65536
-unfolding referenced reach_of_group members is_below leads reach reach_of_root pieces_of file_part inode_read extent_data_read inode_text extent_data_text u64_bytes u16_bytes u64_at
+unfolding referenced reach_of_group members is_below leads reach reach_of_root pieces_of file_part inode_read
+    extent_data_read inode_text extent_data_text u64_bytes u16_bytes u64_at
 written_source-referenced = refl
 
 -- its root, its new leaf and the new extent
 written_source-exclusive : exclusive written_source two_groups 5 ≡ 36864
-unfolding exclusive is_reached_outside reach_of_group members is_below leads reach reach_of_root pieces_of file_part inode_read extent_data_read inode_text extent_data_text u64_bytes u16_bytes u64_at
+unfolding exclusive is_reached_outside reach_of_group members is_below leads reach reach_of_root pieces_of file_part
+    inode_read extent_data_read inode_text extent_data_text u64_bytes u16_bytes u64_at
 written_source-exclusive = refl
 
 -- three nodes, and the extents of 8192 and 4096 bytes
 written_source-copy_referenced : referenced written_source two_groups 256 ≡ 61440
-unfolding referenced reach_of_group members is_below leads reach reach_of_root pieces_of file_part inode_read extent_data_read inode_text extent_data_text u64_bytes u16_bytes u64_at
+unfolding referenced reach_of_group members is_below leads reach reach_of_root pieces_of file_part inode_read
+    extent_data_read inode_text extent_data_text u64_bytes u16_bytes u64_at
 written_source-copy_referenced = refl
 
 -- its root and the old leaf
 written_source-copy_exclusive : exclusive written_source two_groups 256 ≡ 32768
-unfolding exclusive is_reached_outside reach_of_group members is_below leads reach reach_of_root pieces_of file_part inode_read extent_data_read inode_text extent_data_text u64_bytes u16_bytes u64_at
+unfolding exclusive is_reached_outside reach_of_group members is_below leads reach reach_of_root pieces_of file_part
+    inode_read extent_data_read inode_text extent_data_text u64_bytes u16_bytes u64_at
 written_source-copy_exclusive = refl
 
 -- the old leaf is owed a reference by the snapshot's root, and none by 5
@@ -137,7 +176,8 @@ unfolding owed owed_by_node file_part inode_read extent_data_read inode_text ext
 written_source-owed_to_old_leaf = refl
 
 written_source-none_of_5 : owed_count written_source 1048576 (KeyedBlock 5) ≡ 0
-unfolding owed_count owed owed_by_node file_part inode_read extent_data_read inode_text extent_data_text u64_bytes u16_bytes u64_at
+unfolding owed_count owed owed_by_node file_part inode_read extent_data_read inode_text extent_data_text u64_bytes
+    u16_bytes u64_at
 written_source-none_of_5 = refl
 
 -- the shared leaf is owed one by each root
@@ -160,11 +200,13 @@ unfolding owed owed_by_node file_part inode_read extent_data_read inode_text ext
 written_source-owed_to_old_extent = refl
 
 written_source-shared_once : owed_count written_source 67174400 (SharedData 1048576) ≡ 1
-unfolding owed_count owed owed_by_node file_part inode_read extent_data_read inode_text extent_data_text u64_bytes u16_bytes u64_at
+unfolding owed_count owed owed_by_node file_part inode_read extent_data_read inode_text extent_data_text u64_bytes
+    u16_bytes u64_at
 written_source-shared_once = refl
 
 written_source-keyed_once : owed_count written_source 67174400 (KeyedData 5 257 0) ≡ 1
-unfolding owed_count owed owed_by_node file_part inode_read extent_data_read inode_text extent_data_text u64_bytes u16_bytes u64_at
+unfolding owed_count owed owed_by_node file_part inode_read extent_data_read inode_text extent_data_text u64_bytes
+    u16_bytes u64_at
 written_source-keyed_once = refl
 
 -- the extent in the shared leaf is owed one reference by the leaf's owner, though two subvolumes reach it
@@ -177,22 +219,26 @@ unfolding owed owed_by_node file_part inode_read extent_data_read inode_text ext
 written_source-owed_to_new_extent = refl
 
 written_source-all_at_home : homeless written_source ≡ None
-unfolding homeless reach reach_of_root pieces_of file_part inode_read extent_data_read inode_text extent_data_text u64_bytes u16_bytes u64_at
+unfolding homeless reach reach_of_root pieces_of file_part inode_read extent_data_read inode_text extent_data_text
+    u64_bytes u16_bytes u64_at
 written_source-all_at_home = refl
 
--- without the full mark the old leaf would be one of 5 that 5 does not reach, and would owe the extent a keyed reference of 5
+-- without the full mark the old leaf would be one of 5 that 5 does not reach, and would owe the extent a keyed
+-- reference of 5
 unmarked-old_leaf : homeless (written_source_by false) ≡ Some 1048576
-unfolding homeless reach reach_of_root pieces_of file_part inode_read extent_data_read inode_text extent_data_text u64_bytes u16_bytes u64_at
+unfolding homeless reach reach_of_root pieces_of file_part inode_read extent_data_read inode_text extent_data_text
+    u64_bytes u16_bytes u64_at
 unmarked-old_leaf = refl
 
 unmarked-keyed_twice : owed_count (written_source_by false) 67174400 (KeyedData 5 257 0) ≡ 2
-unfolding owed_count owed owed_by_node file_part inode_read extent_data_read inode_text extent_data_text u64_bytes u16_bytes u64_at
+unfolding owed_count owed owed_by_node file_part inode_read extent_data_read inode_text extent_data_text u64_bytes
+    u16_bytes u64_at
 unmarked-keyed_twice = refl
 
 -- ---- a source that is deleted while its snapshot lives
 --
--- Subvolume 256 had a root above the leaves 1064960 and 1081344, and 257 is its snapshot, with the root 1114112. Then 256 is deleted: its
--- root goes, and its leaves live on and have the full mark. Subvolume 5 is empty.
+-- Subvolume 256 had a root above the leaves 1064960 and 1081344, and 257 is its snapshot, with the root 1114112. Then
+-- 256 is deleted: its root goes, and its leaves live on and have the full mark. Subvolume 5 is empty.
 
 abbrev pub deleted_source_by : Bool → Layout
 deleted_source_by full =
@@ -208,11 +254,13 @@ deleted_source = deleted_source_by true
 
 -- both leaves and what they name are the snapshot's alone
 deleted_source-owners_of_leaf : owners deleted_source 1064960 ≡ 257 ∷ []
-unfolding owners reach reach_of_root pieces_of file_part inode_read extent_data_read inode_text extent_data_text u64_bytes u16_bytes u64_at
+unfolding owners reach reach_of_root pieces_of file_part inode_read extent_data_read inode_text extent_data_text
+    u64_bytes u16_bytes u64_at
 deleted_source-owners_of_leaf = refl
 
 deleted_source-owners_of_extent : owners deleted_source 67174400 ≡ 257 ∷ []
-unfolding owners reach reach_of_root pieces_of file_part inode_read extent_data_read inode_text extent_data_text u64_bytes u16_bytes u64_at
+unfolding owners reach reach_of_root pieces_of file_part inode_read extent_data_read inode_text extent_data_text
+    u64_bytes u16_bytes u64_at
 deleted_source-owners_of_extent = refl
 
 -- a leaf is owed a keyed reference of the subvolume whose root leads to it
@@ -230,21 +278,26 @@ unfolding owed owed_by_node file_part inode_read extent_data_read inode_text ext
 deleted_source-owed_to_second_extent = refl
 
 deleted_source-all_at_home : homeless deleted_source ≡ None
-unfolding homeless reach reach_of_root pieces_of file_part inode_read extent_data_read inode_text extent_data_text u64_bytes u16_bytes u64_at
+unfolding homeless reach reach_of_root pieces_of file_part inode_read extent_data_read inode_text extent_data_text
+    u64_bytes u16_bytes u64_at
 deleted_source-all_at_home = refl
 
 -- without the mark the first of the two leaves is found
 unmarked-leaf_of_deleted : homeless (deleted_source_by false) ≡ Some 1064960
-unfolding homeless reach reach_of_root pieces_of file_part inode_read extent_data_read inode_text extent_data_text u64_bytes u16_bytes u64_at
+unfolding homeless reach reach_of_root pieces_of file_part inode_read extent_data_read inode_text extent_data_text
+    u64_bytes u16_bytes u64_at
 unmarked-leaf_of_deleted = refl
 
 -- ---- one node
 
--- a full node above leaves owes its children shared references with itself as parent, and one that is not full keyed ones of its owner
-full_inner_node : owed_by_node (inner_of 1097728 2 256 true (pointer 257 1048576 2 ∷ [])).1 ≡ record { address = 1048576; reference = SharedBlock 1097728 } ∷ []
+-- a full node above leaves owes its children shared references with itself as parent, and one that is not full keyed
+-- ones of its owner
+full_inner_node : owed_by_node (inner_of 1097728 2 256 true (pointer 257 1048576 2 ∷ [])).1
+    ≡ record { address = 1048576; reference = SharedBlock 1097728 } ∷ []
 unfolding owed_by_node
 full_inner_node = refl
 
-other_inner_node : owed_by_node (inner_of 1097728 2 256 false (pointer 257 1048576 2 ∷ [])).1 ≡ record { address = 1048576; reference = KeyedBlock 256 } ∷ []
+other_inner_node : owed_by_node (inner_of 1097728 2 256 false (pointer 257 1048576 2 ∷ [])).1
+    ≡ record { address = 1048576; reference = KeyedBlock 256 } ∷ []
 unfolding owed_by_node
 other_inner_node = refl

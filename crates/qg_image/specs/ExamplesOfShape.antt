@@ -28,7 +28,8 @@ leaf_using bytes = leaf (item 257 400 ∷ item 258 (bytes - 450) ∷ [])
 
 -- an inner node with so many pointers, all of one key
 abbrev pub inner : ℕ → Node
-inner count = Inner (record { address = 1048576; generation = 2; owner = 5; level = 1 }) (replicate count (record { key = key 257; child = 1064960; generation = 2 }))
+inner count = Inner (record { address = 1048576; generation = 2; owner = 5; level = 1 })
+    (replicate count (record { key = key 257; child = 1064960; generation = 2 }))
 
 -- ---- below a pointer
 

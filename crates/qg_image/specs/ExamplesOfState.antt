@@ -8,8 +8,10 @@ use Rattle.qg_node.specs.declared.item.Item.{Item}
 use Rattle.qg_node.specs.declared.node.Node.{Node}
 use Rattle.qg_node.specs.declared.node.Node.TheVariants.{Leaf}
 use Rattle.qg_items.specs.declared.extent.Reference.TheVariants.{KeyedBlock, KeyedData}
-use Rattle.qg_items.specs.ItemText.{inode_text, extent_data_text, root_text, extent_text, status_text, info_text, limit_text}
-use Rattle.qg_items.specs.ItemReading.{inode_read, extent_data_read, root_read, extent_read, status_read, info_read, limit_read}
+use Rattle.qg_items.specs.ItemText.{inode_text, extent_data_text, root_text, extent_text, status_text, info_text}
+use Rattle.qg_items.specs.ItemText.{limit_text}
+use Rattle.qg_items.specs.ItemReading.{inode_read, extent_data_read, root_read, extent_read, status_read, info_read}
+use Rattle.qg_items.specs.ItemReading.{limit_read}
 use Rattle.qg_super.specs.declared.sizes.Sizes.{Sizes}
 use Rattle.qg_super.specs.Places.{is_slot, is_run}
 use Rattle.qg_image.specs.declared.file.File.{File}
@@ -31,12 +33,27 @@ use Rattle.qg_image.specs.Need.{present_records, held_records, weight, file_copi
 abbrev pub piece_item : ℕ → Piece → Item
 piece_item ino piece = record {
   key = record { objectid = ino; kind = 108; offset = piece.position };
-  body = extent_data_text (record { generation = piece.stamp; ram_bytes = piece.extent_bytes; disk_bytenr = piece.extent; disk_num_bytes = piece.extent_bytes; offset = piece.offset; num_bytes = piece.len });
+  body = extent_data_text (record {
+    generation = piece.stamp;
+    ram_bytes = piece.extent_bytes;
+    disk_bytenr = piece.extent;
+    disk_num_bytes = piece.extent_bytes;
+    offset = piece.offset;
+    num_bytes = piece.len;
+  });
 }
 
 abbrev pub file_items : ℕ → File → List Item
 file_items ino file =
-    record { key = record { objectid = ino; kind = 1; offset = 0 }; body = inode_text (record { generation = file.generation; transid = file.transid; size = file.size; nbytes = sum_by (λ piece. piece.len) file.pieces }) }
+    record {
+      key = record { objectid = ino; kind = 1; offset = 0 };
+      body = inode_text (record {
+        generation = file.generation;
+        transid = file.transid;
+        size = file.size;
+        nbytes = sum_by (λ piece. piece.len) file.pieces;
+      });
+    }
     ∷ map (piece_item ino) file.pieces
 
 -- a leaf with these files
@@ -44,7 +61,8 @@ abbrev pub leaf : ℕ → ℕ → List (ℕ × File) → ℕ × Placed
 leaf address owner files = (
   address,
   record {
-    node = Leaf (record { address = address; generation = 2; owner = owner; level = 0 }) (flat_map (λ entry. file_items entry.0 entry.1) files);
+    node = Leaf (record { address = address; generation = 2; owner = owner; level = 0 })
+        (flat_map (λ entry. file_items entry.0 entry.1) files);
     full = false;
   },
 )
@@ -75,7 +93,14 @@ groups_of groups pairs = record { groups = groups; pairs = pairs }
 
 -- a piece of the extent of 8192 bytes at the first sector
 abbrev pub piece : ℕ → ℕ → ℕ → Piece
-piece position len offset = record { position = position; len = len; extent = 67174400; offset = offset; stamp = 2; extent_bytes = 8192 }
+piece position len offset = record {
+  position = position;
+  len = len;
+  extent = 67174400;
+  offset = offset;
+  stamp = 2;
+  extent_bytes = 8192;
+}
 
 abbrev pub file : ℕ → List Piece → File
 file size pieces = record { size = size; generation = 2; transid = 2; pieces = pieces }
@@ -89,11 +114,13 @@ abbrev pub first_write : State
 first_write = state_of ((5, subvolume 1048576 written) ∷ []) (leaf 1048576 5 written ∷ []) (5 ∷ []) []
 
 first_write-referenced : referenced (layout_of first_write) (groups_of (5 ∷ []) []) 5 ≡ 24576
-unfolding referenced reach_of_group members is_below leads reach reach_of_root pieces_of file_part inode_read extent_data_read inode_text extent_data_text u64_bytes u16_bytes u64_at
+unfolding referenced reach_of_group members is_below leads reach reach_of_root pieces_of file_part inode_read
+    extent_data_read inode_text extent_data_text u64_bytes u16_bytes u64_at
 first_write-referenced = refl
 
 first_write-exclusive : exclusive (layout_of first_write) (groups_of (5 ∷ []) []) 5 ≡ 24576
-unfolding exclusive is_reached_outside reach_of_group members is_below leads reach reach_of_root pieces_of file_part inode_read extent_data_read inode_text extent_data_text u64_bytes u16_bytes u64_at
+unfolding exclusive is_reached_outside reach_of_group members is_below leads reach reach_of_root pieces_of file_part
+    inode_read extent_data_read inode_text extent_data_text u64_bytes u16_bytes u64_at
 first_write-exclusive = refl
 
 -- ---- its snapshot: subvolume 256 has a root of its own and shares the extent; both groups are members of 1/1
@@ -105,43 +132,53 @@ abbrev pub shared_groups : Hierarchy
 shared_groups = groups_of (5 ∷ 256 ∷ one_one ∷ []) ((5, one_one) ∷ (256, one_one) ∷ [])
 
 abbrev pub snapshot : State
-snapshot = state_of ((5, subvolume 1048576 written) ∷ (256, subvolume 1064960 written) ∷ []) (leaf 1048576 5 written ∷ leaf 1064960 256 written ∷ []) (5 ∷ 256 ∷ one_one ∷ []) ((5, one_one) ∷ (256, one_one) ∷ [])
+snapshot = state_of ((5, subvolume 1048576 written) ∷ (256, subvolume 1064960 written) ∷ [])
+    (leaf 1048576 5 written ∷ leaf 1064960 256 written ∷ []) (5 ∷ 256 ∷ one_one ∷ [])
+    ((5, one_one) ∷ (256, one_one) ∷ [])
 
 snapshot-referenced : referenced (layout_of snapshot) shared_groups 256 ≡ 24576
-unfolding referenced reach_of_group members is_below leads reach reach_of_root pieces_of file_part inode_read extent_data_read inode_text extent_data_text u64_bytes u16_bytes u64_at
+unfolding referenced reach_of_group members is_below leads reach reach_of_root pieces_of file_part inode_read
+    extent_data_read inode_text extent_data_text u64_bytes u16_bytes u64_at
 snapshot-referenced = refl
 
 snapshot-exclusive : exclusive (layout_of snapshot) shared_groups 256 ≡ 16384
-unfolding exclusive is_reached_outside reach_of_group members is_below leads reach reach_of_root pieces_of file_part inode_read extent_data_read inode_text extent_data_text u64_bytes u16_bytes u64_at
+unfolding exclusive is_reached_outside reach_of_group members is_below leads reach reach_of_root pieces_of file_part
+    inode_read extent_data_read inode_text extent_data_text u64_bytes u16_bytes u64_at
 snapshot-exclusive = refl
 
 -- two roots, and the extent once
 snapshot-parent_referenced : referenced (layout_of snapshot) shared_groups one_one ≡ 40960
-unfolding referenced reach_of_group members is_below leads reach reach_of_root pieces_of file_part inode_read extent_data_read inode_text extent_data_text u64_bytes u16_bytes u64_at
+unfolding referenced reach_of_group members is_below leads reach reach_of_root pieces_of file_part inode_read
+    extent_data_read inode_text extent_data_text u64_bytes u16_bytes u64_at
 snapshot-parent_referenced = refl
 
 snapshot-parent_exclusive : exclusive (layout_of snapshot) shared_groups one_one ≡ 40960
-unfolding exclusive is_reached_outside reach_of_group members is_below leads reach reach_of_root pieces_of file_part inode_read extent_data_read inode_text extent_data_text u64_bytes u16_bytes u64_at
+unfolding exclusive is_reached_outside reach_of_group members is_below leads reach reach_of_root pieces_of file_part
+    inode_read extent_data_read inode_text extent_data_text u64_bytes u16_bytes u64_at
 snapshot-parent_exclusive = refl
 
 snapshot-owners : owners (layout_of snapshot) 67174400 ≡ 5 ∷ 256 ∷ []
-unfolding owners reach reach_of_root pieces_of file_part inode_read extent_data_read inode_text extent_data_text u64_bytes u16_bytes u64_at
+unfolding owners reach reach_of_root pieces_of file_part inode_read extent_data_read inode_text extent_data_text
+    u64_bytes u16_bytes u64_at
 snapshot-owners = refl
 
 snapshot-owed : owed_count (layout_of snapshot) 67174400 (KeyedData 256 257 0) ≡ 1
-unfolding owed_count owed owed_by_node file_part inode_read extent_data_read inode_text extent_data_text u64_bytes u16_bytes u64_at
+unfolding owed_count owed owed_by_node file_part inode_read extent_data_read inode_text extent_data_text u64_bytes
+    u16_bytes u64_at
 snapshot-owed = refl
 
 -- a subvolume that is gone is a member while its group stands, and reaches nothing
 abbrev pub deleted : State
-deleted = state_of ((5, subvolume 1048576 written) ∷ []) (leaf 1048576 5 written ∷ []) (5 ∷ 256 ∷ one_one ∷ []) ((5, one_one) ∷ (256, one_one) ∷ [])
+deleted = state_of ((5, subvolume 1048576 written) ∷ []) (leaf 1048576 5 written ∷ []) (5 ∷ 256 ∷ one_one ∷ [])
+    ((5, one_one) ∷ (256, one_one) ∷ [])
 
 deleted-is_member : members shared_groups one_one ≡ 5 ∷ 256 ∷ []
 unfolding members is_below leads
 deleted-is_member = refl
 
 deleted-referenced : referenced (layout_of deleted) shared_groups 256 ≡ 0
-unfolding referenced reach_of_group members is_below leads reach reach_of_root pieces_of file_part inode_read extent_data_read inode_text extent_data_text u64_bytes u16_bytes u64_at
+unfolding referenced reach_of_group members is_below leads reach reach_of_root pieces_of file_part inode_read
+    extent_data_read inode_text extent_data_text u64_bytes u16_bytes u64_at
 deleted-referenced = refl
 
 -- ---- a diamond: 0/5 leads to 2/1 by 1/1 and by 1/2, and counts there once
@@ -153,14 +190,17 @@ abbrev pub two_one : ℕ
 two_one = 2 * 2 ^ 48 + 1
 
 abbrev pub diamond : Hierarchy
-diamond = groups_of (5 ∷ one_one ∷ one_two ∷ two_one ∷ []) ((5, one_one) ∷ (5, one_two) ∷ (one_one, two_one) ∷ (one_two, two_one) ∷ [])
+diamond = groups_of (5 ∷ one_one ∷ one_two ∷ two_one ∷ []) ((5, one_one) ∷ (5, one_two) ∷ (one_one, two_one)
+    ∷ (one_two, two_one) ∷ [])
 
 diamond-members : members diamond two_one ≡ 5 ∷ []
 unfolding members is_below leads
 diamond-members = refl
 
-diamond-referenced : referenced (layout_of (state_of ((5, subvolume 1048576 []) ∷ []) (leaf 1048576 5 [] ∷ []) [] [])) diamond two_one ≡ 16384
-unfolding referenced reach_of_group members is_below leads reach reach_of_root pieces_of file_part inode_read extent_data_read inode_text extent_data_text u64_bytes u16_bytes u64_at
+diamond-referenced : referenced (layout_of (state_of ((5, subvolume 1048576 []) ∷ []) (leaf 1048576 5 [] ∷ []) [] []))
+    diamond two_one ≡ 16384
+unfolding referenced reach_of_group members is_below leads reach reach_of_root pieces_of file_part inode_read
+    extent_data_read inode_text extent_data_text u64_bytes u16_bytes u64_at
 diamond-referenced = refl
 
 -- ---- a clone inside the subvolume: two pieces of one extent count it once
@@ -168,26 +208,35 @@ diamond-referenced = refl
 abbrev pub cloned_inside : List (ℕ × File)
 cloned_inside = (257, file 16384 (piece 0 8192 0 ∷ piece 8192 8192 0 ∷ [])) ∷ []
 
-clone_inside-referenced : referenced (layout_of (state_of ((5, subvolume 1048576 cloned_inside) ∷ []) (leaf 1048576 5 cloned_inside ∷ []) (5 ∷ []) [])) (groups_of (5 ∷ []) []) 5 ≡ 24576
-unfolding referenced reach_of_group members is_below leads reach reach_of_root pieces_of file_part inode_read extent_data_read inode_text extent_data_text u64_bytes u16_bytes u64_at
+clone_inside-referenced : referenced
+    (layout_of (state_of ((5, subvolume 1048576 cloned_inside) ∷ []) (leaf 1048576 5 cloned_inside ∷ []) (5 ∷ []) []))
+    (groups_of (5 ∷ []) []) 5 ≡ 24576
+unfolding referenced reach_of_group members is_below leads reach reach_of_root pieces_of file_part inode_read
+    extent_data_read inode_text extent_data_text u64_bytes u16_bytes u64_at
 clone_inside-referenced = refl
 
 -- the second piece is owed a reference of its own
-clone_inside-owed : owed_count (layout_of (state_of ((5, subvolume 1048576 cloned_inside) ∷ []) (leaf 1048576 5 cloned_inside ∷ []) [] [])) 67174400 (KeyedData 5 257 8192) ≡ 1
-unfolding owed_count owed owed_by_node file_part inode_read extent_data_read inode_text extent_data_text u64_bytes u16_bytes u64_at
+clone_inside-owed : owed_count
+    (layout_of (state_of ((5, subvolume 1048576 cloned_inside) ∷ []) (leaf 1048576 5 cloned_inside ∷ []) [] []))
+    67174400 (KeyedData 5 257 8192) ≡ 1
+unfolding owed_count owed owed_by_node file_part inode_read extent_data_read inode_text extent_data_text u64_bytes
+    u16_bytes u64_at
 clone_inside-owed = refl
 
 -- ---- a clone between two subvolumes: the extent is exclusive to neither
 
 abbrev pub cloned_between : State
-cloned_between = state_of ((5, subvolume 1048576 written) ∷ (256, subvolume 1064960 written) ∷ []) (leaf 1048576 5 written ∷ leaf 1064960 256 written ∷ []) (5 ∷ 256 ∷ []) []
+cloned_between = state_of ((5, subvolume 1048576 written) ∷ (256, subvolume 1064960 written) ∷ [])
+    (leaf 1048576 5 written ∷ leaf 1064960 256 written ∷ []) (5 ∷ 256 ∷ []) []
 
 clone_between-referenced : referenced (layout_of cloned_between) (groups_of (5 ∷ 256 ∷ []) []) 5 ≡ 24576
-unfolding referenced reach_of_group members is_below leads reach reach_of_root pieces_of file_part inode_read extent_data_read inode_text extent_data_text u64_bytes u16_bytes u64_at
+unfolding referenced reach_of_group members is_below leads reach reach_of_root pieces_of file_part inode_read
+    extent_data_read inode_text extent_data_text u64_bytes u16_bytes u64_at
 clone_between-referenced = refl
 
 clone_between-exclusive : exclusive (layout_of cloned_between) (groups_of (5 ∷ 256 ∷ []) []) 5 ≡ 16384
-unfolding exclusive is_reached_outside reach_of_group members is_below leads reach reach_of_root pieces_of file_part inode_read extent_data_read inode_text extent_data_text u64_bytes u16_bytes u64_at
+unfolding exclusive is_reached_outside reach_of_group members is_below leads reach reach_of_root pieces_of file_part
+    inode_read extent_data_read inode_text extent_data_text u64_bytes u16_bytes u64_at
 clone_between-exclusive = refl
 
 -- ---- a cut piece: its extent counts whole
@@ -195,8 +244,11 @@ clone_between-exclusive = refl
 abbrev pub cut : List (ℕ × File)
 cut = (257, file 4096 (piece 0 4096 0 ∷ [])) ∷ []
 
-cut_piece-referenced : referenced (layout_of (state_of ((5, subvolume 1048576 cut) ∷ []) (leaf 1048576 5 cut ∷ []) (5 ∷ []) [])) (groups_of (5 ∷ []) []) 5 ≡ 24576
-unfolding referenced reach_of_group members is_below leads reach reach_of_root pieces_of file_part inode_read extent_data_read inode_text extent_data_text u64_bytes u16_bytes u64_at
+cut_piece-referenced : referenced
+    (layout_of (state_of ((5, subvolume 1048576 cut) ∷ []) (leaf 1048576 5 cut ∷ []) (5 ∷ []) []))
+    (groups_of (5 ∷ []) []) 5 ≡ 24576
+unfolding referenced reach_of_group members is_below leads reach reach_of_root pieces_of file_part inode_read
+    extent_data_read inode_text extent_data_text u64_bytes u16_bytes u64_at
 cut_piece-referenced = refl
 
 -- ---- a piece whose position is less than its offset: the reference's offset is 2^64 less 4096
@@ -204,30 +256,43 @@ cut_piece-referenced = refl
 abbrev pub behind : List (ℕ × File)
 behind = (258, file 4096 (piece 0 4096 4096 ∷ [])) ∷ []
 
-behind-owed : owed_count (layout_of (state_of ((5, subvolume 1048576 behind) ∷ []) (leaf 1048576 5 behind ∷ []) [] [])) 67174400 (KeyedData 5 258 18446744073709547520) ≡ 1
-unfolding owed_count owed owed_by_node file_part inode_read extent_data_read inode_text extent_data_text u64_bytes u16_bytes u64_at
+behind-owed : owed_count (layout_of (state_of ((5, subvolume 1048576 behind) ∷ []) (leaf 1048576 5 behind ∷ []) [] []))
+    67174400 (KeyedData 5 258 18446744073709547520) ≡ 1
+unfolding owed_count owed owed_by_node file_part inode_read extent_data_read inode_text extent_data_text u64_bytes
+    u16_bytes u64_at
 behind-owed = refl
 
--- ---- need: a fresh image of 64 slots, with its root, extent and quota trees, each a leaf. The extent tree's records the root node of the
--- subvolume and the reference to it, as it will once it records what is referenced
+-- ---- need: a fresh image of 64 slots, with its root, extent and quota trees, each a leaf. The extent tree's records
+-- the root node of the subvolume and the reference to it, as it will once it records what is referenced
 
 abbrev pub item_at : ℕ → ℕ → ℕ → List ℕ → Item
-item_at objectid kind offset body = record { key = record { objectid = objectid; kind = kind; offset = offset }; body = body }
+item_at objectid kind offset body = record {
+  key = record { objectid = objectid; kind = kind; offset = offset };
+  body = body;
+}
 
 abbrev pub tree_leaf : ℕ → ℕ → List Item → Node
 tree_leaf address owner items = Leaf (record { address = address; generation = 1; owner = owner; level = 0 }) items
 
 -- the ROOT_ITEM of a tree whose root is a leaf at an address
 abbrev pub root_item : ℕ → ℕ → Item
-root_item tree address = item_at tree 132 0 (root_text (record { generation = 1; bytenr = address; last_snapshot = 0; refs = 1; level = 0 }))
+root_item tree address =
+    item_at tree 132 0 (root_text (record { generation = 1; bytenr = address; last_snapshot = 0; refs = 1; level = 0 }))
 
 abbrev pub fresh_others : List Node
 fresh_others =
     tree_leaf 1048576 1 (root_item 2 1064960 ∷ root_item 5 1097728 ∷ root_item 8 1081344 ∷ [])
-    ∷ tree_leaf 1064960 2 (item_at 1097728 169 0 (extent_text (record { refs = 1; generation = 1; flags = 2 })) ∷ item_at 1097728 176 5 [] ∷ [])
+    ∷ tree_leaf 1064960 2 (item_at 1097728 169 0 (extent_text (record { refs = 1; generation = 1; flags = 2 }))
+    ∷ item_at 1097728 176 5 [] ∷ [])
     ∷ tree_leaf 1081344 8
     (item_at 0 240 0 (status_text (record { generation = 1; flags = 1; cursor = 0 }))
-    ∷ item_at 0 242 5 (info_text (record { generation = 1; rfer = 16384; rfer_cmpr = 16384; excl = 16384; excl_cmpr = 16384 }))
+    ∷ item_at 0 242 5 (info_text (record {
+      generation = 1;
+      rfer = 16384;
+      rfer_cmpr = 16384;
+      excl = 16384;
+      excl_cmpr = 16384;
+    }))
     ∷ item_at 0 244 5 (limit_text (record { flags = 0; max_rfer = 0; max_excl = 0 }))
     ∷ [])
     ∷ []
@@ -237,8 +302,25 @@ fresh = record {
   sizes = small;
   generation = 1;
   subvolumes = (5, subvolume 1097728 []) ∷ [];
-  layout = (1097728, record { node = Leaf (record { address = 1097728; generation = 1; owner = 5; level = 0 }) []; full = false }) ∷ [];
-  quota = Some (record { groups = (5, record { counters = record { rfer = 16384; excl = 16384 }; max_rfer = None; max_excl = None; stamp = 1 }) ∷ []; pairs = [] });
+  layout = (
+    1097728,
+    record {
+      node = Leaf (record { address = 1097728; generation = 1; owner = 5; level = 0 }) [];
+      full = false;
+    },
+  ) ∷ [];
+  quota = Some (record {
+    groups = (
+      5,
+      record {
+        counters = record { rfer = 16384; excl = 16384 };
+        max_rfer = None;
+        max_excl = None;
+        stamp = 1;
+      },
+    ) ∷ [];
+    pairs = [];
+  });
   pending = [];
   held = record {
     nodes = 1048576 ∷ 1064960 ∷ 1081344 ∷ 1097728 ∷ [];
@@ -248,8 +330,11 @@ fresh = record {
 }
 
 -- what its three trees' items name
-pub fresh-records : held_records fresh.held ≡ RootOf 2 ∷ RootOf 5 ∷ RootOf 8 ∷ NodeOf 1097728 0 ∷ ReferenceTo 1097728 (KeyedBlock 5) ∷ Status ∷ InfoOf 5 ∷ LimitOf 5 ∷ []
-unfolding held_records record_named root_part extent_part quota_part is_subvolume_number root_read extent_read status_read info_read limit_read root_text extent_text status_text info_text limit_text u64_bytes u32_bytes u32_at u16_bytes u64_at
+pub fresh-records : held_records fresh.held ≡ RootOf 2 ∷ RootOf 5 ∷ RootOf 8 ∷ NodeOf 1097728 0 ∷ ReferenceTo 1097728
+    (KeyedBlock 5) ∷ Status ∷ InfoOf 5 ∷ LimitOf 5 ∷ []
+unfolding held_records record_named root_part extent_part quota_part is_subvolume_number root_read extent_read
+    status_read info_read limit_read root_text extent_text status_text info_text limit_text u64_bytes u32_bytes u32_at
+    u16_bytes u64_at
 fresh-records = refl
 
 pub fresh-weight : weight fresh ≡ 1653
@@ -283,7 +368,18 @@ fresh-next_subvolume = refl
 -- ---- limits: a reservation that reaches a limit is accepted, one byte more is not
 
 abbrev pub limited : ℕ → Quota
-limited max = record { groups = (5, record { counters = record { rfer = 16384; excl = 16384 }; max_rfer = Some max; max_excl = None; stamp = 1 }) ∷ []; pairs = [] }
+limited max = record {
+  groups = (
+    5,
+    record {
+      counters = record { rfer = 16384; excl = 16384 };
+      max_rfer = Some max;
+      max_excl = None;
+      stamp = 1;
+    },
+  ) ∷ [];
+  pairs = [];
+}
 
 equality_is_accepted : over (limited 36864) [] 5 20480 ≡ None
 unfolding over first_over bytes_reserved members is_below leads

@@ -42,36 +42,53 @@ empty_root_is_sound : node_failure Files super (root_expected (Some 0) (Some 2))
 unfolding node_failure way_failure is_subvolume_number is_shaped
 empty_root_is_sound = refl
 
-another_level : node_failure Files super (root_expected (Some 1) (Some 2)) 1064960 leaf ≡ Some (Broken rule.Depth 1064960)
+another_level : node_failure Files super (root_expected (Some 1) (Some 2)) 1064960 leaf
+    ≡ Some (Broken rule.Depth 1064960)
 unfolding node_failure way_failure is_subvolume_number is_shaped
 another_level = refl
 
-another_generation : node_failure Files super (root_expected (Some 0) (Some 1)) 1064960 leaf ≡ Some (Broken rule.Gen 1064960)
+another_generation : node_failure Files super (root_expected (Some 0) (Some 1)) 1064960 leaf
+    ≡ Some (Broken rule.Gen 1064960)
 unfolding node_failure way_failure is_subvolume_number is_shaped
 another_generation = refl
 
 -- an empty leaf below a pointer has no first key that could be another, and is too empty
 empty_leaf_below :
-    node_failure Files super (record { level = Some 0; generation = Some 2; from = Some (record { objectid = 257; kind = 1; offset = 0 }); to = None }) 1064960 leaf
+    node_failure Files super (record {
+      level = Some 0;
+      generation = Some 2;
+      from = Some (record { objectid = 257; kind = 1; offset = 0 });
+      to = None;
+    }) 1064960 leaf
     ≡ Some (Broken rule.Shape 1064960)
 unfolding node_failure way_failure is_subvolume_number is_shaped
 empty_leaf_below = refl
 
 -- ---- space
 
-extents_side_by_side : space_failure small (record { address = 67174400; bytes = 4096 } ∷ record { address = 67178496; bytes = 8192 } ∷ []) ≡ None
+extents_side_by_side : space_failure small (record { address = 67174400; bytes = 4096 } ∷ record {
+  address = 67178496;
+  bytes = 8192;
+} ∷ []) ≡ None
 unfolding space_failure is_run
 extents_side_by_side = refl
 
-extents_that_overlap : space_failure small (record { address = 67174400; bytes = 8192 } ∷ record { address = 67178496; bytes = 8192 } ∷ []) ≡ Some (Broken rule.Space 67174400)
+extents_that_overlap : space_failure small (record { address = 67174400; bytes = 8192 } ∷ record {
+  address = 67178496;
+  bytes = 8192;
+} ∷ []) ≡ Some (Broken rule.Space 67174400)
 unfolding space_failure is_run
 extents_that_overlap = refl
 
-extent_of_two_lengths : space_failure small (record { address = 67178496; bytes = 4096 } ∷ record { address = 67178496; bytes = 8192 } ∷ []) ≡ Some (Broken rule.Space 67178496)
+extent_of_two_lengths : space_failure small (record { address = 67178496; bytes = 4096 } ∷ record {
+  address = 67178496;
+  bytes = 8192;
+} ∷ []) ≡ Some (Broken rule.Space 67178496)
 unfolding space_failure is_run
 extent_of_two_lengths = refl
 
-extent_past_the_end : space_failure small (record { address = 67235840; bytes = 8192 } ∷ []) ≡ Some (Broken rule.Space 67235840)
+extent_past_the_end : space_failure small (record { address = 67235840; bytes = 8192 } ∷ [])
+    ≡ Some (Broken rule.Space 67235840)
 unfolding space_failure is_run
 extent_past_the_end = refl
 
@@ -98,19 +115,46 @@ info_without_limit : is_quota (5 ∷ []) (status ∷ info 5 ∷ []) ≡ false
 unfolding is_quota is_subvolume_number
 info_without_limit = refl
 
-limit_that_is_not_set : is_quota (5 ∷ []) (status ∷ info 5 ∷ Limits 5 (record { flags = 0; max_rfer = 1; max_excl = 0 }) ∷ []) ≡ false
+limit_that_is_not_set : is_quota (5 ∷ []) (status ∷ info 5 ∷ Limits 5 (record { flags = 0; max_rfer = 1; max_excl = 0 })
+    ∷ []) ≡ false
 unfolding is_quota is_subvolume_number
 limit_that_is_not_set = refl
 
 -- ---- counts
 
-fresh_counts : counts_failure (layout_of (fresh_state small [] 1064960)) (Some (record { groups = (5, record { counters = record { rfer = 16384; excl = 16384 }; max_rfer = None; max_excl = None; stamp = 1 }) ∷ []; pairs = [] })) ≡ None
-unfolding counts_failure referenced exclusive is_reached_outside reach_of_group members is_below leads reach reach_of_root pieces_of
+fresh_counts : counts_failure (layout_of (fresh_state small [] 1064960))
+    (Some (record {
+      groups = (
+        5,
+        record {
+          counters = record { rfer = 16384; excl = 16384 };
+          max_rfer = None;
+          max_excl = None;
+          stamp = 1;
+        },
+      ) ∷ [];
+      pairs = [];
+    })) ≡ None
+unfolding counts_failure referenced exclusive is_reached_outside reach_of_group members is_below leads reach
+    reach_of_root pieces_of
 fresh_counts = refl
 
 -- referenced bytes stored as 0
-stored_as_zero : counts_failure (layout_of (fresh_state small [] 1064960)) (Some (record { groups = (5, record { counters = record { rfer = 0; excl = 16384 }; max_rfer = None; max_excl = None; stamp = 1 }) ∷ []; pairs = [] })) ≡ Some (Differs 5 Rfer 0 16384)
-unfolding counts_failure referenced exclusive is_reached_outside reach_of_group members is_below leads reach reach_of_root pieces_of
+stored_as_zero : counts_failure (layout_of (fresh_state small [] 1064960))
+    (Some (record {
+      groups = (
+        5,
+        record {
+          counters = record { rfer = 0; excl = 16384 };
+          max_rfer = None;
+          max_excl = None;
+          stamp = 1;
+        },
+      ) ∷ [];
+      pairs = [];
+    })) ≡ Some (Differs 5 Rfer 0 16384)
+unfolding counts_failure referenced exclusive is_reached_outside reach_of_group members is_below leads reach
+    reach_of_root pieces_of
 stored_as_zero = refl
 
 -- ---- superblocks
@@ -123,7 +167,8 @@ image_is_so_long = refl
 long_enough : unless (nat_le (total_bytes (sizes_of super)) 67239936) rule.Length 67239936 ≡ None
 long_enough = refl
 
-too_short : unless (nat_le (total_bytes (sizes_of super)) 67239935) rule.Length 67239935 ≡ Some (Broken rule.Length 67239935)
+too_short : unless (nat_le (total_bytes (sizes_of super)) 67239935) rule.Length 67239935
+    ≡ Some (Broken rule.Length 67239935)
 too_short = refl
 
 -- a superblock of a generation, with its root at an address
@@ -167,19 +212,22 @@ node_record flags = NodeRecord 1048576 0 (record { refs = 1; generation = 2; fla
 full_flags : map (λ flags. is_full_record 1048576 (node_record flags)) (258 ∷ 256 ∷ 770 ∷ []) ≡ true ∷ true ∷ true ∷ []
 full_flags = refl
 
-other_flags : map (λ flags. is_full_record 1048576 (node_record flags)) (2 ∷ 0 ∷ 514 ∷ 255 ∷ []) ≡ false ∷ false ∷ false ∷ false ∷ []
+other_flags : map (λ flags. is_full_record 1048576 (node_record flags)) (2 ∷ 0 ∷ 514 ∷ 255 ∷ []) ≡ false ∷ false ∷ false
+    ∷ false ∷ []
 other_flags = refl
 
 -- the record of another node, and that of a data extent
 record_of_another_node : is_full_record 1064960 (node_record 258) ≡ false
 record_of_another_node = refl
 
-record_of_an_extent : is_full_record 1048576 (DataRecord 1048576 4096 (record { refs = 1; generation = 2; flags = 257 })) ≡ false
+record_of_an_extent : is_full_record 1048576
+    (DataRecord 1048576 4096 (record { refs = 1; generation = 2; flags = 257 })) ≡ false
 record_of_an_extent = refl
 
 -- the leaf at 1064960 without a record, and with one
 node_without_record : (placed [] leaf).full ≡ false
 node_without_record = refl
 
-node_with_record : (placed (node_record 2 ∷ NodeRecord 1064960 0 (record { refs = 1; generation = 2; flags = 258 }) ∷ []) leaf).full ≡ true
+node_with_record : (placed (node_record 2 ∷ NodeRecord 1064960 0 (record { refs = 1; generation = 2; flags = 258 })
+    ∷ []) leaf).full ≡ true
 node_with_record = refl

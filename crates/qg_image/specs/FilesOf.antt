@@ -1,7 +1,8 @@
 -- The files that the items of a subvolume's tree stand for (on-disk format, INODE_ITEM and EXTENT_DATA).
 --
 -- Positions, lengths and sizes are in bytes.
-use Rattle.std.specs.Prelude.{ℕ, ◌+◌, ◌%◌, ◌^◌, Bool, true, ◌&&◌, List, [], ◌∷◌, map, Option, Some, None, ◌==◌, nat_le, nat_lt}
+use Rattle.std.specs.Prelude.{ℕ, ◌+◌, ◌%◌, ◌^◌, Bool, true, ◌&&◌, List, [], ◌∷◌, map, Option, Some, None, ◌==◌, nat_le}
+use Rattle.std.specs.Prelude.{nat_lt}
 use Rattle.std.specs.Bool.{then_some}
 use Rattle.std.specs.List.{filter_map, list_all, sum_by}
 use Rattle.qg_num.specs.declared.piece.Piece.{Piece}
@@ -35,13 +36,15 @@ is_aligned bytes = bytes % sector == 0
 -- a piece of whole sectors that lies in its extent
 unfoldable pub is_piece : Piece → Bool
 is_piece piece =
-    is_aligned piece.position && is_aligned piece.len && nat_lt 0 piece.len && is_aligned piece.offset && is_aligned piece.extent_bytes
+    is_aligned piece.position && is_aligned piece.len && nat_lt 0 piece.len && is_aligned piece.offset
+    && is_aligned piece.extent_bytes
     && nat_le (piece.offset + piece.len) piece.extent_bytes
 
 -- pieces that ascend from a position on, overlap nowhere and end by the size
 unfoldable pub are_pieces : ℕ → ℕ → List Piece → Bool
 are_pieces from size [] = nat_le from size
-are_pieces from size (piece ∷ pieces) = nat_le from piece.position && is_piece piece && are_pieces (piece_end piece) size pieces
+are_pieces from size (piece ∷ pieces) = nat_le from piece.position && is_piece piece
+    && are_pieces (piece_end piece) size pieces
 
 -- a file of whole sectors, no larger than the largest, with such pieces
 unfoldable pub is_file : File → Bool
@@ -59,7 +62,8 @@ file_parts items = filter_map file_part items
 
 -- the item is one that a subvolume's tree may hold, and tells no generation past this one
 unfoldable pub is_file_item : ℕ → Item → Bool
-is_file_item generation item = some_passes (λ part. list_all (λ stamp. nat_le stamp generation) (file_part_stamps part)) (file_part item)
+is_file_item generation item = some_passes (λ part. list_all (λ stamp. nat_le stamp generation) (file_part_stamps part))
+    (file_part item)
 
 -- the piece that a part tells of a file
 abbrev pub piece_in : ℕ → FilePart → Option Piece
@@ -81,7 +85,12 @@ inodes_in parts = filter_map inode_in parts
 
 -- the file that its INODE_ITEM and its pieces stand for
 abbrev pub file_in : List FilePart → ℕ × InodeItem → File
-file_in parts entry = record { size = entry.1.size; generation = entry.1.generation; transid = entry.1.transid; pieces = pieces_in entry.0 parts }
+file_in parts entry = record {
+  size = entry.1.size;
+  generation = entry.1.generation;
+  transid = entry.1.transid;
+  pieces = pieces_in entry.0 parts;
+}
 
 -- the files, ascending by number
 abbrev pub files_in : List FilePart → List (ℕ × File)
@@ -95,14 +104,15 @@ is_owned parts (PieceOf ino piece) = has_key ino (inodes_in parts)
 -- the number is one of a file, the file is sound, and nbytes is the sum of its pieces
 abbrev pub is_inode : List FilePart → ℕ × InodeItem → Bool
 is_inode parts entry =
-    nat_le least_inode entry.0 && nat_lt entry.0 inodes_end && is_file (file_in parts entry) && (entry.1.nbytes == pieces_bytes (pieces_in entry.0 parts))
+    nat_le least_inode entry.0 && nat_lt entry.0 inodes_end && is_file (file_in parts entry)
+    && (entry.1.nbytes == pieces_bytes (pieces_in entry.0 parts))
 
 -- the items of files fit each other
 unfoldable pub are_files : List FilePart → Bool
 are_files parts = list_all (is_owned parts) parts && list_all (is_inode parts) (inodes_in parts)
 
--- the files of items that tell no generation past this one; undefined where an item is none of a subvolume's tree, or where the
--- items do not fit each other
+-- the files of items that tell no generation past this one; undefined where an item is none of a subvolume's tree, or
+-- where the items do not fit each other
 unfoldable pub files_of : ℕ → List Item → Option (List (ℕ × File))
 files_of generation items =
     then_some (list_all (is_file_item generation) items && are_files (file_parts items)) (files_in (file_parts items))

@@ -1,5 +1,7 @@
--- What an image holds, read from its roots down (this project's own). Of an image that is not sound these words say nothing of use.
-use Rattle.std.specs.Prelude.{◌≡◌, ℕ, ◌+◌, ◌/◌, ◌%◌, Bool, false, ◌&&◌, List, [], ◌++◌, map, Option, Some, None, Result, Ok, Err, slice_range, ◌==◌, nat_lt, unwrap_or}
+-- What an image holds, read from its roots down (this project's own). Of an image that is not sound these words say
+-- nothing of use.
+use Rattle.std.specs.Prelude.{◌≡◌, ℕ, ◌+◌, ◌/◌, ◌%◌, Bool, false, ◌&&◌, List, [], ◌++◌, map, Option, Some, None, Result}
+use Rattle.std.specs.Prelude.{Ok, Err, slice_range, ◌==◌, nat_lt, unwrap_or}
 use Rattle.std.specs.Bool.{then_some}
 use Rattle.std.specs.List.{list_any, filter, filter_map, flat_map, fold}
 use Rattle.std.specs.Option.{option_map, option_and_then}
@@ -53,10 +55,12 @@ level_in super image address = level_told (node_found super image address) where
 
 -- the items and the nodes of a tree, by what is expected of its root and the root's address
 unfoldable pub tree_items : Tree → Super → List ℕ → Expected → ℕ → List Item
-tree_items tree super image expected root = unwrap_or (items_under tree super (node_found super image) (level_in super image root) expected root) []
+tree_items tree super image expected root =
+    unwrap_or (items_under tree super (node_found super image) (level_in super image root) expected root) []
 
 unfoldable pub tree_nodes : Tree → Super → List ℕ → Expected → ℕ → List Node
-tree_nodes tree super image expected root = unwrap_or (nodes_under tree super (node_found super image) (level_in super image root) expected root) []
+tree_nodes tree super image expected root =
+    unwrap_or (nodes_under tree super (node_found super image) (level_in super image root) expected root) []
 
 -- the items and the nodes of the root tree
 abbrev pub root_items : Super → List ℕ → List Item
@@ -93,7 +97,8 @@ quota_root super image = value_at QUOTA_TREE (roots_in super image)
 
 -- what the items of the extent tree say
 unfoldable pub extent_parts : Super → List ℕ → List ExtentPart
-extent_parts super image = filter_map extent_part (of_tree (items_of_root Extents super image) (extent_root super image))
+extent_parts super image =
+    filter_map extent_part (of_tree (items_of_root Extents super image) (extent_root super image))
 
 -- what the items of the quota tree say
 unfoldable pub quota_parts : Super → List ℕ → List QuotaPart
@@ -129,7 +134,8 @@ subvolume_in super image root = record {
 
 -- the subvolumes by number
 unfoldable pub subvolumes_in : Super → List ℕ → List (ℕ × Subvolume)
-subvolumes_in super image = map (λ entry. (entry.0, subvolume_in super image entry.1)) (subvolume_roots (roots_in super image))
+subvolumes_in super image = map (λ entry. (entry.0, subvolume_in super image entry.1))
+    (subvolume_roots (roots_in super image))
 
 -- ---- quota
 
@@ -173,7 +179,8 @@ group_told info limit = record {
 -- the groups and relations that items tell
 unfoldable pub quota_told : List QuotaPart → Quota
 quota_told parts = record {
-  groups = map (λ entry. (entry.0, group_told entry.1 (value_at entry.0 (filter_map limit_told parts)))) (filter_map info_told parts);
+  groups = map (λ entry. (entry.0, group_told entry.1 (value_at entry.0 (filter_map limit_told parts))))
+      (filter_map info_told parts);
   pairs = filter_map pair_told parts;
 }
 
@@ -195,7 +202,11 @@ addresses_of nodes = map (λ node. (header_of node).address) nodes
 
 -- what a commit of a state holds, its root, extent and quota trees having these nodes
 abbrev pub committed_by : List Node → State → Committed
-committed_by others state = record { nodes = addresses_of others ++ keys_of state.layout; others = others; extents = present_extents state }
+committed_by others state = record {
+  nodes = addresses_of others ++ keys_of state.layout;
+  others = others;
+  extents = present_extents state;
+}
 
 -- the same state, holding what a commit of it holds
 abbrev pub as_committed : List Node → State → State

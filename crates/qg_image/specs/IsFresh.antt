@@ -14,14 +14,19 @@ use Rattle.qg_image.specs.OtherTrees.{AreOtherTrees}
 
 -- the group of the top-level subvolume: it counts the root node alone, and has no limit
 abbrev pub fresh_group : Sizes → Group
-fresh_group sizes = record { counters = record { rfer = sizes.nodesize; excl = sizes.nodesize }; max_rfer = None; max_excl = None; stamp = 1 }
+fresh_group sizes = record {
+  counters = record { rfer = sizes.nodesize; excl = sizes.nodesize };
+  max_rfer = None;
+  max_excl = None;
+  stamp = 1;
+}
 
 -- a leaf of generation 1 with these items
 abbrev pub fresh_leaf : ℕ → ℕ → List Item → Node
 fresh_leaf owner address items = Leaf (record { address = address; generation = 1; owner = owner; level = 0 }) items
 
--- generation 1, quota on, the top-level subvolume an empty leaf at an address, its group with its counts and no limit; the root, extent
--- and quota trees have these nodes
+-- generation 1, quota on, the top-level subvolume an empty leaf at an address, its group with its counts and no limit;
+-- the root, extent and quota trees have these nodes
 abbrev pub fresh_state : Sizes → List Node → ℕ → State
 fresh_state sizes others root = as_committed others (record {
   sizes = sizes;
@@ -43,7 +48,8 @@ pub record IsFresh (sizes : Sizes) (state : State) : Type 0 where
   pub quotas : ℕ
   pub quota_items : List Item
   pub others : List Node
-  pub leaves : others ≡ fresh_leaf ROOT_TREE roots root_items ∷ fresh_leaf EXTENT_TREE extents extent_items ∷ fresh_leaf QUOTA_TREE quotas quota_items ∷ []
+  pub leaves : others ≡ fresh_leaf ROOT_TREE roots root_items ∷ fresh_leaf EXTENT_TREE extents extent_items
+      ∷ fresh_leaf QUOTA_TREE quotas quota_items ∷ []
   pub fresh : state ≡ fresh_state sizes others root
   pub trees : AreOtherTrees state others
   pub apart : IsDistinct (λ a b. a == b) (roots ∷ extents ∷ root ∷ quotas ∷ [])

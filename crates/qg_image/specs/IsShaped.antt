@@ -14,8 +14,8 @@ abbrev pub is_first : Key → List Key → Bool
 is_first key [] = false
 is_first key (first ∷ keys) = same_key first key
 
--- the node of a root, or one that a pointer of this key leads to. Below a pointer it is a quarter full at least, and its first key is
--- the pointer's; an inner root has two pointers at least; only a root leaf is empty
+-- the node of a root, or one that a pointer of this key leads to. Below a pointer it is a quarter full at least, and
+-- its first key is the pointer's; an inner root has two pointers at least; only a root leaf is empty
 unfoldable pub is_shaped : ℕ → Option Key → Node → Bool
 is_shaped nodesize None (Leaf header items) = true
 is_shaped nodesize None (Inner header pointers) = nat_le 2 (length pointers)

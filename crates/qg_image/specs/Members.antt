@@ -22,21 +22,24 @@ hierarchy_of quota = record { groups = keys_of quota.groups; pairs = quota.pairs
 -- a chain of so many relations at most leads from one group to another
 unfoldable pub leads : List (ℕ × ℕ) → ℕ → ℕ → ℕ → Bool
 leads pairs zero from to = from == to
-leads pairs (suc count) from to = (from == to) || list_any (λ pair. (pair.0 == from) && leads pairs count pair.1 to) pairs
+leads pairs (suc count) from to = (from == to) || list_any (λ pair. (pair.0 == from) && leads pairs count pair.1 to)
+    pairs
 
 -- one group is another, or a chain of relations leads from it there
 unfoldable pub is_below : List (ℕ × ℕ) → ℕ → ℕ → Bool
 is_below pairs from to = leads pairs (length pairs) from to
 
--- the members of a group: the numbers S of the kept groups 0/S that are the group or lead to it, each once; the number of a subvolume that
--- is gone is a member by the same rule (this project's own)
+-- the members of a group: the numbers S of the kept groups 0/S that are the group or lead to it, each once; the number
+-- of a subvolume that is gone is a member by the same rule (this project's own)
 unfoldable pub members : Hierarchy → ℕ → List ℕ
-members hierarchy group = filter (λ sub. (level_of_group sub == 0) && is_below hierarchy.pairs sub group) hierarchy.groups
+members hierarchy group =
+    filter (λ sub. (level_of_group sub == 0) && is_below hierarchy.pairs sub group) hierarchy.groups
 
 abbrev pub is_member : Hierarchy → ℕ → ℕ → Bool
 is_member hierarchy group sub = list_any (λ member. member == sub) (members hierarchy group)
 
--- the next subvolume's number (this project's own): one more than the greatest of 255, the subvolumes' numbers and the ids of level-0
--- groups
+-- the next subvolume's number (this project's own): one more than the greatest of 255, the subvolumes' numbers and the
+-- ids of level-0 groups
 unfoldable pub next_subvolume : List ℕ → List ℕ → ℕ
-next_subvolume subvolumes groups = fold max (fold max 255 subvolumes) (filter (λ group. level_of_group group == 0) groups) + 1
+next_subvolume subvolumes groups =
+    fold max (fold max 255 subvolumes) (filter (λ group. level_of_group group == 0) groups) + 1

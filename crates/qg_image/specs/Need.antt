@@ -1,12 +1,15 @@
--- How many node slots a command needs, so that no commit ever wants one (this project's own). Weights are in bytes, the rest in slots.
-use Rattle.std.specs.Prelude.{ℕ, ◌+◌, ◌-◌, ◌*◌, ◌/◌, ◌≤◌, List, [], ◌∷◌, ◌++◌, length, map, Option, Some, None, if◌then◌else◌}
+-- How many node slots a command needs, so that no commit ever wants one (this project's own). Weights are in bytes, the
+-- rest in slots.
+use Rattle.std.specs.Prelude.{ℕ, ◌+◌, ◌-◌, ◌*◌, ◌/◌, ◌≤◌, List, [], ◌∷◌, ◌++◌, length, map, Option, Some, None}
+use Rattle.std.specs.Prelude.{if◌then◌else◌}
 use Rattle.std.specs.List.{filter_map, flat_map, sum_by}
 use Rattle.qg_items.specs.declared.tree.TheConstants.{EXTENT_TREE, QUOTA_TREE}
 use Rattle.qg_node.specs.Nodes.{header_of, own_items}
 use Rattle.qg_super.specs.Places.{capacity}
 use Rattle.qg_image.specs.Table.{keys_of}
 use Rattle.qg_image.specs.declared.file.File.{File}
-use Rattle.qg_image.specs.Record.{Record, RootOf, ExtentOf, NodeOf, ReferenceTo, Status, InfoOf, LimitOf, RelationOf, record_named, records_bytes}
+use Rattle.qg_image.specs.Record.{Record, RootOf, ExtentOf, NodeOf, ReferenceTo, Status, InfoOf, LimitOf, RelationOf}
+use Rattle.qg_image.specs.Record.{record_named, records_bytes}
 use Rattle.qg_image.specs.declared.quota.Quota.{Quota}
 use Rattle.qg_image.specs.State.{State, Layout, Accepted, Committed, layout_of}
 use Rattle.qg_image.specs.Owed.{owed, layout_extents}
@@ -28,7 +31,8 @@ root_records state = RootOf EXTENT_TREE ∷ map RootOf (keys_of state.subvolumes
 
 abbrev pub extent_records : Layout → List Record
 extent_records layout =
-    map (λ entry. NodeOf entry.0 (header_of entry.1.node).level) layout.nodes ++ map (λ extent. ExtentOf extent.address extent.bytes) (layout_extents layout)
+    map (λ entry. NodeOf entry.0 (header_of entry.1.node).level) layout.nodes
+    ++ map (λ extent. ExtentOf extent.address extent.bytes) (layout_extents layout)
     ++ map (λ owing. ReferenceTo owing.address owing.reference) (owed layout)
 
 unfoldable pub present_records : State → List Record
@@ -65,7 +69,8 @@ file_need state copies = 10 * copies + 8 * nodes_filled state.sizes.nodesize (we
 abbrev pub structural_need : State → ℕ → ℕ
 structural_need state copies = 10 * copies + 16 * nodes_filled state.sizes.nodesize (weight state) + 80
 
--- the slots that the commit to come may take are there: those needed, less those that the last accepted command may have taken
+-- the slots that the commit to come may take are there: those needed, less those that the last accepted command may
+-- have taken
 abbrev pub IsReserved : State → Type 0
 IsReserved state = is_enough state.pending where
   is_enough : List Accepted → Type 0

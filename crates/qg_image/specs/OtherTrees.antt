@@ -1,4 +1,5 @@
--- The root, extent and quota trees of a committed state, said without an image (this project's own). Addresses are in bytes.
+-- The root, extent and quota trees of a committed state, said without an image (this project's own). Addresses are in
+-- bytes.
 use Rattle.std.specs.Prelude.{◌≡◌, ◌⊎◌, ℕ, List, [], ◌++◌, Option, Some, None, MatchBool, MatchOption}
 use Rattle.std.specs.List.{AllByRecursion, filter_map}
 use Rattle.std.specs.Option.{option_map}
@@ -39,11 +40,15 @@ super_at state root = record {
   format = 1;
 }
 
--- the nodes are those of one tree, each before those below it, which breaks no rule of the walk; and these are its items
-pub record IsTreeOfNodes (tree : Tree) (super : Super) (expected : Expected) (root : ℕ) (nodes : List Node) (items : List Item) : Type 0 where
+-- the nodes are those of one tree, each before those below it, which breaks no rule of the walk; and these are its
+-- items
+pub record IsTreeOfNodes (tree : Tree) (super : Super) (expected : Expected) (root : ℕ) (nodes : List Node)
+    (items : List Item) : Type 0 where
   pub walked : walk_failure (node_failure tree super) (found_among nodes) deepest expected root ≡ None
-  pub nodes_are : nodes_under tree super (found_among nodes) (level_of (node_among nodes root)) expected root ≡ Some nodes
-  pub items_are : items_under tree super (found_among nodes) (level_of (node_among nodes root)) expected root ≡ Some items
+  pub nodes_are : nodes_under tree super (found_among nodes) (level_of (node_among nodes root)) expected root
+      ≡ Some nodes
+  pub items_are : items_under tree super (found_among nodes) (level_of (node_among nodes root)) expected root
+      ≡ Some items
 
 -- so it is of a tree with this ROOT_ITEM; of no tree there are no nodes and no items
 abbrev pub IsTreeOfRoot : Tree → Super → Option RootItem → List Node → List Item → Type 0
@@ -63,11 +68,13 @@ root_item_of subvolume root = record {
 -- the ROOT_ITEMs of the subvolumes of a state
 unfoldable pub subvolume_items : State → List (ℕ × RootItem)
 subvolume_items state =
-    filter_map (λ entry. option_map (λ root. (entry.0, root_item_of entry.1 root)) (node_at state.layout entry.1.root)) state.subvolumes
+    filter_map (λ entry. option_map (λ root. (entry.0, root_item_of entry.1 root)) (node_at state.layout entry.1.root))
+    state.subvolumes
 
--- These are the nodes of the root, extent and quota trees of a committed state. Each is a tree by the rules of the walk. The root tree names
--- the other two and the subvolumes' roots, the quota tree tells quota and is there where quota is on, and the extent tree records exactly what
--- is owed. Which number a reference's key has, and which generation a data extent's record tells, is free.
+-- These are the nodes of the root, extent and quota trees of a committed state. Each is a tree by the rules of the
+-- walk. The root tree names the other two and the subvolumes' roots, the quota tree tells quota and is there where
+-- quota is on, and the extent tree records exactly what is owed. Which number a reference's key has, and which
+-- generation a data extent's record tells, is free.
 pub record AreOtherTrees (state : State) (others : List Node) : Type 0 where
   pub format : AllByRecursion (IsOfFormat state.sizes.nodesize) others
   pub root : ℕ

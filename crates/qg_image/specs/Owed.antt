@@ -1,6 +1,7 @@
--- The references that are owed, and when the extent tree records exactly them (on-disk format, "backreferences"; the cases are this
--- project's own, chosen after Btrfs). Addresses are in bytes.
-use Rattle.std.specs.Prelude.{◌≡◌, ℕ, ◌+◌, ◌-◌, ◌%◌, ◌^◌, Bool, true, false, ◌&&◌, ◌||◌, not, List, [], ◌∷◌, ◌++◌, map, Option, Some, None, ◌==◌, nat_lt, if◌then◌else◌}
+-- The references that are owed, and when the extent tree records exactly them (on-disk format, "backreferences"; the
+-- cases are this project's own, chosen after Btrfs). Addresses are in bytes.
+use Rattle.std.specs.Prelude.{◌≡◌, ℕ, ◌+◌, ◌-◌, ◌%◌, ◌^◌, Bool, true, false, ◌&&◌, ◌||◌, not, List, [], ◌∷◌, ◌++◌, map}
+use Rattle.std.specs.Prelude.{Option, Some, None, ◌==◌, nat_lt, if◌then◌else◌}
 use Rattle.std.specs.List.{list_any, list_all, filter, filter_map, flat_map, sum_by, count_by, find}
 use Rattle.qg_node.specs.declared.node.Header.{Header}
 use Rattle.qg_node.specs.Nodes.{header_of, own_items, own_pointers}
@@ -32,9 +33,13 @@ reference_offset position offset = (position + 2 ^ 64 - offset) % 2 ^ 64
 abbrev pub owed_by_part : Header → Bool → Option FilePart → List Owing
 owed_by_part header full None = []
 owed_by_part header full (Some (Inode ino inode)) = []
-owed_by_part header true (Some (PieceOf ino piece)) = record { address = piece.extent; reference = SharedData header.address } ∷ []
+owed_by_part header true (Some (PieceOf ino piece)) =
+    record { address = piece.extent; reference = SharedData header.address } ∷ []
 owed_by_part header false (Some (PieceOf ino piece)) =
-    record { address = piece.extent; reference = KeyedData header.owner ino (reference_offset piece.position piece.offset) } ∷ []
+    record {
+      address = piece.extent;
+      reference = KeyedData header.owner ino (reference_offset piece.position piece.offset);
+    } ∷ []
 
 -- what a node owes to a child
 abbrev pub owed_to_child : Header → Bool → ℕ → Owing
@@ -50,11 +55,13 @@ owed_by_node placed =
 -- all that is owed: each subvolume owes its root a keyed reference, and each reached node what it owes, once
 unfoldable pub owed : Layout → List Owing
 owed layout =
-    map (λ entry. record { address = entry.1; reference = KeyedBlock entry.0 }) layout.roots ++ flat_map (λ entry. owed_by_node entry.1) layout.nodes
+    map (λ entry. record { address = entry.1; reference = KeyedBlock entry.0 }) layout.roots
+    ++ flat_map (λ entry. owed_by_node entry.1) layout.nodes
 
 -- the references that are owed to an address, as often as they are
 abbrev pub owed_to : Layout → ℕ → List Reference
-owed_to layout address = filter_map (λ owing. if owing.address == address then Some owing.reference else None) (owed layout)
+owed_to layout address = filter_map (λ owing. if owing.address == address then Some owing.reference else None)
+    (owed layout)
 
 -- how often one reference is owed to an address
 unfoldable pub owed_count : Layout → ℕ → Reference → ℕ
@@ -97,11 +104,14 @@ is_record (Referenced address reference count) = false
 abbrev pub node_flags : Bool → ℕ
 node_flags full = if full then 2 + 256 else 2
 
--- the record of what begins there, with so many references in all; which generation a data extent's record tells is not asked
+-- the record of what begins there, with so many references in all; which generation a data extent's record tells is not
+-- asked
 abbrev pub is_record_of : What → ℕ → ExtentPart → Bool
-is_record_of (Data bytes) refs (DataRecord address bytes' extent) = (bytes' == bytes) && (extent.flags == 1) && (extent.refs == refs)
+is_record_of (Data bytes) refs (DataRecord address bytes' extent) = (bytes' == bytes) && (extent.flags == 1)
+    && (extent.refs == refs)
 is_record_of (Block header full) refs (NodeRecord address level extent) =
-    (level == header.level) && (extent.flags == node_flags full) && (extent.refs == refs) && (extent.generation == header.generation)
+    (level == header.level) && (extent.flags == node_flags full) && (extent.refs == refs)
+    && (extent.generation == header.generation)
 is_record_of _ _ _ = false
 
 abbrev pub is_nothing : What → Bool
@@ -128,7 +138,8 @@ is_told_once (told ∷ rest) = not (list_any (λ other. same_reference told.0 ot
 -- the recorded references are those owed, with their counts
 abbrev pub are_references : List (Reference × ℕ) → List Reference → Bool
 are_references told owed =
-    is_told_once told && list_all (λ entry. nat_lt 0 entry.1 && (entry.1 == count_by (same_reference entry.0) owed)) told
+    is_told_once told && list_all (λ entry. nat_lt 0 entry.1 && (entry.1 == count_by (same_reference entry.0) owed))
+    told
     && list_all (λ reference. list_any (λ entry. same_reference reference entry.0) told) owed
 
 -- the extent tree's items at an address are what is owed there
@@ -136,11 +147,14 @@ unfoldable pub agrees_at : Layout → List ExtentPart → ℕ → Bool
 agrees_at layout parts address =
     let here = filter (λ part. part_address part == address) parts in
     let told = filter_map reference_told here in
-    is_recorded_once (what_at layout address) (sum_by (λ entry. entry.1) told) (filter is_record here) && are_references told (owed_to layout address)
+    is_recorded_once (what_at layout address) (sum_by (λ entry. entry.1) told) (filter is_record here)
+    && are_references told (owed_to layout address)
 
 -- the addresses of what is recorded and of what there is, ascending
 unfoldable pub recorded_addresses : Layout → List ExtentPart → List ℕ
-recorded_addresses layout parts = number_set (map part_address parts ++ keys_of layout.nodes ++ map (λ extent. extent.address) (layout_extents layout))
+recorded_addresses layout parts =
+    number_set (map part_address parts ++ keys_of layout.nodes ++ map (λ extent. extent.address)
+    (layout_extents layout))
 
 -- the least address at which the extent tree's items are not what is owed
 unfoldable pub disagreement : Layout → List ExtentPart → Option ℕ

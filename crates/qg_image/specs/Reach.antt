@@ -1,5 +1,5 @@
--- What a subvolume reaches: nodes walked from its root, and extents named by pieces in its leaves (btrfs-quota(8), "subvolume quota
--- groups"). Addresses and sizes are in bytes.
+-- What a subvolume reaches: nodes walked from its root, and extents named by pieces in its leaves (btrfs-quota(8),
+-- "subvolume quota groups"). Addresses and sizes are in bytes.
 use Rattle.std.specs.Prelude.{ℕ, zero, suc, Bool, List, [], ◌∷◌, ◌++◌, map, Option, Some, None, ◌==◌, if◌then◌else◌}
 use Rattle.std.specs.List.{list_any, filter, filter_map, flat_map}
 use Rattle.std.specs.Option.{option_and_then}
@@ -32,7 +32,8 @@ extent_of piece = record { address = piece.extent; bytes = piece.extent_bytes }
 -- the node, and the extents that it names
 abbrev pub own_elements : ℕ → ℕ → Option Node → List Element
 own_elements nodesize address None = []
-own_elements nodesize address (Some node) = record { address = address; bytes = nodesize } ∷ map extent_of (pieces_of node)
+own_elements nodesize address (Some node) = record { address = address; bytes = nodesize } ∷ map extent_of
+    (pieces_of node)
 
 abbrev pub pointers_at : Option Node → List Pointer
 pointers_at None = []
@@ -44,7 +45,8 @@ pointers_at (Some node) = own_pointers node
 abbrev pub reach_under : (ℕ → Option Node) → ℕ → ℕ → ℕ → List Element
 reach_under nodes nodesize zero address = own_elements nodesize address (nodes address)
 reach_under nodes nodesize (suc level) address =
-    own_elements nodesize address (nodes address) ++ flat_map (λ pointer. reach_under nodes nodesize level pointer.child) (pointers_at (nodes address))
+    own_elements nodesize address (nodes address)
+    ++ flat_map (λ pointer. reach_under nodes nodesize level pointer.child) (pointers_at (nodes address))
 
 -- ---- a subvolume
 
@@ -55,7 +57,8 @@ level_of (Some node) = (header_of node).level
 
 -- all that is met from a root down
 unfoldable pub reach_of_root : Layout → ℕ → List Element
-reach_of_root layout root = reach_under (node_at layout.nodes) layout.nodesize (level_of (node_at layout.nodes root)) root
+reach_of_root layout root = reach_under (node_at layout.nodes) layout.nodesize (level_of (node_at layout.nodes root))
+    root
 
 -- all that a subvolume meets, by the address of its root; a number that is no subvolume meets nothing
 abbrev pub reach_of : Layout → Option ℕ → List Element
@@ -84,4 +87,5 @@ is_reached layout address = list_any (λ sub. reaches layout sub address) (keys_
 -- the set: each element once
 abbrev pub distinct : List Element → List Element
 distinct [] = []
-distinct (element ∷ elements) = if is_among element.address elements then distinct elements else element ∷ distinct elements
+distinct (element ∷ elements) = if is_among element.address elements then distinct elements else element
+    ∷ distinct elements

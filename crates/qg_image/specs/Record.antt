@@ -1,6 +1,7 @@
 -- What the items of the root, extent and quota trees name, and how much room each takes (on-disk format, "item types").
 --
--- Two items are one where they name the same: a key for most, and for a reference what it names and not its key's number.
+-- Two items are one where they name the same: a key for most, and for a reference what it names and not its key's
+-- number.
 use Rattle.std.specs.Prelude.{ℕ, ◌+◌, Bool, true, false, ◌&&◌, List, [], ◌∷◌, Option, ◌==◌, if◌then◌else◌}
 use Rattle.std.specs.List.{list_any, sum_by}
 use Rattle.std.specs.Option.{option_map}
@@ -46,12 +47,14 @@ quota_record (part.Relation group other) = RelationOf group other
 -- what an item of one of the three trees names
 unfoldable pub record_named : Item → Option Record
 record_named item = first_some
-    (option_map (λ entry. RootOf entry.0) (root_part item) ∷ option_map extent_record (extent_part item) ∷ option_map quota_record (quota_part item) ∷ [])
+    (option_map (λ entry. RootOf entry.0) (root_part item) ∷ option_map extent_record (extent_part item)
+    ∷ option_map quota_record (quota_part item) ∷ [])
 
 abbrev pub same_reference : Reference → Reference → Bool
 same_reference (KeyedBlock root) (KeyedBlock root') = root == root'
 same_reference (SharedBlock parent) (SharedBlock parent') = parent == parent'
-same_reference (KeyedData root ino offset) (KeyedData root' ino' offset') = (root == root') && (ino == ino') && (offset == offset')
+same_reference (KeyedData root ino offset) (KeyedData root' ino' offset') = (root == root') && (ino == ino')
+    && (offset == offset')
 same_reference (SharedData parent) (SharedData parent') = parent == parent'
 same_reference _ _ = false
 
@@ -59,7 +62,8 @@ abbrev pub same_record : Record → Record → Bool
 same_record (RootOf tree) (RootOf tree') = tree == tree'
 same_record (ExtentOf address bytes) (ExtentOf address' bytes') = (address == address') && (bytes == bytes')
 same_record (NodeOf address level) (NodeOf address' level') = (address == address') && (level == level')
-same_record (ReferenceTo address reference) (ReferenceTo address' reference') = (address == address') && same_reference reference reference'
+same_record (ReferenceTo address reference) (ReferenceTo address' reference') =
+    (address == address') && same_reference reference reference'
 same_record Status Status = true
 same_record (InfoOf group) (InfoOf group') = group == group'
 same_record (LimitOf group) (LimitOf group') = group == group'
@@ -90,7 +94,8 @@ record_bytes record_ = 25 + record_body record_
 -- each record once
 abbrev pub distinct_records : List Record → List Record
 distinct_records [] = []
-distinct_records (first ∷ rest) = if list_any (same_record first) rest then distinct_records rest else first ∷ distinct_records rest
+distinct_records (first ∷ rest) = if list_any (same_record first) rest then distinct_records rest else first
+    ∷ distinct_records rest
 
 -- what records take, each once
 abbrev pub records_bytes : List Record → ℕ

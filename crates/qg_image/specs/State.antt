@@ -11,8 +11,8 @@ use Rattle.qg_image.specs.declared.element.Element.{Element}
 use Rattle.qg_image.specs.Table.{value_at, has_key}
 use Rattle.qg_image.specs.declared.file.File.{File}
 
--- a subvolume: its files by number, the address of its root node, and the generation of the commit that last made a snapshot of it or
--- made it by one, else 0
+-- a subvolume: its files by number, the address of its root node, and the generation of the commit that last made a
+-- snapshot of it or made it by one, else 0
 pub record Subvolume : Type 0 where
   pub files : List (ℕ × File)
   pub root : ℕ
@@ -23,8 +23,8 @@ pub record Placed : Type 0 where
   pub node : Node
   pub full : Bool
 
--- an accepted file command: the subvolume that it edits and the bytes that it reserved, its need of slots and its copies when it was
--- accepted, and what it touched
+-- an accepted file command: the subvolume that it edits and the bytes that it reserved, its need of slots and its
+-- copies when it was accepted, and what it touched
 pub record Accepted : Type 0 where
   pub command : Command
   pub sub : ℕ
@@ -33,15 +33,16 @@ pub record Accepted : Type 0 where
   pub copies : ℕ
   pub touched : ℕ
 
--- what the last commit holds: the addresses of all its nodes; the nodes of its root, extent and quota trees, each of which tells where it
--- lies; and its data extents
+-- what the last commit holds: the addresses of all its nodes; the nodes of its root, extent and quota trees, each of
+-- which tells where it lies; and its data extents
 pub record Committed : Type 0 where
   pub nodes : List ℕ
   pub others : List Node
   pub extents : List Element
 
--- the state: the sizes of the image, the committed generation, the subvolumes by number, the nodes that some subvolume reaches by
--- address, quota (none while it is off), the file commands accepted since the last commit, the newest first, and what that commit holds
+-- the state: the sizes of the image, the committed generation, the subvolumes by number, the nodes that some subvolume
+-- reaches by address, quota (none while it is off), the file commands accepted since the last commit, the newest first,
+-- and what that commit holds
 pub record State : Type 0 where
   pub sizes : Sizes
   pub generation : ℕ
@@ -51,7 +52,8 @@ pub record State : Type 0 where
   pub pending : List Accepted
   pub held : Committed
 
--- where the subvolumes' trees lie: the bytes of a node, the address of each subvolume's root node by its number, and their nodes by address
+-- where the subvolumes' trees lie: the bytes of a node, the address of each subvolume's root node by its number, and
+-- their nodes by address
 pub record Layout : Type 0 where
   pub nodesize : ℕ
   pub roots : List (ℕ × ℕ)

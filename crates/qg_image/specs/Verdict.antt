@@ -1,5 +1,6 @@
 -- When an image is sound: all rules in one order, and the first that fails is the verdict (this project's own).
-use Rattle.std.specs.Prelude.{◌≡◌, ℕ, ◌+◌, ◌*◌, Bool, true, false, ◌&&◌, ◌||◌, not, List, [], ◌∷◌, length, map, Option, Some, None, is_some, ◌==◌, nat_le, nat_lt, if◌then◌else◌}
+use Rattle.std.specs.Prelude.{◌≡◌, ℕ, ◌+◌, ◌*◌, Bool, true, false, ◌&&◌, ◌||◌, not, List, [], ◌∷◌, length, map, Option}
+use Rattle.std.specs.Prelude.{Some, None, is_some, ◌==◌, nat_le, nat_lt, if◌then◌else◌}
 use Rattle.std.specs.List.{list_any, list_all, filter_map, fold, count_by}
 use Rattle.std.specs.Option.{option_map}
 use Rattle.qg_num.specs.declared.counters.Which.{Which}
@@ -32,7 +33,8 @@ use Rattle.qg_image.specs.Failure.{unless, first_failure}
 use Rattle.qg_image.specs.declared.tree.Tree.{Tree}
 use Rattle.qg_image.specs.declared.tree.Tree.TheVariants.{Roots, Extents, Quotas, Files}
 use Rattle.qg_image.specs.Walk.{root_expected, root_told, tree_failure}
-use Rattle.qg_image.specs.ImageState.{super_in, super_of, items_of_root, roots_in, subvolume_roots, extent_parts, quota_parts, info_told, limit_told, max_rfer_told, max_excl_told, state_in}
+use Rattle.qg_image.specs.ImageState.{super_in, super_of, items_of_root, roots_in, subvolume_roots, extent_parts}
+use Rattle.qg_image.specs.ImageState.{quota_parts, info_told, limit_told, max_rfer_told, max_excl_told, state_in}
 
 -- ---- limits of the store
 
@@ -60,7 +62,8 @@ are_mirrored (Some first) (Some second) = not (first.generation == second.genera
 -- its length, and its two superblocks
 abbrev pub places_failure : Super → Option Super → Option Super → ℕ → Option Failure
 places_failure super first second len = first_failure
-    (unless (nat_le (total_bytes (sizes_of super)) len) rule.Length len ∷ unless (are_mirrored first second) rule.Mirror second_place ∷ [])
+    (unless (nat_le (total_bytes (sizes_of super)) len) rule.Length len ∷ unless (are_mirrored first second) rule.Mirror
+    second_place ∷ [])
 
 -- ---- the root tree
 
@@ -91,7 +94,8 @@ is_status_part (Relation group other) = false
 
 -- a limit that is not set is 0
 abbrev pub is_limit : QgroupLimit → Bool
-is_limit limit = (is_some (max_rfer_told limit) || (limit.max_rfer == 0)) && (is_some (max_excl_told limit) || (limit.max_excl == 0))
+is_limit limit = (is_some (max_rfer_told limit) || (limit.max_rfer == 0))
+    && (is_some (max_excl_told limit) || (limit.max_excl == 0))
 
 -- the compressed counters are the plain ones
 abbrev pub is_plain : QgroupInfo → Bool
@@ -113,10 +117,12 @@ is_group_number group = not (level_of_group group == 0) || is_subvolume_number (
 -- one item fits the others
 abbrev pub fits_quota : List QuotaPart → QuotaPart → Bool
 fits_quota parts (Status status) = true
-fits_quota parts (Info group info) = has_key group (filter_map limit_told parts) && is_group_number group && is_plain info
+fits_quota parts (Info group info) = has_key group (filter_map limit_told parts) && is_group_number group
+    && is_plain info
 fits_quota parts (Limits group limit) = has_key group (filter_map info_told parts) && is_limit limit
 fits_quota parts (Relation group other) =
-    has_twin parts group other && has_key group (filter_map info_told parts) && not (level_of_group group == level_of_group other)
+    has_twin parts group other && has_key group (filter_map info_told parts)
+    && not (level_of_group group == level_of_group other)
 
 -- the quota items fit each other and the subvolumes
 unfoldable pub is_quota : List ℕ → List QuotaPart → Bool
@@ -132,7 +138,8 @@ is_relation_part (Relation group other) = true
 
 -- no more groups and relations than are served; each relation stands twice
 unfoldable pub are_few : List QuotaPart → Bool
-are_few parts = nat_le (length (filter_map info_told parts)) most_groups && nat_le (count_by is_relation_part parts) (2 * most_relations)
+are_few parts = nat_le (length (filter_map info_told parts)) most_groups && nat_le (count_by is_relation_part parts)
+    (2 * most_relations)
 
 -- the walk of the quota tree, and then its rules
 abbrev pub quota_failure : Super → List ℕ → List (ℕ × RootItem) → Option RootItem → Option Failure

@@ -1,5 +1,6 @@
 -- The walk of one tree, depth first, children in order, each node judged before its children (this project's own).
-use Rattle.std.specs.Prelude.{ℕ, zero, suc, ◌+◌, ◌-◌, Bool, true, false, ◌&&◌, not, List, [], ◌∷◌, Option, Some, None, Result, Ok, Err, slice_range, ◌==◌, nat_le, nat_lt}
+use Rattle.std.specs.Prelude.{ℕ, zero, suc, ◌+◌, ◌-◌, Bool, true, false, ◌&&◌, not, List, [], ◌∷◌, Option, Some, None}
+use Rattle.std.specs.Prelude.{Result, Ok, Err, slice_range, ◌==◌, nat_le, nat_lt}
 use Rattle.std.specs.List.{list_all}
 use Rattle.std.specs.Ordering.{is_lt}
 use Rattle.qg_num.specs.Key.{key_cmp}
@@ -19,7 +20,8 @@ use Rattle.qg_super.specs.SuperText.{sizes_of}
 use Rattle.qg_image.specs.IsShaped.{same_key, is_shaped}
 use Rattle.qg_image.specs.declared.part.QuotaPart.{QuotaPart}
 use Rattle.qg_image.specs.declared.part.QuotaPart.TheVariants.{Status, Info, Limits, Relation}
-use Rattle.qg_image.specs.ItemMeaning.{some_passes, is_subvolume_number, root_part, root_part_stamps, extent_part, extent_part_stamps, quota_part, quota_part_stamps}
+use Rattle.qg_image.specs.ItemMeaning.{some_passes, is_subvolume_number, root_part, root_part_stamps, extent_part}
+use Rattle.qg_image.specs.ItemMeaning.{extent_part_stamps, quota_part, quota_part_stamps}
 use Rattle.qg_image.specs.FilesOf.{is_file_item}
 use Rattle.qg_image.specs.declared.failure.Failure.{Failure}
 use Rattle.qg_image.specs.declared.failure.Failure.TheVariants.{Broken}
@@ -51,8 +53,11 @@ tells_generation generation (Relation group other) = true
 -- the tree may hold this item in an image of this generation
 unfoldable pub is_item_of : Tree → ℕ → Item → Bool
 is_item_of Roots generation item = some_passes (λ part. are_by generation (root_part_stamps part)) (root_part item)
-is_item_of Extents generation item = some_passes (λ part. are_by generation (extent_part_stamps part)) (extent_part item)
-is_item_of Quotas generation item = some_passes (λ part. are_by generation (quota_part_stamps part) && tells_generation generation part) (quota_part item)
+is_item_of Extents generation item = some_passes (λ part. are_by generation (extent_part_stamps part))
+    (extent_part item)
+is_item_of Quotas generation item =
+    some_passes (λ part. are_by generation (quota_part_stamps part) && tells_generation generation part)
+    (quota_part item)
 is_item_of Files generation item = is_file_item generation item
 
 -- ---- what a walk expects of a node
@@ -113,7 +118,8 @@ in_slot false address read = Err (Broken rule.Slot address)
 -- what stands at an address of an image: a node, or the first rule that is broken there
 unfoldable pub node_found : Super → List ℕ → ℕ → Result Node Failure
 node_found super image address =
-    in_slot (is_slot (sizes_of super) address) address (node_read address (slice_range image address (address + super.nodesize)))
+    in_slot (is_slot (sizes_of super) address) address
+    (node_read address (slice_range image address (address + super.nodesize)))
 
 -- the key of the first pointer, or else the one on the way
 abbrev pub next_key : Option Key → List Pointer → Option Key
@@ -124,22 +130,32 @@ next_key to (pointer ∷ pointers) = Some pointer.key
 abbrev pub pointers_failure : (Expected → ℕ → Option Failure) → ℕ → Option Key → List Pointer → Option Failure
 pointers_failure walk level to [] = None
 pointers_failure walk level to (pointer ∷ pointers) = first_failure
-    (walk (record { level = Some level; generation = Some pointer.generation; from = Some pointer.key; to = next_key to pointers }) pointer.child
+    (walk (record {
+      level = Some level;
+      generation = Some pointer.generation;
+      from = Some pointer.key;
+      to = next_key to pointers;
+    }) pointer.child
     ∷ pointers_failure walk level to pointers
     ∷ [])
 
 -- the first failure at a node and below it, where `judge` tells the rule that a node breaks
-abbrev pub found_failure : (Expected → ℕ → Node → Option Failure) → (Expected → ℕ → Option Failure) → Expected → ℕ → Result Node Failure → Option Failure
+abbrev pub found_failure : (Expected → ℕ → Node → Option Failure) → (Expected → ℕ → Option Failure) → Expected → ℕ
+    → Result Node Failure → Option Failure
 found_failure judge walk expected address (Err failure) = Some failure
 found_failure judge walk expected address (Ok node) = first_failure
     (judge expected address node
     ∷ pointers_failure walk ((header_of node).level - 1) expected.to (own_pointers node)
     ∷ [])
 
--- the first failure of the walk from an address down, so many levels deep at most, where `found` tells what stands at an address
-unfoldable pub walk_failure : (Expected → ℕ → Node → Option Failure) → (ℕ → Result Node Failure) → ℕ → Expected → ℕ → Option Failure
-walk_failure judge found zero expected address = found_failure judge (λ expected address. None) expected address (found address)
-walk_failure judge found (suc depth) expected address = found_failure judge (walk_failure judge found depth) expected address (found address)
+-- the first failure of the walk from an address down, so many levels deep at most, where `found` tells what stands at
+-- an address
+unfoldable pub walk_failure : (Expected → ℕ → Node → Option Failure) → (ℕ → Result Node Failure) → ℕ → Expected → ℕ
+    → Option Failure
+walk_failure judge found zero expected address = found_failure judge (λ expected address. None) expected address
+    (found address)
+walk_failure judge found (suc depth) expected address =
+    found_failure judge (walk_failure judge found depth) expected address (found address)
 
 -- the greatest level of a node
 abbrev pub deepest : ℕ
@@ -157,4 +173,5 @@ root_told root = root_expected (Some root.level) (Some root.generation)
 
 -- the first failure of a tree whose root lies at an address
 unfoldable pub tree_failure : Tree → Super → List ℕ → Expected → ℕ → Option Failure
-tree_failure tree super image expected address = walk_failure (node_failure tree super) (node_found super image) deepest expected address
+tree_failure tree super image expected address =
+    walk_failure (node_failure tree super) (node_found super image) deepest expected address

@@ -1,6 +1,7 @@
 use qg_num::{Generation, Key};
 
-/// What is expected of a node by the way that leads to it (on-disk format, "B-tree"). Where a field is none, nothing is told.
+/// What is expected of a node by the way that leads to it (on-disk format, "B-tree"). Where a field is none, nothing is
+/// told.
 #[derive(Clone, Copy, Debug)]
 pub struct Expected {
     /// Its level.

@@ -1,5 +1,6 @@
-//! What the bytes of an image stand for: trees of nodes, what their items say, and files; the state of the machine, and what is
-//! reached, counted, limited, free, needed and owed in it; and when an image is sound. It has definitions and types, and no code.
+//! What the bytes of an image stand for: trees of nodes, what their items say, and files; the state of the machine, and
+//! what is reached, counted, limited, free, needed and owed in it; and when an image is sound. It has definitions and
+//! types, and no code.
 #![tactic(auto)]
 
 mod element;

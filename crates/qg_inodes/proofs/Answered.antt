@@ -26,7 +26,8 @@ use Rattle.qg_inodes.proofs.Inodes.{unread-there}
 
 -- ---- one fault, whatever else would be answered
 
-pub unbroken-other : (A B : Type 0) (fault : BlockFault) → BreaksNone {A = A} (Err fault) → BreaksNone {A = B} (Err fault)
+pub unbroken-other : (A B : Type 0) (fault : BlockFault) → BreaksNone {A = A} (Err fault)
+    → BreaksNone {A = B} (Err fault)
 unbroken-other A B (Image broken address) none = none
 unbroken-other A B Disk none = none
 unbroken-other A B NoMemory none = none
@@ -49,21 +50,24 @@ module _ (root : Root) (draft : Draft) (history : Option (List Event)) (files : 
       → ◌≡◌ {A = Option InodeItem} None (option_map inode_of (value_at ino files))
   inode-absent is =
       same_none (value_at ino files)
-      (inode-none tells.generation tells.items files (are-told tells.generation tells.items files tells.are) ino (sym is))
+      (inode-none tells.generation tells.items files (are-told tells.generation tells.items files tells.are) ino
+      (sym is))
 
   pub inode-present : (body : List ℕ) (inode : InodeItem) → Some body ≡ body_at (key_with ino 1 0) tells.items
       → Some inode ≡ inode_read body
       → Some inode ≡ option_map inode_of (value_at ino files)
   inode-present body inode is read =
       let has =
-      inode-some tells.generation tells.items files (are-told tells.generation tells.items files tells.are) ino body (sym is)
+      inode-some tells.generation tells.items files (are-told tells.generation tells.items files tells.are) ino body
+      (sym is)
       in
       read ∙ has.1 ∙ ap (λ (i : InodeItem). Some i) (sym has.2.told) ∙ sym (ap (option_map inode_of) has.2.there)
 
   pub inode-read : (body : List ℕ) → Some body ≡ body_at (key_with ino 1 0) tells.items → ◌≡◌ None (inode_read body) → ⊥
   inode-read body is none =
       let has =
-      inode-some tells.generation tells.items files (are-told tells.generation tells.items files tells.are) ino body (sym is)
+      inode-some tells.generation tells.items files (are-told tells.generation tells.items files tells.are) ino body
+      (sym is)
       in
       none_some (none ∙ has.1) where
         none_some : {A : Type 0} {x : A} → ◌≡◌ None (Some x) → ⊥

@@ -1,6 +1,7 @@
--- The last piece that begins in front of a range's end: where it begins by the range's begin too, it is all that the range
--- may meet, and else the last of what it meets. Positions and lengths are in bytes.
-use Rattle.std.proofs.Common.{◌≡◌, ℕ, ◌+◌, ◌<◌, ◌≤◌, true, false, cond, List, [], ◌∷◌, ◌++◌, length, Some, None, refl, sym, ap, subst, ◌∙◌, arith, append-nil, length-append, inl, inr}
+-- The last piece that begins in front of a range's end: where it begins by the range's begin too, it is all that the
+-- range may meet, and else the last of what it meets. Positions and lengths are in bytes.
+use Rattle.std.proofs.Common.{◌≡◌, ℕ, ◌+◌, ◌<◌, ◌≤◌, true, false, cond, List, [], ◌∷◌, ◌++◌, length, Some, None, refl}
+use Rattle.std.proofs.Common.{sym, ap, subst, ◌∙◌, arith, append-nil, length-append, inl, inr}
 use Rattle.std.specs.Prelude.{Bool, Option, ◌&&◌, ⊤, filter, nat_le, nat_lt, if◌then◌else◌}
 use Rattle.std.proofs.lemmas.Bool.{cases_lt, le-leb, le-ltb, lt-leb, lt-ltb}
 use Rattle.std.proofs.lemmas.List.{append_assoc}
@@ -45,7 +46,8 @@ is_among from to piece pieces behind before =
     let right : nat_lt piece.position to ≡ true = lt-ltb piece.position to before in
     ap
     (λ (b : Bool).
-    cond (b && nat_lt piece.position to) (piece ∷ pieces_begun (from + 1) to pieces) (pieces_begun (from + 1) to pieces)) left
+    cond (b && nat_lt piece.position to) (piece ∷ pieces_begun (from + 1) to pieces)
+    (pieces_begun (from + 1) to pieces)) left
     ∙ ap (λ (b : Bool). cond b (piece ∷ pieces_begun (from + 1) to pieces) (pieces_begun (from + 1) to pieces)) right
 
 -- ---- the last that begins by a position
@@ -86,7 +88,8 @@ begun_some last piece [] is = absurd cc
 begun_some last piece (next ∷ pieces) is = elim (cases_lt last next.position) [
   | inl past ↦
       begun_some last piece pieces
-      (sym (ap (λ (b : Bool). last_begun (if b then Some next else Some piece) last pieces) (lt-leb next.position last past)) ∙ is)
+      (sym (ap (λ (b : Bool). last_begun (if b then Some next else Some piece) last pieces)
+      (lt-leb next.position last past)) ∙ is)
   | inr within ↦ begun_some last next pieces (sym (takes_next last (Some piece) next pieces within) ∙ is)
 ]
 
@@ -102,7 +105,8 @@ last_upto_it last (Some other) [] x begins is =
 last_upto_it last other (piece ∷ pieces) x begins is = elim (cases_lt last piece.position) [
   | inl past ↦
       last_upto_it last other pieces x begins
-      (sym (ap (λ (b : Bool). last_begun (if b then Some piece else other) last pieces) (lt-leb piece.position last past)) ∙ is)
+      (sym (ap (λ (b : Bool). last_begun (if b then Some piece else other) last pieces)
+      (lt-leb piece.position last past)) ∙ is)
   | inr within ↦ last_upto_it last (Some piece) pieces x within (sym (takes_next last other piece pieces within) ∙ is)
 ]
 
@@ -121,8 +125,11 @@ module _ (from last to : ℕ) (upto : from ≤ last) (is : to ≡ last + 1) wher
             let rest =
             last_reaches (piece_end piece) size (Some piece) pieces first.rest
             (subst (λ (o : Option Piece). BeginsBy from o) next begins)
-            in
-            (takes_next from other piece pieces before ∙ rest.0 ∙ sym next, not_among from to piece pieces before ∙ rest.1)
+            in (
+              takes_next from other piece pieces before ∙ rest.0 ∙ sym next,
+              not_among from to piece pieces before
+                  ∙ rest.1,
+            )
         | inl behind ↦ elim (cases_lt last piece.position) [
           | inl past ↦
               let here : are_pieces piece.position size (piece ∷ pieces) ≡ true =
@@ -141,7 +148,8 @@ module _ (from last to : ℕ) (upto : from ≤ last) (is : to ≡ last + 1) wher
               (subst (λ (o : Option Piece). BeginsBy from o) (takes_next last other piece pieces within) begins) behind)
         ]
       ] where
-        too_far : (o : Option Piece) → ((x : Piece) → o ≡ Some x → piece.position ≤ x.position) → (o ≡ None → ⊥) → BeginsBy from o → from < piece.position → ⊥
+        too_far : (o : Option Piece) → ((x : Piece) → o ≡ Some x → piece.position ≤ x.position) → (o ≡ None → ⊥)
+            → BeginsBy from o → from < piece.position → ⊥
         too_far None later some begins behind = some refl
         too_far (Some x) later some begins behind = let least = later x refl in omega (arith, least, begins, behind)
 
@@ -164,7 +172,8 @@ module _ (from last to : ℕ) (upto : from ≤ last) (is : to ≡ last + 1) wher
       in
       let empty : pieces_begun (from + 1) x.position (piece ∷ pieces) ≡ [] =
       ap
-      (λ (b : Bool). cond b (piece ∷ pieces_begun (from + 1) x.position pieces) (pieces_begun (from + 1) x.position pieces))
+      (λ (b : Bool). cond b (piece ∷ pieces_begun (from + 1) x.position pieces)
+      (pieces_begun (from + 1) x.position pieces))
       out
       ∙ fewer
       in
@@ -229,7 +238,8 @@ module _ (from last to : ℕ) (upto : from ≤ last) (is : to ≡ last + 1) wher
               are_pieces-FirstPiece piece.position size piece pieces
               (record { begins = omega arith; is = first.is; rest = first.rest })
               in
-              absurd (from_other other (sym (last-none last piece.position size other (piece ∷ pieces) past here) ∙ found) begins)
+              absurd (from_other other (sym (last-none last piece.position size other (piece ∷ pieces) past here)
+              ∙ found) begins)
           | inr within ↦
               is_among from to piece pieces late (omega arith)
               ∙ ends_with (piece_end piece) size piece pieces x late within (omega arith) first.rest
@@ -287,5 +297,6 @@ module _ (from last to : ℕ) (upto : from ≤ last) (is : to ≡ last + 1) wher
               (sym (ap (λ (b : Bool). last_begun (if b then Some p else o) from ps) (lt-leb p.position from past)))
               (begins_by o ps begins)
           | inr before ↦
-              subst (λ (r : Option Piece). BeginsBy from r) (sym (takes_next from o p ps before)) (begins_by (Some p) ps before)
+              subst (λ (r : Option Piece). BeginsBy from r) (sym (takes_next from o p ps before))
+              (begins_by (Some p) ps before)
         ]

@@ -1,5 +1,6 @@
 -- The files that the items of a subvolume's tree stand for, one by one.
-use Rattle.std.proofs.Common.{◌≡◌, ℕ, ◌≤◌, true, false, List, [], ◌∷◌, map, Some, None, refl, sym, ap, subst, ◌∙◌, arith, inl, inr}
+use Rattle.std.proofs.Common.{◌≡◌, ℕ, ◌≤◌, true, false, List, [], ◌∷◌, map, Some, None, refl, sym, ap, subst, ◌∙◌}
+use Rattle.std.proofs.Common.{arith, inl, inr}
 use Rattle.std.specs.Prelude.{Bool, Option, ◌==◌, ◌&&◌, ◌||◌, ◌⊎◌, IsTrue, is_none, is_some, nat_le, nat_lt}
 use Rattle.std.specs.Bool.{then_some}
 use Rattle.std.specs.List.{cons_option, list_all}
@@ -16,7 +17,9 @@ use Rattle.qg_image.specs.declared.part.FilePart.{FilePart}
 use Rattle.qg_image.specs.declared.part.FilePart.TheVariants.{Inode, PieceOf}
 use Rattle.qg_image.proofs.Pieces.{WholeFile-is_file}
 use Rattle.qg_image.specs.ItemMeaning.{file_part}
-use Rattle.qg_image.specs.FilesOf.{are_files, are_pieces, file_in, file_parts, files_in, files_of, inodes_end, inodes_in, is_file, is_file_item, is_inode, is_owned, largest_size, least_inode, piece_in, pieces_bytes, pieces_in}
+use Rattle.qg_image.specs.FilesOf.{are_files, are_pieces, file_in, file_parts, files_in, files_of, inodes_end}
+use Rattle.qg_image.specs.FilesOf.{inodes_in, is_file, is_file_item, is_inode, is_owned, largest_size, least_inode}
+use Rattle.qg_image.specs.FilesOf.{piece_in, pieces_bytes, pieces_in}
 use Rattle.qg_image.specs.Table.{has_key, value_at}
 use Rattle.qg_machine.specs.FileChange.{pieces_or_none}
 use Rattle.qg_parts.specs.Keys.{key_with}
@@ -42,7 +45,8 @@ are-told generation items files is =
     let parts = file_parts items in
     let owned = list_all (is_owned parts) parts in
     let inodes = list_all (is_inode parts) (inodes_in parts) in
-    let both = then_some_parts (list_all (is_file_item generation) items && are_files parts) (files_in parts) files is in
+    let both = then_some_parts (list_all (is_file_item generation) items && are_files parts)
+    (files_in parts) files is in
     let tests = and_parts (list_all (is_file_item generation) items) (are_files parts) both.0 in
     let fit = and_parts owned inodes tests.1 in
     record { each = tests.0; owned = fit.0; inodes = fit.1; told = both.1 }
@@ -127,7 +131,8 @@ pub record HasPieces (parts : List FilePart) (files : List (ℕ × File)) (ino :
   pub small : size ≤ largest_size
   pub sound : are_pieces 0 size (pieces_at ino files) ≡ true
 
-module _ (generation : ℕ) (items : List Item) (files : List (ℕ × File)) (are : AreTold generation items files) (ino : ℕ) where
+module _ (generation : ℕ) (items : List Item) (files : List (ℕ × File)) (are : AreTold generation items files)
+    (ino : ℕ) where
   abbrev parts : List FilePart
   parts = file_parts items
 
@@ -209,7 +214,8 @@ pub none-unread : (generation ino : ℕ) (items : List Item) → list_all (is_fi
 none-unread generation ino [] each unread = absurd cc
 none-unread generation ino (item ∷ items) each unread =
     let parts = and_parts (is_file_item generation item) (list_all (is_file_item generation) items) each in
-    either (is_unread ino item) (has_unread ino items) (λ first. says_none (first_none first) (says generation item parts.0))
+    either (is_unread ino item) (has_unread ino items)
+    (λ first. says_none (first_none first) (says generation item parts.0))
     (none-unread generation ino items parts.1) unread
   where
     either : (a b : Bool) → (a ≡ true → ⊥) → (b ≡ true → ⊥) → (a || b) ≡ true → ⊥

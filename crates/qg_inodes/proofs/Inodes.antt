@@ -60,11 +60,13 @@ module _ (ino : ℕ) (item : Item) (items : List Item) where
         let differ : same_key item.key key ≡ false =
         ap (λ (b : Bool). (b && (item.key.kind == 1)) && (item.key.offset == 0)) other
         in
-        let told : told_behind (Some (Inode item.key.objectid first.inode)) ≡ value_at ino (inodes_in (file_parts items)) =
+        let told : told_behind (Some (Inode item.key.objectid first.inode)) ≡ value_at ino
+        (inodes_in (file_parts items)) =
         rw other refl
         in
         tells_from (body_at key (item ∷ items)) (body_at key items) (told_behind (file_part item))
-        (value_at ino (inodes_in (file_parts items))) (body-later key item items differ) (ap told_behind first.says ∙ told)
+        (value_at ino (inodes_in (file_parts items))) (body-later key item items differ) (ap told_behind first.says
+        ∙ told)
         rest
   ]
 
@@ -114,7 +116,8 @@ unread-there ino (item ∷ items) body is unread = elim (cases_Bool (same_key it
       let parts = and_parts ((item.key.objectid == ino) && (item.key.kind == 1)) (item.key.offset == 0) same in
       let front = and_parts (item.key.objectid == ino) (item.key.kind == 1) parts.0 in
       let none = no-inode item (eqb-true item.key.kind 1 front.1) (ap inode_read own ∙ unread) in
-      let this : is_unread ino item ≡ true = and_from (item.key.objectid == ino) (is_none (file_part item)) front.0 none in
+      let this : is_unread ino item ≡ true =
+      and_from (item.key.objectid == ino) (is_none (file_part item)) front.0 none in
       ap (λ (b : Bool). b || has_unread ino items) this
   | inr differ ↦
       let later = unread-there ino items body (sym (body-later (key_with ino 1 0) item items differ) ∙ is) unread in

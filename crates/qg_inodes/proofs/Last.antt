@@ -1,5 +1,6 @@
 -- The last item up to a key of a file's pieces is the last of them that begins by then, or none of them.
-use Rattle.std.proofs.Common.{◌≡◌, ℕ, true, false, cond, List, [], ◌∷◌, Some, None, refl, sym, ap, subst, ◌∙◌, arith, inl, inr}
+use Rattle.std.proofs.Common.{◌≡◌, ℕ, true, false, cond, List, [], ◌∷◌, Some, None, refl, sym, ap, subst, ◌∙◌, arith}
+use Rattle.std.proofs.Common.{inl, inr}
 use Rattle.std.specs.Prelude.{Bool, Option, ◌==◌, ◌&&◌, ◌||◌, ◌⊎◌, ⊤, IsTrue, filter, is_none, nat_le, if◌then◌else◌}
 use Rattle.std.specs.Bool.{then_some}
 use Rattle.std.specs.List.{cons_option, list_all, list_any}
@@ -100,7 +101,8 @@ module _ (ino from : ℕ) where
           ∙ ap (λ (o : Option Piece). last_piece o (file_parts items)) (this ∙ sym none)
           ∙ sym (same (own_piece ino other))
       | inr behind ↦
-          ap (λ (b : Bool). own_piece ino (last_or other (cond b (item ∷ filter upto items) (filter upto items)))) behind
+          ap (λ (b : Bool). own_piece ino (last_or other (cond b (item ∷ filter upto items) (filter upto items))))
+          behind
           ∙ rest
           ∙ sym (same (own_piece ino other))
     ]
@@ -130,7 +132,8 @@ module _ (ino from : ℕ) where
         in
         elim (cases_Bool (upto item)) [
           | inl is ↦
-              ap (λ (b : Bool). own_piece ino (last_or other (cond b (item ∷ filter upto items) (filter upto items)))) is
+              ap (λ (b : Bool). own_piece ino (last_or other (cond b (item ∷ filter upto items) (filter upto items))))
+              is
               ∙ instead is
               ∙ ap (λ (o : Option Piece). last_begun o from pieces) this
               ∙ sym (ap (λ (b : Bool). last_begun (if b then Some first.piece else before) from pieces) is)
@@ -168,7 +171,8 @@ module _ (ino from : ℕ) where
           skip other (ap (λ (b : Bool). b && (item.key.kind == 108)) differs)
           (λ before.
           ap (λ (o : Option FilePart). last_piece before (cons_option o (file_parts items))) first.says
-          ∙ ap (λ (b : Bool). last_begun before from (cons_option (then_some b first.piece) (pieces_of (file_parts items))))
+          ∙ ap (λ (b : Bool). last_begun before from
+          (cons_option (then_some b first.piece) (pieces_of (file_parts items))))
           differs) front rest instead
     ]
 

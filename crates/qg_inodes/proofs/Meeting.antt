@@ -1,6 +1,7 @@
--- The pieces of a file that share a byte with a range: the last that begins at the range's begin or in front of it, where
--- it does, and those that begin behind, in the range. Positions and lengths are in bytes.
-use Rattle.std.proofs.Common.{◌≡◌, ℕ, ◌+◌, ◌<◌, ◌≤◌, true, false, cond, List, [], ◌∷◌, ◌++◌, length, Some, None, refl, sym, ap, ◌∙◌, arith, inl, inr}
+-- The pieces of a file that share a byte with a range: the last that begins at the range's begin or in front of it,
+-- where it does, and those that begin behind, in the range. Positions and lengths are in bytes.
+use Rattle.std.proofs.Common.{◌≡◌, ℕ, ◌+◌, ◌<◌, ◌≤◌, true, false, cond, List, [], ◌∷◌, ◌++◌, length, Some, None, refl}
+use Rattle.std.proofs.Common.{sym, ap, ◌∙◌, arith, inl, inr}
 use Rattle.std.specs.Prelude.{Bool, Option, ◌&&◌, ⊤, filter, nat_le, nat_lt, if◌then◌else◌}
 use Rattle.std.proofs.lemmas.Bool.{cases_lt, le-leb, le-ltb, leb-true, lt-leb, lt-ltb}
 use Rattle.std.proofs.lemmas.List.Elements.{filter-append}
@@ -17,13 +18,15 @@ some_byte from size piece pieces first = (WholePiece-is_piece piece first.is).so
 
 -- ---- pieces that begin behind the range's begin
 
-pub last-none : (from a size : ℕ) (other : Option Piece) (pieces : List Piece) → from < a → are_pieces a size pieces ≡ true
+pub last-none : (from a size : ℕ) (other : Option Piece) (pieces : List Piece) → from < a
+    → are_pieces a size pieces ≡ true
     → last_begun other from pieces ≡ other
 last-none from a size other [] behind are = refl
 last-none from a size other (piece ∷ pieces) behind are =
     let first = FirstPiece-are_pieces a size piece pieces are in
     let begins = first.begins in
-    ap (λ (b : Bool). last_begun (if b then Some piece else other) from pieces) (lt-leb piece.position from (omega arith))
+    ap (λ (b : Bool). last_begun (if b then Some piece else other) from pieces)
+    (lt-leb piece.position from (omega arith))
     ∙ last-none from (piece_end piece) size other pieces (omega arith) first.rest
 
 begun_met : (from to a size : ℕ) (pieces : List Piece) → from < a → are_pieces a size pieces ≡ true
@@ -106,7 +109,8 @@ module _ (from to : ℕ) where
       ∙ rest
       ∙ sym
       (filter-append (λ (piece : Piece). nat_lt piece.position to && nat_lt from (piece_end piece)) (piece ∷ []) pieces)
-      ∙ sym (ap (λ (ps : List Piece). ps ++ pieces_met from to (piece ∷ pieces)) (not_met from to a other ends (omega arith)))
+      ∙ sym (ap (λ (ps : List Piece). ps ++ pieces_met from to (piece ∷ pieces))
+      (not_met from to a other ends (omega arith)))
 
   are_parted : (a size : ℕ) (other : Option Piece) (pieces : List Piece) → EndsBy a other
       → are_pieces a size pieces ≡ true

@@ -1,5 +1,6 @@
 -- What the reading of pieces answers. Positions and lengths are in bytes.
-use Rattle.std.proofs.Common.{◌≡◌, ℕ, ◌+◌, ◌*◌, ◌-◌, ◌<◌, ◌≤◌, true, List, [], ◌∷◌, ◌++◌, length, Some, None, refl, sym, ap, subst, ◌∙◌, arith, append-nil, length-append, inl, inr}
+use Rattle.std.proofs.Common.{◌≡◌, ℕ, ◌+◌, ◌*◌, ◌-◌, ◌<◌, ◌≤◌, true, List, [], ◌∷◌, ◌++◌, length, Some, None, refl, sym}
+use Rattle.std.proofs.Common.{ap, subst, ◌∙◌, arith, append-nil, length-append, inl, inr}
 use Rattle.std.specs.Prelude.{◌&&◌, ⊤, Err, IfOk, IsErrAnd, IsTrue, Ok, Option, Result, is_none, nat_lt}
 use Rattle.std.specs.List.{filter_map, list_any}
 use Rattle.std.proofs.Math.Nat.{mul-add, mul-le-mul_left}
@@ -128,7 +129,8 @@ module _ (root : Root) (draft : Draft) (ino from to : ℕ) (pieces : List Piece)
       let told = has root draft history files tells ino in
       none told.size told.small
       (subst (λ (ps : List Piece). are_pieces 0 told.size ps ≡ true) (sym (met files tells))
-      (some-pieces (λ (piece : Piece). nat_lt piece.position to && nat_lt from (piece_end piece)) 0 told.size (pieces_at ino files) told.sound))
+      (some-pieces (λ (piece : Piece). nat_lt piece.position to && nat_lt from (piece_end piece)) 0 told.size
+      (pieces_at ino files) told.sound))
 
   pub judged-found : (history : Option (List Event)) (result : Result (List Piece) BlockFault)
       → IsJudged root pieces result → AreMet root draft history ino from to pieces → (files : List (ℕ × File))
@@ -202,7 +204,8 @@ module _ (root : Root) (draft : Draft) (history : Option (List Event)) (ino from
   last_told : (files : List (ℕ × File)) → TellsFiles root draft history files
       → reaching ≡ last_begun None (to - 1) (pieces_at ino files)
   last_told files tells =
-      own ∙ piece-before root draft history files tells ino (to - 1) to bytes placed last (found tells.items tells.tells)
+      own ∙ piece-before root draft history files tells ino (to - 1) to bytes placed last
+      (found tells.items tells.tells)
 
   pub are-met-alone : (pieces : List Piece) → pieces ≡ piece_met from to reaching → BeginsBy from reaching
       → AreMet root draft history ino from to pieces
@@ -259,7 +262,8 @@ files-read root old new before after bytes left read files tells = record {
 
 -- what a reading found after another one
 pub found-after : (root : Root) (old new : Held) (before after : Option (List Event)) (bytes left : ℕ)
-    → HasRead old new before after bytes left → (items : List Item) (low high first end : Key) → low ≡ first → high ≡ end
+    → HasRead old new before after bytes left → (items : List Item) (low high first end : Key) → low ≡ first
+    → high ≡ end
     → ((whole : List Item) → TellsTree Files root new.draft after whole → items ≡ items_within low high whole)
     → (whole : List Item) → TellsTree Files root old.draft before whole
     → items ≡ items_within first end whole
@@ -277,7 +281,8 @@ pub steps-met : (root : Root) (old new : Held) (before after : Option (List Even
     → third ≤ second + (root.height + 1) * (1 + length (items_within low high whole)))
     → (files : List (ℕ × File)) → TellsFiles root old.draft before files
     → third ≤ first + (root.height + 1) * (2 + length (pieces_met from to (pieces_at ino files)))
-steps-met root old new before after bytes left read ino from to first second third low high is_low is_high some one more files
+steps-met root old new before after bytes left read ino from to first second third low high is_low is_high some one more
+    files
     tells =
     let there = tells-read Files root old new before after bytes left tells.items read tells.tells in
     let items = items_within low high tells.items in
@@ -314,7 +319,8 @@ pub misread-broken : (A : Type 0) (root : Root) (draft : Draft) (history : Optio
 misread-broken A root draft history events ino result is answer unread =
     inl (inr (record {
       answer = answer;
-      there = λ items tells. unread items (subst (λ (h : Option (List Event)). TellsTree Files root draft h items) (sym is) tells);
+      there = λ items tells. unread items (subst (λ (h : Option (List Event)). TellsTree Files root draft h items)
+          (sym is) tells);
     }))
 
 -- the last item does

@@ -89,7 +89,8 @@ pub steps-whole : (root : Root) (draft : Draft) (history : Option (List Event)) 
     → third ≤ first + steps * (3 + length (pieces_at ino files))
 steps-whole root draft history files tells ino steps first second third one more =
     let count = length (pieces_at ino files) in
-    let all = ap (λ (ps : List Piece). second + steps * (2 + length ps)) (all-pieces root draft history files tells ino) in
+    let all = ap (λ (ps : List Piece). second + steps * (2 + length ps))
+    (all-pieces root draft history files tells ino) in
     let parts : steps * (1 + (2 + count)) ≡ steps * 1 + steps * (2 + count) = mul-add steps 1 (2 + count) in
     let same : steps * (3 + count) ≡ steps * (1 + (2 + count)) = ap (λ (n : ℕ). steps * n) (omega arith) in
     omega (arith, one, more, all, parts, same)

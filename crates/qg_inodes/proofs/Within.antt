@@ -1,9 +1,11 @@
 -- The EXTENT_DATAs of a file from one position to another are its pieces that begin there.
-use Rattle.std.proofs.Common.{◌≡◌, ℕ, ◌+◌, ◌-◌, ◌<◌, ◌≤◌, true, false, cond, List, [], ◌∷◌, map, length, Some, None, refl, sym, ap, ◌∙◌, arith, inl, inr}
+use Rattle.std.proofs.Common.{◌≡◌, ℕ, ◌+◌, ◌-◌, ◌<◌, ◌≤◌, true, false, cond, List, [], ◌∷◌, map, length, Some, None}
+use Rattle.std.proofs.Common.{refl, sym, ap, ◌∙◌, arith, inl, inr}
 use Rattle.std.specs.Prelude.{Bool, Option, ◌==◌, ◌&&◌, ◌||◌, IsTrue, filter, is_none, nat_le, nat_lt}
 use Rattle.std.specs.Bool.{then_some}
 use Rattle.std.specs.List.{cons_option, filter_map, list_all, list_any}
-use Rattle.std.proofs.lemmas.Bool.{and_from, and_parts, cases_Bool, cases_lt, eq-eqb, eqb-true, le-leb, le-ltb, lt-leb, lt-ltb, true≢false}
+use Rattle.std.proofs.lemmas.Bool.{and_from, and_parts, cases_Bool, cases_lt, eq-eqb, eqb-true, le-leb, le-ltb, lt-leb}
+use Rattle.std.proofs.lemmas.Bool.{lt-ltb, true≢false}
 use Rattle.std.proofs.lemmas.List.{length-map}
 use Rattle.std.proofs.lemmas.List.Elements.{filter_agree}
 use Rattle.qg_num.specs.declared.key.Key.{Key}
@@ -85,7 +87,8 @@ module _ (ino from to : ℕ) where
 
     read_other : (first : SaysPiece item) → (item.key.objectid == ino) ≡ false → AreRead items → AreRead (item ∷ items)
     read_other first other rest =
-        let left : with_first (Some (PieceOf item.key.objectid first.piece)) ≡ map Some (pieces_there (file_parts items)) =
+        let left : with_first (Some (PieceOf item.key.objectid first.piece))
+        ≡ map Some (pieces_there (file_parts items)) =
         ap
         (λ (b : Bool).
         map Some (filter begins (cons_option (then_some b first.piece) (pieces_in ino (file_parts items))))) other
@@ -103,11 +106,13 @@ module _ (ino from to : ℕ) where
         own-within ino from to item.key own
         ∙ ap (λ (n : ℕ). nat_le from n && nat_le n to) (sym first.position)
         in
-        let there : with_first (Some (PieceOf item.key.objectid first.piece)) ≡ map Some (filter begins (first.piece ∷ pieces)) =
+        let there : with_first (Some (PieceOf item.key.objectid first.piece))
+        ≡ map Some (filter begins (first.piece ∷ pieces)) =
         ap (λ (b : Bool). map Some (filter begins (cons_option (then_some b first.piece) pieces))) is
         in
         ap (λ (b : Bool). map piece_of (cond b (item ∷ items_there items) (items_there items))) test
-        ∙ one_more piece_of (begins first.piece) item first.piece (items_there items) (filter begins pieces) first.told rest
+        ∙ one_more piece_of (begins first.piece) item first.piece (items_there items) (filter begins pieces) first.told
+        rest
         ∙ sym (ap with_first first.says ∙ there)
 
     read_piece : SaysPiece item → AreRead items → AreRead (item ∷ items)
@@ -206,7 +211,8 @@ module _ (ino from to : ℕ) where
       ap (λ (b : Bool). is_unread ino item || b) (rest is) ∙ or_true (is_unread ino item)
 
 pub unread-within : (ino from to : ℕ) (items : List Item)
-    → IsTrue (list_any (λ item. is_none (piece_of item)) (items_within (key_with ino 108 from) (key_with ino 108 to) items))
+    → IsTrue (list_any (λ item. is_none (piece_of item))
+    (items_within (key_with ino 108 from) (key_with ino 108 to) items))
     → IsTrue (has_unread ino items)
 unread-within ino from to [] unread = unread
 unread-within ino from to (item ∷ items) unread =

@@ -14,7 +14,8 @@ use Rattle.qg_descent.specs.Way.{FailsOnWay}
 use Rattle.qg_inodes.specs.Items.{has_unread}
 
 -- a tree is told, and its items are those of these files, which tell no generation past some
-pub record TellsFiles (root : Root) (draft : Draft) (history : Option (List Event)) (files : List (ℕ × File)) : Type 0 where
+pub record TellsFiles (root : Root) (draft : Draft) (history : Option (List Event)) (files : List (ℕ × File)) : Type
+    0 where
   pub items : List Item
   pub tells : TellsTree Files root draft history items
   pub generation : ℕ
@@ -22,7 +23,8 @@ pub record TellsFiles (root : Root) (draft : Draft) (history : Option (List Even
 
 -- a call answers the rule `item` and the root's address; where a tree is told, it has an item of the file that says
 -- nothing
-pub record IsMisread {A : Type 0} (root : Root) (draft : Draft) (events : List Event) (ino : ℕ) (result : Result A BlockFault)
+pub record IsMisread {A : Type 0} (root : Root) (draft : Draft) (events : List Event) (ino : ℕ)
+    (result : Result A BlockFault)
     : Type 0 where
   pub answer : result ≡ Err (Image rule.Item root.address)
   pub there : (items : List Item) → TellsTree Files root draft (Some events) items → IsTrue (has_unread ino items)

@@ -21,11 +21,12 @@ use qg_rules::LARGEST_SIZE;
 use std::alloc::Global;
 use std::sync::ledger::Ledger;
 
-/// A file with all its pieces; none exactly where there is none of that number. It takes at most three steps for each level, and again one
-/// for each piece, and copies no node.
+/// A file with all its pieces; none exactly where there is none of that number. It takes at most three steps for each
+/// level, and again one for each piece, and copies no node.
 ///
-/// The pieces may be edited, over any disk. What does not fit a tree is answered as `Image`, and so are an item of the file that says
-/// nothing, with the rule `Item` and the root's address, and pieces that no file has, with the rule `File`.
+/// The pieces may be edited, over any disk. What does not fit a tree is answered as `Image`, and so are an item of the
+/// file that says nothing, with the rule `Item` and the root's address, and pieces that no file has, with the rule
+/// `File`.
 pub fn file_of<D: Disk, L: Ledger>(
     tree: &Tree,
     alloc: Global,
@@ -43,7 +44,8 @@ pub fn file_of<D: Disk, L: Ledger>(
         → FailsOnPieces tree.now blocks.old.draft events ino result }
     ensures apart { IfOk result (λ file. IfSome file (λ file. AreApart file.pieces)) }
     ensures readable { IsReadable blocks.new (D.history disk.new) (D.size disk.new) }
-    ensures read { HasRead blocks.old blocks.new (D.history disk.old) (D.history disk.new) (D.size disk.old) (D.size disk.new) }
+    ensures read { HasRead blocks.old blocks.new (D.history disk.old) (D.history disk.new) (D.size disk.old)
+        (D.size disk.new) }
     ensures cause { HasCause BlockFault.Disk (D.faults disk.old) (D.faults disk.new) result }
     ensures reads { (files : List (ℕ × FileValue)) → TellsFiles tree.now blocks.old.draft (D.history disk.old) files
         → reads.new ≤ reads.old + (tree.now.height + 1) * (3 + length (pieces_at ino files)) }

@@ -20,10 +20,11 @@ use qg_num::{BlockFault, Ino, Steps};
 use std::alloc::Global;
 use std::sync::ledger::Ledger;
 
-/// The INODE_ITEM of a file; none exactly where there is no such file. It takes at most a step for each level, and copies no node.
+/// The INODE_ITEM of a file; none exactly where there is no such file. It takes at most a step for each level, and
+/// copies no node.
 ///
-/// What does not fit a tree is answered as `Image`, and so is an item of the file that says nothing: with the rule `Item` and the root's
-/// address.
+/// What does not fit a tree is answered as `Image`, and so is an item of the file that says nothing: with the rule
+/// `Item` and the root's address.
 pub fn inode_of<D: Disk, L: Ledger>(
     tree: &Tree,
     alloc: Global,
@@ -40,7 +41,8 @@ pub fn inode_of<D: Disk, L: Ledger>(
     ensures broken { (events : List Event) → D.history disk.old ≡ Some events
         → FailsOnFile tree.now blocks.old.draft events ino result }
     ensures readable { IsReadable blocks.new (D.history disk.new) (D.size disk.new) }
-    ensures read { HasRead blocks.old blocks.new (D.history disk.old) (D.history disk.new) (D.size disk.old) (D.size disk.new) }
+    ensures read { HasRead blocks.old blocks.new (D.history disk.old) (D.history disk.new) (D.size disk.old)
+        (D.size disk.new) }
     ensures cause { HasCause BlockFault.Disk (D.faults disk.old) (D.faults disk.new) result }
     ensures reads { reads.new ≤ reads.old + tree.now.height + 1 }
 {

@@ -53,7 +53,8 @@ pub(crate) fn piece_of(item: &Item) -> Option<Piece>
     })
 }
 
-/// The piece of a file that an item tells; none where it is no piece of it. An item that says nothing is answered as `Image`.
+/// The piece of a file that an item tells; none where it is no piece of it. An item that says nothing is answered as
+/// `Image`.
 pub(crate) fn own_piece(
     tree: &Tree,
     ino: Ino,

@@ -1,4 +1,5 @@
-//! What a command asks of one file, read from the tree in which the files of a subvolume lie, and no more of the tree than that takes.
+//! What a command asks of one file, read from the tree in which the files of a subvolume lie, and no more of the tree
+//! than that takes.
 #![tactic(auto)]
 
 mod apart;

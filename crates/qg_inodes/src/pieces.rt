@@ -21,11 +21,12 @@ use qg_num::{BlockFault, Ino, NoMemory, Piece, Pieces, Steps};
 use std::alloc::Global;
 use std::sync::ledger::Ledger;
 
-/// The pieces of a file that share a byte with the range from one position up to another, in their order. It takes at most two steps for
-/// each level, and again one for each piece, and copies no node.
+/// The pieces of a file that share a byte with the range from one position up to another, in their order. It takes at
+/// most two steps for each level, and again one for each piece, and copies no node.
 ///
-/// The pieces may be edited, over any disk. What does not fit a tree is answered as `Image`, and so are an item of the file that says
-/// nothing, with the rule `Item` and the root's address, and pieces that no file has, with the rule `File`.
+/// The pieces may be edited, over any disk. What does not fit a tree is answered as `Image`, and so are an item of the
+/// file that says nothing, with the rule `Item` and the root's address, and pieces that no file has, with the rule
+/// `File`.
 pub fn pieces_meeting<D: Disk, L: Ledger>(
     tree: &Tree,
     alloc: Global,
@@ -45,7 +46,8 @@ pub fn pieces_meeting<D: Disk, L: Ledger>(
         → FailsOnPieces tree.now blocks.old.draft events ino result }
     ensures apart { IfOk result (λ pieces. AreApart pieces) }
     ensures readable { IsReadable blocks.new (D.history disk.new) (D.size disk.new) }
-    ensures read { HasRead blocks.old blocks.new (D.history disk.old) (D.history disk.new) (D.size disk.old) (D.size disk.new) }
+    ensures read { HasRead blocks.old blocks.new (D.history disk.old) (D.history disk.new) (D.size disk.old)
+        (D.size disk.new) }
     ensures cause { HasCause BlockFault.Disk (D.faults disk.old) (D.faults disk.new) result }
     ensures reads { (files : List (ℕ × FileValue)) → TellsFiles tree.now blocks.old.draft (D.history disk.old) files
         → reads.new ≤ reads.old + (tree.now.height + 1) * (2 + length (pieces_met from to (pieces_at ino files))) }
@@ -76,8 +78,8 @@ fn behind(from: u64, piece: &Option<Piece>) -> Option<Piece>
     }
 }
 
-// The same, in two parts: the last piece that begins at the range's begin or in front of it, and those that begin in the
-// range.
+// The same, in two parts: the last piece that begins at the range's begin or in front of it, and those that begin in
+// the range.
 fn parted<D: Disk, L: Ledger>(
     tree: &Tree,
     alloc: Global,
@@ -97,7 +99,8 @@ fn parted<D: Disk, L: Ledger>(
         → FailsOnPieces tree.now blocks.old.draft events ino result }
     ensures apart { IfOk result (λ pieces. AreApart pieces) }
     ensures readable { IsReadable blocks.new (D.history disk.new) (D.size disk.new) }
-    ensures read { HasRead blocks.old blocks.new (D.history disk.old) (D.history disk.new) (D.size disk.old) (D.size disk.new) }
+    ensures read { HasRead blocks.old blocks.new (D.history disk.old) (D.history disk.new) (D.size disk.old)
+        (D.size disk.new) }
     ensures cause { HasCause BlockFault.Disk (D.faults disk.old) (D.faults disk.new) result }
     ensures reads { (files : List (ℕ × FileValue)) → TellsFiles tree.now blocks.old.draft (D.history disk.old) files
         → reads.new ≤ reads.old + (tree.now.height + 1) * (2 + length (pieces_met from to (pieces_at ino files))) }

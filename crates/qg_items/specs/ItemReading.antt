@@ -1,4 +1,5 @@
--- What a body's bytes are read as (on-disk format, "item types"): nothing exactly where the length or a constant byte differs.
+-- What a body's bytes are read as (on-disk format, "item types"): nothing exactly where the length or a constant byte
+-- differs.
 use Rattle.std.specs.Prelude.{ℕ, ◌&&◌, List, length, slice_index, Option, ◌==◌}
 use Rattle.std.specs.Bool.{then_some}
 use Rattle.qg_num.specs.Fields.{u64_at, u32_at, is_zero}
@@ -22,13 +23,27 @@ inode_read bytes =
 unfoldable pub extent_data_read : List ℕ → Option ExtentData
 extent_data_read bytes =
     then_some ((length bytes == 53) && is_zero 16 20 bytes && (slice_index bytes 20 == 1))
-    (record { generation = u64_at 0 bytes; ram_bytes = u64_at 8 bytes; disk_bytenr = u64_at 21 bytes; disk_num_bytes = u64_at 29 bytes; offset = u64_at 37 bytes; num_bytes = u64_at 45 bytes })
+    (record {
+      generation = u64_at 0 bytes;
+      ram_bytes = u64_at 8 bytes;
+      disk_bytenr = u64_at 21 bytes;
+      disk_num_bytes = u64_at 29 bytes;
+      offset = u64_at 37 bytes;
+      num_bytes = u64_at 45 bytes;
+    })
 
 -- a ROOT_ITEM: 439 bytes, and all but these five fields are 0
 unfoldable pub root_read : List ℕ → Option RootItem
 root_read bytes =
-    then_some ((length bytes == 439) && is_zero 0 160 bytes && is_zero 168 176 bytes && is_zero 184 200 bytes && is_zero 208 216 bytes && is_zero 220 238 bytes && is_zero 239 439 bytes)
-    (record { generation = u64_at 160 bytes; bytenr = u64_at 176 bytes; last_snapshot = u64_at 200 bytes; refs = u32_at 216 bytes; level = slice_index bytes 238 })
+    then_some ((length bytes == 439) && is_zero 0 160 bytes && is_zero 168 176 bytes && is_zero 184 200 bytes
+    && is_zero 208 216 bytes && is_zero 220 238 bytes && is_zero 239 439 bytes)
+    (record {
+      generation = u64_at 160 bytes;
+      bytenr = u64_at 176 bytes;
+      last_snapshot = u64_at 200 bytes;
+      refs = u32_at 216 bytes;
+      level = slice_index bytes 238;
+    })
 
 -- an EXTENT_ITEM or a METADATA_ITEM: 24 bytes
 unfoldable pub extent_read : List ℕ → Option ExtentItem
@@ -56,7 +71,13 @@ status_read bytes =
 unfoldable pub info_read : List ℕ → Option QgroupInfo
 info_read bytes =
     then_some (length bytes == 40)
-    (record { generation = u64_at 0 bytes; rfer = u64_at 8 bytes; rfer_cmpr = u64_at 16 bytes; excl = u64_at 24 bytes; excl_cmpr = u64_at 32 bytes })
+    (record {
+      generation = u64_at 0 bytes;
+      rfer = u64_at 8 bytes;
+      rfer_cmpr = u64_at 16 bytes;
+      excl = u64_at 24 bytes;
+      excl_cmpr = u64_at 32 bytes;
+    })
 
 -- a QGROUP_LIMIT: 40 bytes, and the two limits on reservations are 0
 unfoldable pub limit_read : List ℕ → Option QgroupLimit

@@ -15,18 +15,21 @@ use Rattle.qg_items.specs.declared.quota.QgroupLimit.{QgroupLimit}
 
 -- 160 bytes
 unfoldable pub inode_text : InodeItem → List ℕ
-inode_text inode = u64_bytes inode.generation ++ u64_bytes inode.transid ++ u64_bytes inode.size ++ u64_bytes inode.nbytes ++ zeros 128
+inode_text inode = u64_bytes inode.generation ++ u64_bytes inode.transid ++ u64_bytes inode.size
+    ++ u64_bytes inode.nbytes ++ zeros 128
 
 -- 53 bytes: no compression, no encryption, no other encoding, type 1 (regular)
 unfoldable pub extent_data_text : ExtentData → List ℕ
 extent_data_text piece =
     u64_bytes piece.generation ++ u64_bytes piece.ram_bytes ++ (0 ∷ 0 ∷ []) ++ u16_bytes 0 ++ (1 ∷ [])
-    ++ u64_bytes piece.disk_bytenr ++ u64_bytes piece.disk_num_bytes ++ u64_bytes piece.offset ++ u64_bytes piece.num_bytes
+    ++ u64_bytes piece.disk_bytenr ++ u64_bytes piece.disk_num_bytes ++ u64_bytes piece.offset
+    ++ u64_bytes piece.num_bytes
 
 -- 439 bytes: the generation at 160, the address at 176, last_snapshot at 200, refs at 216, the level at 238
 unfoldable pub root_text : RootItem → List ℕ
 root_text root =
-    zeros 160 ++ u64_bytes root.generation ++ zeros 8 ++ u64_bytes root.bytenr ++ zeros 16 ++ u64_bytes root.last_snapshot
+    zeros 160 ++ u64_bytes root.generation ++ zeros 8 ++ u64_bytes root.bytenr ++ zeros 16
+    ++ u64_bytes root.last_snapshot
     ++ zeros 8 ++ u32_bytes root.refs ++ zeros 18 ++ (root.level ∷ []) ++ zeros 200
 
 -- 24 bytes
@@ -35,7 +38,8 @@ extent_text extent = u64_bytes extent.refs ++ u64_bytes extent.generation ++ u64
 
 -- 28 bytes
 unfoldable pub data_ref_text : ExtentDataRef → List ℕ
-data_ref_text reference = u64_bytes reference.root ++ u64_bytes reference.objectid ++ u64_bytes reference.offset ++ u32_bytes reference.count
+data_ref_text reference = u64_bytes reference.root ++ u64_bytes reference.objectid ++ u64_bytes reference.offset
+    ++ u32_bytes reference.count
 
 -- 4 bytes
 unfoldable pub shared_data_ref_text : SharedDataRef → List ℕ
@@ -47,7 +51,8 @@ status_text status = u64_bytes 1 ++ u64_bytes status.generation ++ u64_bytes sta
 
 -- 40 bytes
 unfoldable pub info_text : QgroupInfo → List ℕ
-info_text info = u64_bytes info.generation ++ u64_bytes info.rfer ++ u64_bytes info.rfer_cmpr ++ u64_bytes info.excl ++ u64_bytes info.excl_cmpr
+info_text info = u64_bytes info.generation ++ u64_bytes info.rfer ++ u64_bytes info.rfer_cmpr ++ u64_bytes info.excl
+    ++ u64_bytes info.excl_cmpr
 
 -- 40 bytes: the two limits on reservations are 0
 unfoldable pub limit_text : QgroupLimit → List ℕ

@@ -12,7 +12,8 @@ use Rattle.qg_items.specs.declared.quota.QgroupInfo.{QgroupInfo}
 use Rattle.qg_items.specs.declared.quota.QgroupLimit.{QgroupLimit}
 
 -- the text of an item and the reading of bytes undo each other
-pub record RoundTrips {Item : Type 0} (Fits : Item → Type 0) (text : Item → List ℕ) (read : List ℕ → Option Item) : Type 0 where
+pub record RoundTrips {Item : Type 0} (Fits : Item → Type 0) (text : Item → List ℕ) (read : List ℕ
+    → Option Item) : Type 0 where
   -- an item whose numbers fit is read from its text
   pub reads_back : (item : Item) → Fits item → read (text item) ≡ Some item
   -- bytes that are read as an item are its text

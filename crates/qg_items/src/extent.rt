@@ -52,7 +52,8 @@ pub enum Reference {
     KeyedBlock { root: RootId },
     /// From the node at this address, in bytes.
     SharedBlock { parent: Address },
-    /// From pieces of a file in leaves that this tree owns; the offset is a position less an offset, modulo 2^64, in bytes.
+    /// From pieces of a file in leaves that this tree owns; the offset is a position less an offset, modulo 2^64, in
+    /// bytes.
     KeyedData { root: RootId, ino: Ino, offset: u64 },
     /// From pieces in the leaf at this address, in bytes.
     SharedData { parent: Address },

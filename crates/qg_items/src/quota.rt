@@ -51,7 +51,8 @@ pub struct QgroupLimit {
     pub max_excl: u64,
 }
 
-/// Reads a QGROUP_STATUS body: nothing where the length isn't 32 or the version isn't 1 (on-disk format, QGROUP_STATUS).
+/// Reads a QGROUP_STATUS body: nothing where the length isn't 32 or the version isn't 1 (on-disk format,
+/// QGROUP_STATUS).
 #[tactic(auto, unfolding(crate::specs::ItemReading::status_read))]
 pub fn read_status(bytes: &[u8]) -> Option<QgroupStatus>
     ensures exact { result ≡ status_read bytes.now }

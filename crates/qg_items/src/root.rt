@@ -23,7 +23,8 @@ pub struct RootItem {
     pub level: u8,
 }
 
-/// Reads a ROOT_ITEM body: nothing where the length isn't 439 or a byte of no field isn't 0 (on-disk format, ROOT_ITEM).
+/// Reads a ROOT_ITEM body: nothing where the length isn't 439 or a byte of no field isn't 0 (on-disk format,
+/// ROOT_ITEM).
 #[tactic(auto, unfolding(crate::specs::ItemReading::root_read))]
 pub fn read_root(bytes: &[u8]) -> Option<RootItem>
     ensures exact { result ≡ root_read bytes.now }

@@ -65,7 +65,8 @@ fewer-filled nodesize light heavy size less =
     (some-capacity nodesize size) (omega (arith, less))
 
 -- a stamp is the one before, or the generation's
-stamp-by : (same : Bool) (before generation : ℕ) → before ≤ generation → (if same then before else generation) ≤ generation
+stamp-by : (same : Bool) (before generation : ℕ) → before ≤ generation
+    → (if same then before else generation) ≤ generation
 stamp-by true before generation early = early
 stamp-by false before generation early = omega arith
 
@@ -165,7 +166,8 @@ module _ (kept : Kept) (fits : IsFitted kept) (roots : List (ℕ × RootItem)) (
       (ap (λ (r : RootItem). r.refs) now.4.root_is, root_by now.0 now.1.1 entry.1 now.4 early)
 
   same_key : (n : ℕ) → has_key n roots ≡ has_key n kept.snapshots
-  same_key n = key_by n roots ∙ ap (λ (ns : List ℕ). list_any (λ m. m == n) ns) are.numbers ∙ sym (key_by n kept.snapshots)
+  same_key n = key_by n roots ∙ ap (λ (ns : List ℕ). list_any (λ m. m == n) ns) are.numbers
+      ∙ sym (key_by n kept.snapshots)
 
   -- the root tree can name them
   pub named-subvolumes : AreSubvolumes kept.fs.tree.next roots
@@ -214,7 +216,8 @@ module _ (generation : ℕ) (counters : ℕ → Counters) (subvolumes : List ℕ
         (λ entry has. let old = before entry has in
         subst (λ (n : ℕ). IsTrue (is_group_number n)) (ap (λ (e : ℕ × Group). e.0) old.2)
         (All-contains (λ (e : ℕ × Group). IsTrue (is_group_number e.0)) quota.groups old.0 groups.numbers old.1));
-    own = All-from-contains (λ (sub : ℕ). IsTrue (has_key sub (quota_after generation counters quota).groups)) subvolumes
+    own = All-from-contains (λ (sub : ℕ). IsTrue (has_key sub (quota_after generation counters quota).groups))
+        subvolumes
         (λ sub has.
         key_by sub (quota_after generation counters quota).groups
         ∙ ap (λ (ns : List ℕ). list_any (λ m. m == sub) ns) keys-then ∙ sym (key_by sub quota.groups)
@@ -223,7 +226,8 @@ module _ (generation : ℕ) (counters : ℕ → Counters) (subvolumes : List ℕ
         (quota_after generation counters quota).groups
         (λ entry has. let old = before entry has in
         subst (λ (e : ℕ × Group). e.1.stamp ≤ generation) old.2
-        (stamp-by ((old.0.1.counters.rfer == (counters old.0.0).rfer) && (old.0.1.counters.excl == (counters old.0.0).excl))
+        (stamp-by ((old.0.1.counters.rfer == (counters old.0.0).rfer)
+        && (old.0.1.counters.excl == (counters old.0.0).excl))
         old.0.1.stamp generation
         (All-contains (λ (e : ℕ × Group). e.1.stamp ≤ generation) quota.groups old.0 groups.stamped old.1)));
     few_pairs = groups.few_pairs;

@@ -106,7 +106,8 @@ module _ (kept : Kept) (land : Ground) (before after : Option (List Event)) (byt
   surveyed-there = record { rest = ap (with_land kept) (land_same kept.fs.land land space); read = read }
 
   -- where they are such as a tree is edited in, what is kept fits together
-  pub surveyed-kept : IsKept kept before bytes → IsEditable land after left next → IsKept (with_land kept land) after left
+  pub surveyed-kept : IsKept kept before bytes → IsEditable land after left next
+      → IsKept (with_land kept land) after left
   surveyed-kept fits editable =
       subst (λ (ground : Ground). IsKept (with_land kept ground) after left) (sym (land_same kept.fs.land land space))
       (kept-read kept land.blocks before after bytes left fits read (record {

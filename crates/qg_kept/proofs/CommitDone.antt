@@ -1,4 +1,5 @@
--- A commit that was written is one of the machine, and what is left is kept of the state that it comes to. All in bytes.
+-- A commit that was written is one of the machine, and what is left is kept of the state that it comes to. All in
+-- bytes.
 use Rattle.std.proofs.Common.{◌≡◌, ◌≤◌, ℕ, Bool, true, false, List, [], ◌∷◌, length, map, get_or, Option, Some, cond}
 use Rattle.std.proofs.Common.{arith, refl, sym, ap, subst, ◌∙◌}
 use Rattle.std.specs.Prelude.{◌==◌, All}

@@ -1,5 +1,6 @@
 -- What a commit leaves over any disk: what is kept fits together still, and clean nodes are the disk's. All in bytes.
-use Rattle.std.proofs.Common.{◌≡◌, ℕ, ◌+◌, ◌*◌, ◌≤◌, List, [], ◌∷◌, length, map, Option, Some, refl, sym, ap, subst, ◌∙◌}
+use Rattle.std.proofs.Common.{◌≡◌, ℕ, ◌+◌, ◌*◌, ◌≤◌, List, [], ◌∷◌, length, map, Option, Some, refl, sym, ap, subst}
+use Rattle.std.proofs.Common.{◌∙◌}
 use Rattle.std.proofs.Common.{arith}
 use Rattle.std.specs.Prelude.{All, IsTrue}
 use Rattle.std.specs.List.{Contains}
@@ -85,7 +86,8 @@ module _ (kept : Kept) (plan : Plan) (trees : OtherTrees) (fits : IsFitted kept)
   flushed before bytes whole is gone read sized =
       is-flushed kept.fs plan.roots kept.fs.refs.refs plan.quota kept.fs.tree.next plan.slots trees laying-there
       fits.drafted is.is.free
-      (subst (λ (sizes : Sizes). All (IsReadBack sizes.nodesize) (fresh_nodes kept.fs.land.blocks.draft)) (sym fits.sizes)
+      (subst (λ (sizes : Sizes). All (IsReadBack sizes.nodesize) (fresh_nodes kept.fs.land.blocks.draft))
+      (sym fits.sizes)
       read)
       before
       (λ events told.
@@ -118,7 +120,8 @@ module _ (kept : Kept) (plan : Plan) (trees : OtherTrees) (fits : IsFitted kept)
       owners_later next [] = refl
       owners_later next (tree ∷ trees) = ap (λ (ns : List ℕ). tree.owner ∷ ns) (owners_later next trees)
 
-      others_numbered : map (λ (t : Root). t.owner) new.fs.others.items ≡ map (λ (t : Root). t.owner) kept.fs.others.items
+      others_numbered : map (λ (t : Root). t.owner) new.fs.others.items
+          ≡ map (λ (t : Root). t.owner) kept.fs.others.items
       others_numbered =
           ap (map (λ (t : Root). t.owner)) becomes.fs.others
           ∙ owners_later (kept.fs.tree.next + 1) kept.fs.others.items

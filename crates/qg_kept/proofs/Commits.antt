@@ -1,5 +1,6 @@
 -- What the machine does at a commit, told by what is kept.
-use Rattle.std.proofs.Common.{◌≡◌, ℕ, ◌<◌, ◌≤◌, Bool, true, false, List, [], ◌∷◌, length, None, Some, Option, refl, sym, ap, subst, ◌∙◌, arith, ◌⊎◌, inl, inr}
+use Rattle.std.proofs.Common.{◌≡◌, ℕ, ◌<◌, ◌≤◌, Bool, true, false, List, [], ◌∷◌, length, None, Some, Option, refl, sym}
+use Rattle.std.proofs.Common.{ap, subst, ◌∙◌, arith, ◌⊎◌, inl, inr}
 use Rattle.std.specs.Prelude.{MatchBool, MatchOption, if◌then◌else◌, nat_lt}
 use Rattle.std.specs.Bool.{then_some}
 use Rattle.std.proofs.lemmas.Bool.{lt-ltb, le-ltb}
@@ -31,24 +32,29 @@ none_pending state none = ap (λ n. nat_lt 0 n) none
 some_pending : (state : State) → 0 < length state.pending → is_pending state ≡ true
 some_pending state some = lt-ltb 0 (length state.pending) some
 
-refusal_is : (state : State) (pending : Bool) → is_pending state ≡ pending → refusal state command.Commit ≡ (if pending then no_generation state else None)
+refusal_is : (state : State) (pending : Bool) → is_pending state ≡ pending
+    → refusal state command.Commit ≡ (if pending then no_generation state else None)
 unfolding refusal
 refusal_is state pending is = ap (λ test. if test then no_generation state else None) is
 
 passes_generation : (state : State) → state.generation ≤ last_generation → no_generation state ≡ None
-passes_generation state early = ap (λ late. then_some late why.NoGeneration) (le-ltb last_generation state.generation early)
+passes_generation state early =
+    ap (λ late. then_some late why.NoGeneration) (le-ltb last_generation state.generation early)
 
 lacks_generation : (state : State) → last_generation < state.generation → no_generation state ≡ Some why.NoGeneration
-lacks_generation state late = ap (λ late. then_some late why.NoGeneration) (lt-ltb last_generation state.generation late)
+lacks_generation state late =
+    ap (λ late. then_some late why.NoGeneration) (lt-ltb last_generation state.generation late)
 
 -- ---- the step
 
 abbrev StepBy : State → Answer → List State → State → Option Refusal → Type 0
 StepBy old reply commits new refused =
-    MatchOption refused (machine.Does old command.Commit reply commits new) (λ why. (reply ≡ answer.Refused why) × machine.Stays old commits new)
+    MatchOption refused (machine.Does old command.Commit reply commits new) (λ why. (reply ≡ answer.Refused why)
+    × machine.Stays old commits new)
 
 abbrev CommitsBy : State → List State → State → Bool → Type 0
-CommitsBy old commits new pending = MatchBool pending (Commits old new × (commits ≡ new ∷ [])) ((new ≡ old) × (commits ≡ []))
+CommitsBy old commits new pending = MatchBool pending (Commits old new × (commits ≡ new ∷ []))
+    ((new ≡ old) × (commits ≡ []))
 
 -- all calls of a commit were made
 pub all-made : (super : Super) (nodes : List Node) (events : List Event)
@@ -60,19 +66,23 @@ all-made super nodes events =
     (Some (with_commit super nodes events)) refl) events refl
 
 -- nothing is pending
-idle_step : (state : State) (reply : Answer) → length state.pending ≡ 0 → reply ≡ answer.Commit state.generation → Step state command.Commit reply [] state
+idle_step : (state : State) (reply : Answer) → length state.pending ≡ 0 → reply ≡ answer.Commit state.generation
+    → Step state command.Commit reply [] state
 idle_step state reply none is =
     let idle = none_pending state none in
     subst (StepBy state reply [] state) (sym (refusal_is state false idle))
     (is, subst (CommitsBy state [] state) (sym idle) (refl, refl))
 
 -- no generation is left
-refused_step : (state : State) → 0 < length state.pending → last_generation < state.generation → Step state command.Commit (answer.Refused why.NoGeneration) [] state
+refused_step : (state : State) → 0 < length state.pending → last_generation < state.generation
+    → Step state command.Commit (answer.Refused why.NoGeneration) [] state
 refused_step state some late =
-    subst (StepBy state (answer.Refused why.NoGeneration) [] state) (sym (refusal_is state true (some_pending state some) ∙ lacks_generation state late)) (refl, (refl, refl))
+    subst (StepBy state (answer.Refused why.NoGeneration) [] state)
+    (sym (refusal_is state true (some_pending state some) ∙ lacks_generation state late)) (refl, (refl, refl))
 
 -- what is pending is committed
-pub commit_step : (old new : State) (reply : Answer) → 0 < length old.pending → old.generation ≤ last_generation → Commits old new → reply ≡ answer.Commit new.generation
+pub commit_step : (old new : State) (reply : Answer) → 0 < length old.pending → old.generation ≤ last_generation
+    → Commits old new → reply ≡ answer.Commit new.generation
     → Step old command.Commit reply (new ∷ []) new
 commit_step old new reply some early commits is =
     let pending = some_pending old some in

@@ -1,4 +1,5 @@
--- The direct counts of what is kept: how many bytes can be counted, and what the survey of its nodes tells. All in bytes.
+-- The direct counts of what is kept: how many bytes can be counted, and what the survey of its nodes tells. All in
+-- bytes.
 use Rattle.std.proofs.Common.{◌≡◌, ℕ, zero, suc, ◌+◌, ◌*◌, ◌<◌, ◌≤◌, ◌^◌, List, [], ◌∷◌, map, length, get_or, Option}
 use Rattle.std.proofs.Common.{sym, ap, subst, ◌∙◌, arith, inl, inr}
 use Rattle.std.specs.List.{Contains}
@@ -38,7 +39,8 @@ pub small-now : (kept : Kept) → IsFitted kept → (nodesize nodes bytes : ℕ)
     → nodes ≤ kept.superblock.slots → bytes ≤ kept.fs.land.space.sizes.sectors * sector
     → nodesize * nodes + bytes < 2 ^ 64
 small-now kept fits nodesize nodes bytes same few within =
-    let served = SizesFit-is_served (sizes_of kept.superblock) (SuperFits-is_super kept.superblock fits.superblock).served in
+    let served = SizesFit-is_served (sizes_of kept.superblock)
+    (SuperFits-is_super kept.superblock fits.superblock).served in
     let less : kept.superblock.nodesize * nodes ≤ kept.superblock.nodesize * kept.superblock.slots =
     mul-le-mul_left kept.superblock.nodesize few in
     let area = served.area in

@@ -35,7 +35,8 @@ committed-so old new besides named is same = record {
 }
 
 -- the generation behind the one to come fits its field
-pub later-fits : (kept : Kept) → IsFitted kept → kept.superblock.generation ≤ 2 ^ 63 + 1 → kept.fs.tree.next + 1 < 2 ^ 64
+pub later-fits : (kept : Kept) → IsFitted kept → kept.superblock.generation ≤ 2 ^ 63 + 1
+    → kept.fs.tree.next + 1 < 2 ^ 64
 later-fits kept fits early = let next = fits.next in omega (arith, next, early)
 
 module _ (kept : Kept) (plan : Plan) (trees : OtherTrees) (laid : IsLaidBy kept plan trees) where

@@ -1,5 +1,5 @@
--- What a commit leaves of what is kept, over any disk: the same trees and references, and no fewer free slots than it may
--- take.
+-- What a commit leaves of what is kept, over any disk: the same trees and references, and no fewer free slots than it
+-- may take.
 use Rattle.std.proofs.Common.{◌≡◌, ℕ, ◌≤◌, true, List, Option, map, length, sym, ap, subst, ◌∙◌, arith}
 use Rattle.std.specs.List.{Contains}
 use Rattle.std.proofs.lemmas.List.Elements.{All-contains}
@@ -30,11 +30,13 @@ module _ (old new : Kept) (plan : Plan) (trees : OtherTrees) (fits : IsFitted ol
   free_there : (slot : ℕ) → Contains besides slot → is_free_slot old.fs.land.space slot ≡ true
   free_there slot has =
       All-contains (λ (s : ℕ). is_free_slot old.fs.land.space s ≡ true) plan.slots slot is.is.free.free
-      (laid-among (sizes_of old.superblock) old.fs.tree.next plan.roots old.fs.refs.refs plan.quota plan.slots trees laid.laid slot has)
+      (laid-among (sizes_of old.superblock) old.fs.tree.next plan.roots old.fs.refs.refs plan.quota plan.slots trees
+      laid.laid slot has)
 
   few : length besides ≤ commit_need old
   few =
-      let many = laid-many (sizes_of old.superblock) old.fs.tree.next plan.roots old.fs.refs.refs plan.quota plan.slots trees laid.laid in
+      let many = laid-many (sizes_of old.superblock) old.fs.tree.next plan.roots old.fs.refs.refs plan.quota plan.slots
+      trees laid.laid in
       let most = is.is.most in
       omega (arith, many, most)
 

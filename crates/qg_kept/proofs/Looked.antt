@@ -86,7 +86,8 @@ module _ (kept : Kept) (history : Option (List Event)) (bytes : ℕ) (fits : IsK
 
 pub node-size : (kept : Kept) → IsFitted kept → IsNodeSize kept.superblock.nodesize
 node-size kept fits =
-    (SizesFit-is_served (sizes_of kept.superblock) (SuperFits-is_super kept.superblock fits.superblock).served).node_size
+    (SizesFit-is_served (sizes_of kept.superblock)
+    (SuperFits-is_super kept.superblock fits.superblock).served).node_size
 
 -- the generation to come fits its field
 pub is-near : (kept : Kept) → IsFitted kept → kept.fs.tree.next < 2 ^ 64
@@ -214,7 +215,8 @@ pub looked-again : (old mid new : Kept) (before then after : Option (List Event)
     → HasReadNodes old new before after bytes left
 looked-again old mid new before then after bytes between left first second = record {
   same = second.same
-      ∙ ap (λ (kept : Kept). with_blocks kept (record kept.fs.land.blocks { clean = new.fs.land.blocks.clean })) first.same;
+      ∙ ap (λ (kept : Kept). with_blocks kept (record kept.fs.land.blocks { clean = new.fs.land.blocks.clean }))
+      first.same;
   history = second.history ∙ first.history;
   size = second.size ∙ first.size;
 }

@@ -75,7 +75,8 @@ owners-now kept history bytes state names fits table keeps address roots nodes f
     ap links_in of_nodes ∙ linked_all state.layout in
     let links = subst (λ (list : List Linked). AreLinksOf (layout_of state) (layout_of state).roots list) (sym same)
     (links-held kept.fs.land history kept.fs.refs state held fits.fitted.drafted.sizes) in
-    let up = subst (λ (list : List Linked). IsStrictlyIncreasing (map (λ (link : Linked). link.address) list)) (sym same)
+    let up = subst (λ (list : List Linked). IsStrictlyIncreasing (map (λ (link : Linked). link.address) list))
+    (sym same)
     (subst (λ (ns : List ℕ). IsStrictlyIncreasing ns) (sym (addresses_all state.layout)) held.whole.ascending) in
     let numbers = subst (λ (ns : List ℕ). IsStrictlyIncreasing ns) (sym (keys_rooted state.subvolumes)) held.numbers in
     owners-told (layout_of state) nodes of_nodes links up numbers held.whole.ascending address roots found

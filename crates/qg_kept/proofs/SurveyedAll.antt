@@ -64,7 +64,8 @@ module _ (kept : Kept) (history : Option (List Event)) (bytes : ℕ) (state : St
     (keeps : IsKeptWith kept state history names) where
   layout_ascends : IsStrictlyIncreasing (keys_of state.layout)
   layout_ascends =
-      (whole kept.fs history bytes state keeps.mine keeps.files (tree-now kept history bytes fits table) keeps.keeps).ascending
+      (whole kept.fs history bytes state keeps.mine keeps.files (tree-now kept history bytes fits table)
+      keeps.keeps).ascending
 
   slots_many : (sizes : Sizes) → length (every_slot sizes) ≡ sizes.slots
   slots_many sizes = length-map-range_with_len (slot_at sizes) 0 sizes.slots

@@ -1,5 +1,6 @@
 -- Where another tree came to hand, what is kept is kept of the same state.
-use Rattle.std.proofs.Common.{◌≡◌, ℕ, ◌<◌, ◌≤◌, Bool, true, false, List, map, Option, Some, refl, sym, ap, subst, ◌∙◌, inl, inr}
+use Rattle.std.proofs.Common.{◌≡◌, ℕ, ◌<◌, ◌≤◌, Bool, true, false, List, map, Option, Some, refl, sym, ap, subst, ◌∙◌}
+use Rattle.std.proofs.Common.{inl, inr}
 use Rattle.std.specs.Prelude.{◌↔◌, IfOk, IsTrue, Result, Ok, Err}
 use Rattle.std.specs.List.{All, Contains, filter_map, flat_map}
 use Rattle.std.specs.List.Sorted.{IsPermutation}
@@ -28,7 +29,8 @@ use Rattle.qg_ground.specs.Land.{IsDrafted}
 use Rattle.qg_descent.specs.Tree.{Root}
 use Rattle.qg_tree_refs.specs.declared.tree_refs.TreeRefs.{TreeRefs}
 use Rattle.qg_fs_tree.specs.declared.fs_tree.FsTree.{FsTree}
-use Rattle.qg_fs_tree.specs.Standing.{AreNumbered, CanTurn, IsSubvolume, IsTurned, Stands, items_in, layout_in, name_told}
+use Rattle.qg_fs_tree.specs.Standing.{AreNumbered, CanTurn, IsSubvolume, IsTurned, Stands, items_in, layout_in}
+use Rattle.qg_fs_tree.specs.Standing.{name_told}
 use Rattle.qg_fs_tree.specs.Standing.{trees_of}
 use Rattle.qg_fs_tree.proofs.Lists.{from-mapped}
 use Rattle.qg_fs_tree.proofs.Ordered.{contained}
@@ -209,7 +211,8 @@ module _ (old : Kept) (fs : FsTree) (number : ℕ) (fits : IsFitted old) (turned
         fits.trees;
     numbered = numbered;
     turn = turn-turned;
-    groups = subst (λ (n : ℕ). AreGroupsOf n (keys_of old.snapshots) (quota_of old.quota)) (sym next-turned) fits.groups;
+    groups = subst (λ (n : ℕ). AreGroupsOf n (keys_of old.snapshots) (quota_of old.quota))
+        (sym next-turned) fits.groups;
     tracked = fits.tracked;
     bounded = fits.bounded;
     next = next-turned ∙ fits.next;
@@ -322,7 +325,8 @@ module _ (old : Kept) (history : Option (List Event)) (bytes : ℕ) (state : Sta
 
       holds_now : HoldsFiles fs history mine_now.files
       holds_now = record {
-        stands = subst (λ (items : List Item). Stands fs history items (filter_map name_told items)) hand_now.items stood;
+        stands = subst (λ (items : List Item). Stands fs history items (filter_map name_told items)) hand_now.items
+            stood;
         writable = hand_now.writable;
         by = hand_now.by;
       }
@@ -429,6 +433,8 @@ module _ (old : Kept) (fs : FsTree) (number : ℕ) (found : Bool) (fits : IsFitt
     | inl is_so ↦
         keeps-turned old history bytes state names kept keeps fs number (turned is_so) (numbers fits.numbered)
         (layout fits.numbered is_so)
-        (stood (flat_map items_of_file keeps.files) (is-subvolume old history bytes kept) keeps.keeps.holds.stands is_so)
-    | inr not_so ↦ subst (λ (f : FsTree). IsKeptWith (record old { fs = f }) state history names) (sym (left not_so)) keeps
+        (stood (flat_map items_of_file keeps.files) (is-subvolume old history bytes kept) keeps.keeps.holds.stands
+        is_so)
+    | inr not_so ↦ subst (λ (f : FsTree). IsKeptWith (record old { fs = f }) state history names)
+        (sym (left not_so)) keeps
   ]

@@ -1,12 +1,14 @@
 -- Where the root, extent and quota trees of a commit lie: in the first of the slots. Addresses are in bytes.
-use Rattle.std.proofs.Common.{◌≡◌, ℕ, ◌≤◌, true, List, ◌++◌, Option, get_or, map, length, take, drop, sym, ap, subst, ◌∙◌, arith}
+use Rattle.std.proofs.Common.{◌≡◌, ℕ, ◌≤◌, true, List, ◌++◌, Option, get_or, map, length, take, drop, sym, ap, subst}
+use Rattle.std.proofs.Common.{◌∙◌, arith}
 use Rattle.std.proofs.Common.{length-append, take-append-drop}
 use Rattle.std.specs.Prelude.{◌↔◌}
 use Rattle.std.specs.List.{Contains, list_all}
 use Rattle.std.specs.List.Sorted.{IsPermutation}
 use Rattle.std.proofs.lemmas.List.{append_assoc, length-map, take-append-le, take_all}
 use Rattle.std.proofs.lemmas.List.Elements.{All-contains, Contains-append_left, Contains-get_or}
-use Rattle.std.proofs.lemmas.List.Sorted.{Contains-permutation, IsPermutation-append_comm, IsPermutation-map, IsPermutation-sym, length_permutation}
+use Rattle.std.proofs.lemmas.List.Sorted.{Contains-permutation, IsPermutation-append_comm, IsPermutation-map}
+use Rattle.std.proofs.lemmas.List.Sorted.{IsPermutation-sym, length_permutation}
 use Rattle.std.proofs.lemmas.List.Sums.{list_all-from_AllPass}
 use Rattle.qg_node.specs.declared.node.Node.{Node}
 use Rattle.qg_items.specs.declared.root.RootItem.{RootItem}
@@ -24,7 +26,8 @@ use Rattle.qg_tree_commit.specs.Holds.{AreFree}
 -- the first of two lists that stand one behind the other
 first_of_both : (xs ys zs : List ℕ) → xs ++ ys ≡ zs → take (length xs) zs ≡ xs
 first_of_both xs ys zs is =
-    ap (take (length xs)) (sym is) ∙ take-append-le (length xs) xs ys (omega arith) ∙ take_all (length xs) xs (omega arith)
+    ap (take (length xs)) (sym is) ∙ take-append-le (length xs) xs ys (omega arith)
+    ∙ take_all (length xs) xs (omega arith)
 
 module _ (sizes : Sizes) (generation : ℕ) (roots : List (ℕ × RootItem)) (book : List (ℕ × Kept))
     (quota : Option Quota) (slots : List ℕ) (trees : OtherTrees)
@@ -85,7 +88,8 @@ module _ (sizes : Sizes) (generation : ℕ) (roots : List (ℕ × RootItem)) (bo
       let moved = IsPermutation-map address_of in_order (nodes_laid trees) turned in
       let back = IsPermutation-map address_of (nodes_laid trees) in_order
       (IsPermutation-sym in_order (nodes_laid trees) turned) in
-      subst (λ (front : List ℕ). Contains front slot ↔ Contains (map address_of (nodes_laid trees)) slot) (sym front-is) (
+      subst (λ (front : List ℕ). Contains front slot ↔ Contains (map address_of (nodes_laid trees)) slot)
+      (sym front-is) (
         Contains-permutation (map address_of in_order) (map address_of (nodes_laid trees)) slot moved,
         Contains-permutation (map address_of (nodes_laid trees)) (map address_of in_order) slot back,
       )
@@ -110,4 +114,5 @@ front-free space slots n are =
     list_all-from_AllPass (is_free_slot space) (take n slots) (λ k d below.
     All-contains (λ slot. is_free_slot space slot ≡ true) slots (get_or (take n slots) k d) are.free
     (subst (λ (list : List ℕ). Contains list (get_or (take n slots) k d)) (take-append-drop n slots)
-    (Contains-append_left (take n slots) (drop n slots) (get_or (take n slots) k d) (Contains-get_or (take n slots) k d below))))
+    (Contains-append_left (take n slots) (drop n slots) (get_or (take n slots) k d)
+    (Contains-get_or (take n slots) k d below))))

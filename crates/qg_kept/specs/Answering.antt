@@ -44,7 +44,8 @@ comes_to_disk command = is_structural command
 -- The calls of the commits that a command makes came so far, and perhaps were not all answered. It is one that comes to
 -- the disk, and is not refused. They are those of the commit of what was pending; or all of these, where something was,
 -- and behind them those of the commit of what a structural command changed
-pub record StartsCommits (old : State) (command : Command) (events : List Event) (history : Option (List Event)) : Type 0
+pub record StartsCommits (old : State) (command : Command) (events : List Event) (history : Option (List Event)) : Type
+    0
   where
     pub comes : IsTrue (comes_to_disk command)
     pub unrefused : refusal old command ≡ None

@@ -8,15 +8,16 @@ use Rattle.qg_image.specs.FilesOf.{is_aligned}
 use Rattle.qg_image.specs.ItemMeaning.{first_some}
 use Rattle.qg_image.specs.State.{State}
 use Rattle.qg_image.specs.Verdict.{longest_extent}
-use Rattle.qg_machine.specs.Refusals.{no_align, no_far, no_file, no_source, no_sub, refuse, share_a_byte, too_many_pending}
+use Rattle.qg_machine.specs.Refusals.{no_align, no_far, no_file, no_source, no_sub, refuse, share_a_byte}
+use Rattle.qg_machine.specs.Refusals.{too_many_pending}
 use Rattle.qg_space.specs.Holding.{free_slots}
 use Rattle.qg_kept.specs.declared.kept.Kept.{Kept}
 use Rattle.qg_kept.specs.Keeping.{SameButClean, need_of}
 
 -- ---- what is read
 
--- Nodes were read, or put out of memory: clean nodes alone may be others, the tree at hand is the same, and the disk was
--- not written
+-- Nodes were read, or put out of memory: clean nodes alone may be others, the tree at hand is the same, and the disk
+-- was not written
 pub record HasReadNodes (old new : Kept) (before after : Option (List Event)) (bytes left : ℕ) : Type 0 where
   pub same : new ≡ record old {
     fs = record old.fs {

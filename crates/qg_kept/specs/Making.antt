@@ -22,25 +22,28 @@ pub record IsCommitted (state : State) (image : List ℕ) : Type 0 where
   pub stands : StateOf image state
   pub counted : AreDirect state
 
--- These are the superblock and the nodes of a commit that comes to a state, where so much was held before. The superblock may be written and is
--- of the state's sizes; each node lies in a slot; and the nodes are those of the state that were not held, in some order. Once all the commit's
--- calls are made, the disk holds the state.
-pub record BringsTo (held : Committed) (state : State) (before : List Event) (super : Super) (nodes : List Node) : Type 0 where
+-- These are the superblock and the nodes of a commit that comes to a state, where so much was held before. The
+-- superblock may be written and is of the state's sizes; each node lies in a slot; and the nodes are those of the state
+-- that were not held, in some order. Once all the commit's calls are made, the disk holds the state.
+pub record BringsTo (held : Committed) (state : State) (before : List Event) (super : Super)
+    (nodes : List Node) : Type 0 where
   pub superblock : IsTrue (is_super super)
   pub sizes : sizes_of super ≡ state.sizes
   pub in_slots : All (IsInSlot super) nodes
   pub written : IsPermutation nodes (new_nodes held state)
   pub committed : IsCommitted state (content (with_commit super nodes before))
 
--- The calls of commits that come to these states, the earliest first, where so much was held before, and no others: of each its new nodes, a
--- sync, the first superblock, a sync, the second superblock, a sync.
+-- The calls of commits that come to these states, the earliest first, where so much was held before, and no others: of
+-- each its new nodes, a sync, the first superblock, a sync, the second superblock, a sync.
 abbrev pub Makes : Committed → List State → List Event → List Event → Type 0
 Makes held [] before after = after ≡ before
 Makes held (state ∷ states) before after =
-    (super : Super) × (nodes : List Node) × BringsTo held state before super nodes × Makes state.held states (with_commit super nodes before) after
+    (super : Super) × (nodes : List Node) × BringsTo held state before super nodes
+    × Makes state.held states (with_commit super nodes before) after
 
 -- a disk was made to hold these commits, one after the other, and nothing else was done to it
-pub record MadeCommits (held : Committed) (commits : List State) (before : List Event) (history : Option (List Event)) : Type 0 where
+pub record MadeCommits (held : Committed) (commits : List State) (before : List Event)
+    (history : Option (List Event)) : Type 0 where
   pub after : List Event
   pub told : history ≡ Some after
   pub made : Makes held commits before after
@@ -81,9 +84,10 @@ pub record StartsSecond (old : State) (given : Command) (events : List Event) (h
     pub brings : BringsTo changed.held new between super nodes
     pub made : MadeFront (commit_calls super nodes) between history
 
--- commits of these states, the earliest first, made sure of what a disk held three times each, the newest first: each third time it is
--- the state committed
+-- commits of these states, the earliest first, made sure of what a disk held three times each, the newest first: each
+-- third time it is the state committed
 abbrev pub AreSynced : List State → List Moment → List Moment → Type 0
 AreSynced [] before after = after ≡ before
 AreSynced (state ∷ states) before after =
-    (first : Moment) × (second : Moment) × (third : Moment) × IsCommitted state third.content × AreSynced states (third ∷ second ∷ first ∷ before) after
+    (first : Moment) × (second : Moment) × (third : Moment) × IsCommitted state third.content
+    × AreSynced states (third ∷ second ∷ first ∷ before) after

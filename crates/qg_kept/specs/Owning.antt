@@ -1,4 +1,5 @@
--- The subvolumes that reach what begins at an address, by what was surveyed (this project's own). Addresses are in bytes.
+-- The subvolumes that reach what begins at an address, by what was surveyed (this project's own). Addresses are in
+-- bytes.
 use Rattle.std.specs.Prelude.{◌≡◌, ◌↔◌, ◌||◌, ◌==◌, ℕ, Bool, List, IsTrue, Some, slice_get, slice_index}
 use Rattle.std.specs.List.{Contains, list_any}
 use Rattle.std.specs.List.Sorted.{IsStrictlyIncreasing}

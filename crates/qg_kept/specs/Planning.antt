@@ -1,6 +1,7 @@
 -- What a commit is told of what is kept, and what it leaves of room (this project's own). Addresses and lengths are in
 -- bytes.
-use Rattle.std.specs.Prelude.{◌≡◌, ℕ, ◌+◌, ◌≤◌, ◌==◌, All, List, [], ◌∷◌, length, map, Option, Some, None, if◌then◌else◌}
+use Rattle.std.specs.Prelude.{◌≡◌, ℕ, ◌+◌, ◌≤◌, ◌==◌, All, List, [], ◌∷◌, length, map, Option, Some, None}
+use Rattle.std.specs.Prelude.{if◌then◌else◌}
 use Rattle.std.specs.List.{Contains}
 use Rattle.std.specs.List.Sorted.{IsStrictlyIncreasing}
 use Rattle.qg_device.specs.History.{Event}
@@ -127,8 +128,8 @@ pub record StartsCommitOf (old : State) (events : List Event) (history : Option 
   pub made : MadeFront (commit_calls super nodes) events history
 
 -- What a commit leaves of what is kept, over any disk: nothing is pending, subvolumes are the same, groups too but for
--- their counts, and so are the trees, but for the generation to come, and the references, which are held; and it took no
--- more slots than it may
+-- their counts, and so are the trees, but for the generation to come, and the references, which are held; and it took
+-- no more slots than it may
 pub record LeavesRoom (old new : Kept) : Type 0 where
   pub pending : new.pending ≡ 0
   pub generation : new.superblock.generation ≡ old.superblock.generation + 1

@@ -1,5 +1,6 @@
 -- A store as its callers see it (this project's own).
-use Rattle.std.specs.Prelude.{◌≡◌, ◌⊎◌, ℕ, ◌+◌, ◌<◌, ◌≤◌, Bool, true, false, List, Option, None, Some, Result, Ok, Err, IfErr, IfOk, IsTrue}
+use Rattle.std.specs.Prelude.{◌≡◌, ◌⊎◌, ℕ, ◌+◌, ◌<◌, ◌≤◌, Bool, true, false, List, Option, None, Some, Result, Ok, Err}
+use Rattle.std.specs.Prelude.{IfErr, IfOk, IsTrue}
 use Rattle.qg_device.specs.History.{Event}
 use Rattle.qg_num.specs.declared.answer.Answer.{Answer}
 use Rattle.qg_num.specs.declared.command.Command.{Command}
@@ -51,21 +52,23 @@ pub record ComesToDisk (store : Stored) (command : Command) : Type 0 where
 abbrev pub sizes_stored : Stored → Sizes
 sizes_stored store = sizes_of store.kept.superblock
 
--- a store has not stopped, its disk, where that tells, is as the store left it, and its disk of so many bytes has all of its image
+-- a store has not stopped, its disk, where that tells, is as the store left it, and its disk of so many bytes has all
+-- of its image
 pub record IsReady (store : Stored) (history : Option (List Event)) (size : ℕ) : Type 0 where
   pub running : store.stopped ≡ None
   pub backed : IsStoreOver store history
   pub long : total_bytes (sizes_stored store) ≤ size
 
--- A store goes on over a disk of so many bytes, before and now: that, where it tells, is as the store left it, and is no shorter; and the sizes of
--- the store's image stay
+-- A store goes on over a disk of so many bytes, before and now: that, where it tells, is as the store left it, and is
+-- no shorter; and the sizes of the store's image stay
 pub record GoesOn (old new : Stored) (history : Option (List Event)) (before now : ℕ) : Type 0 where
   pub backed : IsStoreOver new history
   pub sizes : sizes_stored new ≡ sizes_stored old
   pub no_less : before ≤ now
 
 -- The last commit is the first of the two that a structural command makes: something was pending, and is committed, as
--- the next generation. A disk that tells what it held was given all calls of that commit, and of the second some or none
+-- the next generation. A disk that tells what it held was given all calls of that commit, and of the second some or
+-- none
 pub record HasMadeFirst (command : Command) (old new : Kept) (before after : Option (List Event)) : Type 0 where
   pub structural : IsTrue (is_structural command)
   pub some : 0 < old.pending
@@ -104,9 +107,9 @@ abbrev pub is_of_image : Stop → Bool
 is_of_image (Image rule address) = true
 is_of_image _ = false
 
--- A store of a state does a command as the machine does, over a disk that told this before: the answer is the machine's, and the disk was made to
--- hold what the machine commits; whatever is answered, nothing else was done than calls of a commit that the machine does; and no rule of the
--- image is found broken
+-- A store of a state does a command as the machine does, over a disk that told this before: the answer is the
+-- machine's, and the disk was made to hold what the machine commits; whatever is answered, nothing else was done than
+-- calls of a commit that the machine does; and no rule of the image is found broken
 pub record DoesCommand (state : State) (command : Command) (events : List Event) (after : Option (List Event))
     (result : Result Answer Stop) (kept : Kept) : Type 0 where
   pub step : IfOk result (λ answer. AnswersOn state command answer kept events after)

@@ -110,8 +110,8 @@ pub(crate) fn roots_of(
     Ok(roots)
 }
 
-/// Quota as a commit of the generation `next` stores it, by the direct counts of its groups, in their order: the stamp of
-/// a group whose counters change is that generation. None while it is off.
+/// Quota as a commit of the generation `next` stores it, by the direct counts of its groups, in their order: the stamp
+/// of a group whose counters change is that generation. None while it is off.
 pub(crate) fn quota_now(
     alloc: Global,
     quota: &Option<QuotaState>,
@@ -159,7 +159,8 @@ fn groups_now(
 ) -> Result<Sequence<(GroupId, Group)>, AllocError>
     requires ascending { IsStrictlyIncreasing (keys_of groups.now) }
     requires all { length counts.now ≡ length groups.now }
-    ensures { IfOk result (λ now. now ≡ map (group_after next (counters_by (keys_of groups.now) counts.now)) groups.now) }
+    ensures { IfOk result (λ now. now ≡ map (group_after next (counters_by (keys_of groups.now) counts.now))
+        groups.now) }
 {
     let mut now = Sequence::new(alloc);
     for (i, entry) in groups.iter().enumerate() {

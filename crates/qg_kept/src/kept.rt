@@ -11,8 +11,8 @@ use std::alloc::Global;
 /// The last commit's superblock, the subvolumes and the groups, the subvolumes' trees as they are now, and how much is
 /// pending (this project's own).
 ///
-/// The trees have with them what is free of the image and what the last commit holds, and the references with those that
-/// the last commit recorded. Of their nodes only fresh ones are in memory, and some clean ones.
+/// The trees have with them what is free of the image and what the last commit holds, and the references with those
+/// that the last commit recorded. Of their nodes only fresh ones are in memory, and some clean ones.
 #[derive(Drop)]
 pub struct Kept {
     pub alloc: Global,

@@ -1,5 +1,5 @@
-//! What an open image keeps: trees, space, references, quota and what is pending; the slots that commands need; and its commit,
-//! by one survey of all nodes that subvolumes reach.
+//! What an open image keeps: trees, space, references, quota and what is pending; the slots that commands need; and its
+//! commit, by one survey of all nodes that subvolumes reach.
 #![tactic(auto)]
 
 mod committing;

@@ -34,8 +34,8 @@ use qg_items::RootItem;
 use qg_num::{Address, BlockFault, Generation, RootId, Rule, Sequence, Steps};
 use std::sync::ledger::Ledger;
 
-/// The subvolumes' ROOT_ITEMs by number, and quota, none while it is off, as a commit is to store them; and free slots in
-/// which the root, extent and quota trees may lie: their addresses in bytes.
+/// The subvolumes' ROOT_ITEMs by number, and quota, none while it is off, as a commit is to store them; and free slots
+/// in which the root, extent and quota trees may lie: their addresses in bytes.
 #[derive(Drop)]
 pub(crate) struct Plan {
     pub(crate) roots: Sequence<(RootId, RootItem)>,
@@ -43,12 +43,12 @@ pub(crate) struct Plan {
     pub(crate) slots: Sequence<Address>,
 }
 
-/// What a commit tells of what is kept, and where it may lie. While quota is on all nodes that subvolumes reach are read
-/// once each, and nothing else is done.
+/// What a commit tells of what is kept, and where it may lie. While quota is on all nodes that subvolumes reach are
+/// read once each, and nothing else is done.
 ///
 /// `Image` comes only where the trees have the items of no files: as the survey says it; with the rule `Refs` where a
-/// root is not known, or something is of a generation past the one to come; and with the rule `Shape` and the address of
-/// the root at hand where too few slots are free.
+/// root is not known, or something is of a generation past the one to come; and with the rule `Shape` and the address
+/// of the root at hand where too few slots are free.
 pub(crate) fn plan_of<D: Disk, L: Ledger>(
     kept: &mut Kept,
     disk: &mut D,

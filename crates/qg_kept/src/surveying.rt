@@ -65,8 +65,8 @@ fn sort(trees: &mut Vec<Tree>)
 /// What is surveyed of all nodes that subvolumes reach, ascending by address. The trees are those of all subvolumes.
 ///
 /// `Image` comes only where the trees have the items of no files: with the rule `Refs` and the address of the root at
-/// hand where the references are of another generation to come, or what was surveyed doesn't ascend, or is more than the
-/// image has slots.
+/// hand where the references are of another generation to come, or what was surveyed doesn't ascend, or is more than
+/// the image has slots.
 pub(crate) fn survey_all<D: Disk, L: Ledger>(
     kept: &mut Kept,
     disk: &mut D,

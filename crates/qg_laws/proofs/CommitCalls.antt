@@ -4,4 +4,5 @@ use Rattle.qg_crashes.proofs.Slots.{writing_commits}
 use Rattle.qg_laws.specs.CommitCalls.{CallsCommit}
 
 pub calls_commit : CallsCommit
-calls_commit before nodes super after calls = writing_commits before nodes super after (calls_write before nodes super after calls)
+calls_commit before nodes super after calls =
+    writing_commits before nodes super after (calls_write before nodes super after calls)

@@ -18,16 +18,21 @@ use Rattle.qg_crashes.proofs.Slots.{slots_are_settled}
 use Rattle.qg_laws.specs.CommitCalls.{NewNodesStand}
 
 -- nodes in slots may be written
-writable_in_slot : (super : Super) (node : Node) → is_super super ≡ true → IsInSlot super node → IsWritable super.nodesize node
+writable_in_slot : (super : Super) (node : Node) → is_super super ≡ true → IsInSlot super node
+    → IsWritable super.nodesize node
 writable_in_slot super node fits is =
     let served = SizesFit-is_served (sizes_of super) (SuperFits-is_super super fits).served in
     let between = is_slot-IsBetween (sizes_of super) (header_of node).address served is.slot in
     record { node_of_format = is.node_of_format; ends = omega (arith, between.end) }
 
-writable_in_slots : (super : Super) (nodes : List Node) → is_super super ≡ true → All (IsInSlot super) nodes → AllByRecursion (IsWritable super.nodesize) nodes
+writable_in_slots : (super : Super) (nodes : List Node) → is_super super ≡ true → All (IsInSlot super) nodes
+    → AllByRecursion (IsWritable super.nodesize) nodes
 writable_in_slots super [] fits all = tt
-writable_in_slots super (node ∷ nodes) fits all =
-    (writable_in_slot super node fits (all 0 node (omega arith)), writable_in_slots super nodes fits (λ k any below. all (suc k) any (omega arith)))
+writable_in_slots super (node ∷ nodes) fits all = (
+  writable_in_slot super node fits (all 0 node (omega arith)),
+  writable_in_slots super nodes fits
+      (λ k any below. all (suc k) any (omega arith)),
+)
 
 pub new_nodes_stand : NewNodesStand
 new_nodes_stand before nodes super after image moment calls leaves past distinct read =
@@ -39,6 +44,7 @@ new_nodes_stand before nodes super after image moment calls leaves past distinct
     let has = with_commit-HasCommit super nodes (Synced ∷ before) calls.may_be_written calls.long committable read in
     λ k any below.
     let address = (header_of (get_or nodes k any)).address in
-    slots_are_settled before nodes super super after image moment address (calls_write before nodes super after calls) leaves refl past
+    slots_are_settled before nodes super super after image moment address (calls_write before nodes super after calls)
+    leaves refl past
     ∙ ap (λ (events : List Event). node_found super (content events) address) (sym (calls_are_whole before nodes super))
     ∙ has.found k any below

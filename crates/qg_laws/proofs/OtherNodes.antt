@@ -5,4 +5,5 @@ use Rattle.qg_laws.specs.CommitCalls.{OtherNodesStay}
 
 pub other_nodes_stay : OtherNodesStay
 other_nodes_stay before nodes super reader after image moment address calls leaves sizes others =
-    other_slots_stay before nodes super reader after image moment address (calls_write before nodes super after calls) leaves sizes others
+    other_slots_stay before nodes super reader after image moment address (calls_write before nodes super after calls)
+    leaves sizes others

@@ -1,5 +1,5 @@
-//! Laws over definitions: that the device calls of a commit, and those of opening, are the writes and syncs of which the
-//! laws on crashes speak. It has no code, and nothing stands on it.
+//! Laws over definitions: that the device calls of a commit, and those of opening, are the writes and syncs of which
+//! the laws on crashes speak. It has no code, and nothing stands on it.
 #![tactic(auto)]
 
 mod superblocks;

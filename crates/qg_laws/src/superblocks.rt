@@ -23,8 +23,8 @@ pub fn other_nodes_stay()
     ensures { OtherNodesStay }
 {}
 
-/// A law: nodes that a commit wrote into slots of their own, and made sure of, are found there in any image that a crash
-/// at a later moment of the commit may leave (this project's own).
+/// A law: nodes that a commit wrote into slots of their own, and made sure of, are found there in any image that a
+/// crash at a later moment of the commit may leave (this project's own).
 pub fn new_nodes_stand()
     ensures { NewNodesStand }
 {}

@@ -1,5 +1,5 @@
--- The limits that are set for quota groups (btrfs-qgroup(8), "limits"), and the bytes that reservations hold in them (how much is
--- reserved is this project's own). All in bytes.
+-- The limits that are set for quota groups (btrfs-qgroup(8), "limits"), and the bytes that reservations hold in them
+-- (how much is reserved is this project's own). All in bytes.
 use Rattle.std.specs.Prelude.{◌≡◌, ℕ, ◌+◌, ◌*◌, List, [], map, Option, None, unwrap_or, ◌==◌, if◌then◌else◌}
 use Rattle.std.specs.List.{count_by}
 use Rattle.qg_num.specs.declared.counters.Counters.{Counters}
@@ -79,7 +79,15 @@ HoldsMore old new path n = (group : ℕ) → held_of new group ≡ bytes_after o
 
 -- a group as it is limited, with these counters; what commit last changed them plays no part
 abbrev pub limited_group : Limited → ℕ × Counters → ℕ × Group
-limited_group limited entry = (entry.0, record { counters = entry.1; max_rfer = (maxima_of limited entry.0).rfer; max_excl = (maxima_of limited entry.0).excl; stamp = 0 })
+limited_group limited entry = (
+  entry.0,
+  record {
+    counters = entry.1;
+    max_rfer = (maxima_of limited entry.0).rfer;
+    max_excl = (maxima_of limited entry.0).excl;
+    stamp = 0;
+  },
+)
 
 -- the first group of a path, with counters, that is over its limit if so many bytes more were reserved into each
 abbrev pub first_over_of : Limited → List (ℕ × Counters) → ℕ → Option (ℕ × Which)

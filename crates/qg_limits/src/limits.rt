@@ -3,7 +3,9 @@ ghost use Rattle.std.specs.Prelude.{◌≡◌, ℕ, ◌^◌, ◌<◌, IsTrue, On
 ghost use Rattle.std.specs.List.{All};
 ghost use Rattle.qg_image.specs.Table.{has_key};
 ghost use Rattle.qg_image.specs.Limits.{limit_passed, passes_limit};
-ghost use Rattle.qg_limits.specs.Limit.{bytes_after, bytes_at, first_over_of, held_of, limited_group, max_in, maxima_at, maxima_of, nothing_limited, with_max, HasMax, HoldsMore, IsSetAt, SameHeld, SameMaxima};
+ghost use Rattle.qg_limits.specs.Limit.{bytes_after, bytes_at, first_over_of, held_of, limited_group, max_in};
+ghost use Rattle.qg_limits.specs.Limit.{maxima_at, maxima_of, nothing_limited, with_max, HasMax, HoldsMore, IsSetAt};
+ghost use Rattle.qg_limits.specs.Limit.{SameHeld, SameMaxima};
 
 use qg_num::{Counters, GroupId, NoMemory, Which};
 use std::alloc::Global;

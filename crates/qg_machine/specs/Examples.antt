@@ -3,7 +3,8 @@ use Rattle.std.specs.Prelude.{◌≡◌, ◌+◌, ◌*◌, ◌^◌, [], ◌∷�
 use Rattle.qg_num.specs.Fields.{u64_bytes}
 use Rattle.qg_num.specs.Key.{key_bytes}
 use Rattle.qg_num.specs.declared.piece.Piece.{Piece}
-use Rattle.qg_num.specs.declared.command.Command.TheVariants.{Write, Commit, SubCreate, Snap, Delete, QuotaOn, Show, Assign}
+use Rattle.qg_num.specs.declared.command.Command.TheVariants.{Write, Commit, SubCreate, Snap, Delete, QuotaOn, Show}
+use Rattle.qg_num.specs.declared.command.Command.TheVariants.{Assign}
 use Rattle.qg_num.specs.declared.answer.Answer.TheVariants as answer
 use Rattle.qg_num.specs.declared.refusal.Refusal.TheVariants as why
 use Rattle.qg_super.specs.Places.{is_slot, is_run}
@@ -47,36 +48,47 @@ unfolding before after
 range_is_taken = refl
 
 -- a smaller size cuts a piece, and its extent stays whole
-piece_is_cut : with_size 3 4096 (file 8192 (piece 0 8192 0 ∷ [])) ≡ record { size = 4096; generation = 2; transid = 3; pieces = piece 0 4096 0 ∷ [] }
+piece_is_cut : with_size 3 4096 (file 8192 (piece 0 8192 0 ∷ [])) ≡ record {
+  size = 4096;
+  generation = 2;
+  transid = 3;
+  pieces = piece 0 4096 0 ∷ [];
+}
 unfolding before
 piece_is_cut = refl
 
 -- ---- refusals, in a fresh image of 64 slots
 
 no_such_subvolume : refusal fresh (Write 256 257 0 4096) ≡ Some why.NoSub
-unfolding refusal first_run least is_free_run is_run present_extents over file_change free_slots is_free_slot is_slot weight present_records first_over bytes_reserved members is_below leads
+unfolding refusal first_run least is_free_run is_run present_extents over file_change free_slots is_free_slot is_slot
+    weight present_records first_over bytes_reserved members is_below leads
 no_such_subvolume = refl
 
 length_of_zero : refusal fresh (Write 5 257 0 0) ≡ Some why.Align
-unfolding refusal first_run least is_free_run is_run present_extents over file_change free_slots is_free_slot is_slot weight present_records first_over bytes_reserved members is_below leads
+unfolding refusal first_run least is_free_run is_run present_extents over file_change free_slots is_free_slot is_slot
+    weight present_records first_over bytes_reserved members is_below leads
 length_of_zero = refl
 
 end_past_the_largest_size : refusal fresh (Write 5 257 (2 ^ 40) 4096) ≡ Some why.Far
-unfolding refusal first_run least is_free_run is_run present_extents over file_change free_slots is_free_slot is_slot weight present_records first_over bytes_reserved members is_below leads
+unfolding refusal first_run least is_free_run is_run present_extents over file_change free_slots is_free_slot is_slot
+    weight present_records first_over bytes_reserved members is_below leads
 end_past_the_largest_size = refl
 
 longer_than_the_longest_extent : refusal fresh (Write 5 257 0 134221824) ≡ Some why.Far
-unfolding refusal first_run least is_free_run is_run present_extents over file_change free_slots is_free_slot is_slot weight present_records first_over bytes_reserved members is_below leads
+unfolding refusal first_run least is_free_run is_run present_extents over file_change free_slots is_free_slot is_slot
+    weight present_records first_over bytes_reserved members is_below leads
 longer_than_the_longest_extent = refl
 
 -- one sector more than there are
 no_such_run : refusal fresh (Write 5 257 0 (1025 * 4096)) ≡ Some why.NoRun
-unfolding refusal first_run least is_free_run is_run present_extents over file_change free_slots is_free_slot is_slot weight present_records first_over bytes_reserved members is_below leads
+unfolding refusal first_run least is_free_run is_run present_extents over file_change free_slots is_free_slot is_slot
+    weight present_records first_over bytes_reserved members is_below leads
 no_such_run = refl
 
 -- 60 slots are free, and a write needs 228
 too_few_slots_for_a_write : refusal fresh (Write 5 257 0 4096) ≡ Some (why.NoNodes 60 228)
-unfolding refusal first_run least is_free_run is_run present_extents over file_change free_slots is_free_slot is_slot first_over bytes_reserved members is_below leads before after
+unfolding refusal first_run least is_free_run is_run present_extents over file_change free_slots is_free_slot is_slot
+    first_over bytes_reserved members is_below leads before after
 too_few_slots_for_a_write = rw fresh-weight refl
 
 -- the same of 256 slots
@@ -88,7 +100,8 @@ unfolding weight present_records
 roomy-weight = fresh-weight
 
 write_is_accepted : refusal roomy (Write 5 257 0 4096) ≡ None
-unfolding refusal first_run least is_free_run is_run present_extents over file_change free_slots is_free_slot is_slot first_over bytes_reserved members is_below leads before after
+unfolding refusal first_run least is_free_run is_run present_extents over file_change free_slots is_free_slot is_slot
+    first_over bytes_reserved members is_below leads before after
 write_is_accepted = rw roomy-weight refl
 
 -- 60 slots are free, and a structural command needs 276
@@ -133,7 +146,13 @@ unfolding refusal
 nothing_to_commit = (refl, (refl, refl))
 
 -- the stored counters are shown
-fresh_is_shown : Step fresh Show (answer.Shown (record { group = 5; counters = record { rfer = 16384; excl = 16384 }; max_rfer = None; max_excl = None } ∷ [])) [] fresh
+fresh_is_shown : Step fresh Show
+    (answer.Shown (record {
+      group = 5;
+      counters = record { rfer = 16384; excl = 16384 };
+      max_rfer = None;
+      max_excl = None;
+    } ∷ [])) [] fresh
 unfolding refusal
 fresh_is_shown = (refl, (refl, refl))
 
@@ -145,6 +164,7 @@ relations_ascend = refl
 -- ---- keys
 
 -- the 17 bytes of the key of a piece: its inode, EXTENT_DATA, its position
-key_has_its_bytes : key_bytes (record { objectid = 257; kind = 108; offset = 4096 }) ≡ 1 ∷ 1 ∷ 0 ∷ 0 ∷ 0 ∷ 0 ∷ 0 ∷ 0 ∷ 108 ∷ 0 ∷ 16 ∷ 0 ∷ 0 ∷ 0 ∷ 0 ∷ 0 ∷ 0 ∷ []
+key_has_its_bytes : key_bytes (record { objectid = 257; kind = 108; offset = 4096 }) ≡ 1 ∷ 1 ∷ 0 ∷ 0 ∷ 0 ∷ 0 ∷ 0 ∷ 0
+    ∷ 108 ∷ 0 ∷ 16 ∷ 0 ∷ 0 ∷ 0 ∷ 0 ∷ 0 ∷ 0 ∷ []
 unfolding u64_bytes
 key_has_its_bytes = refl

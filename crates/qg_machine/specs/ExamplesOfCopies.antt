@@ -12,7 +12,8 @@ use Rattle.qg_image.specs.State.{State, Subvolume, layout_of}
 use Rattle.qg_image.specs.Reach.{pieces_of, reach_of_root, reach, owners}
 use Rattle.qg_image.specs.Space.{is_free_slot}
 use Rattle.qg_image.specs.ExamplesOfState.{state_of}
-use Rattle.qg_image.specs.ExamplesOfReferences.{leaf_of, inner_of, pointer, first_file, second_file, rewritten_file, written_source, deleted_source}
+use Rattle.qg_image.specs.ExamplesOfReferences.{leaf_of, inner_of, pointer, first_file, second_file, rewritten_file}
+use Rattle.qg_image.specs.ExamplesOfReferences.{written_source, deleted_source}
 use Rattle.qg_machine.specs.Layout.{is_fixed, is_full_after, StaysAs, is_made_node, made_nodes}
 
 -- ---- a snapshot, and then a write into its source
@@ -23,7 +24,8 @@ subvolume root files = record { files = files; root = root; last_snapshot = 3 }
 -- generation 3 has committed the snapshot 256 of subvolume 5: two roots, 1081344 and 1097728, above the same two leaves
 abbrev pub before : State
 before = record (state_of
-    ((5, subvolume 1081344 (first_file ∷ second_file ∷ [])) ∷ (256, subvolume 1097728 (first_file ∷ second_file ∷ [])) ∷ [])
+    ((5, subvolume 1081344 (first_file ∷ second_file ∷ [])) ∷ (256, subvolume 1097728 (first_file ∷ second_file ∷ []))
+    ∷ [])
     (leaf_of 1048576 2 5 false (first_file ∷ [])
     ∷ leaf_of 1064960 2 5 false (second_file ∷ [])
     ∷ inner_of 1081344 2 5 false (pointer 257 1048576 2 ∷ pointer 258 1064960 2 ∷ [])
@@ -37,7 +39,8 @@ before = record (state_of
 -- subvolume 5 has written into its first file: the root and the first leaf are copied to 1114112 and 1130496
 abbrev pub after : State
 after = record before {
-  subvolumes = (5, subvolume 1114112 (rewritten_file ∷ second_file ∷ [])) ∷ (256, subvolume 1097728 (first_file ∷ second_file ∷ [])) ∷ [];
+  subvolumes = (5, subvolume 1114112 (rewritten_file ∷ second_file ∷ []))
+      ∷ (256, subvolume 1097728 (first_file ∷ second_file ∷ [])) ∷ [];
   layout = written_source.nodes;
 }
 
@@ -51,7 +54,8 @@ copies_are_made : list_all (is_made_node before 5) (made_nodes before after) ≡
 unfolding is_free_slot is_slot
 copies_are_made = refl
 
--- a node that the write made is the subvolume's that was written into, of the generation to come, not full, and in a slot that was free
+-- a node that the write made is the subvolume's that was written into, of the generation to come, not full, and in a
+-- slot that was free
 made_for_another : is_made_node before 5 (leaf_of 1130496 4 256 false []) ≡ false
 unfolding is_free_slot is_slot
 made_for_another = refl
@@ -75,34 +79,43 @@ made_where_a_node_lay = refl
 
 -- the old leaf is 5's, and 5 no longer reaches it
 old_leaf_becomes_full : is_full_after after (leaf_of 1048576 2 5 false (first_file ∷ [])).1 1048576 ≡ true
-unfolding reach reach_of_root pieces_of file_part inode_read extent_data_read inode_text extent_data_text u64_bytes u16_bytes u64_at
+unfolding reach reach_of_root pieces_of file_part inode_read extent_data_read inode_text extent_data_text u64_bytes
+    u16_bytes u64_at
 old_leaf_becomes_full = refl
 
 shared_leaf_does_not : is_full_after after (leaf_of 1064960 2 5 false (second_file ∷ [])).1 1064960 ≡ false
-unfolding reach reach_of_root pieces_of file_part inode_read extent_data_read inode_text extent_data_text u64_bytes u16_bytes u64_at
+unfolding reach reach_of_root pieces_of file_part inode_read extent_data_read inode_text extent_data_text u64_bytes
+    u16_bytes u64_at
 shared_leaf_does_not = refl
 
 -- a full node stays full, though its owner reaches it
 full_leaf_stays_full : is_full_after after (leaf_of 1064960 2 5 true (second_file ∷ [])).1 1064960 ≡ true
-unfolding reach reach_of_root pieces_of file_part inode_read extent_data_read inode_text extent_data_text u64_bytes u16_bytes u64_at
+unfolding reach reach_of_root pieces_of file_part inode_read extent_data_read inode_text extent_data_text u64_bytes
+    u16_bytes u64_at
 full_leaf_stays_full = refl
 
 -- so the old leaf may stay, with the mark
-old_leaf_stays : StaysAs before after 5 (leaf_of 1048576 2 5 false (first_file ∷ [])) (leaf_of 1048576 2 5 true (first_file ∷ [])).1
-unfolding reach reach_of_root pieces_of file_part inode_read extent_data_read inode_text extent_data_text u64_bytes u16_bytes u64_at
+old_leaf_stays : StaysAs before after 5 (leaf_of 1048576 2 5 false (first_file ∷ []))
+    (leaf_of 1048576 2 5 true (first_file ∷ [])).1
+unfolding reach reach_of_root pieces_of file_part inode_read extent_data_read inode_text extent_data_text u64_bytes
+    u16_bytes u64_at
 old_leaf_stays = record { full = refl; maker = refl; fixed = λ fixed. refl }
 
 -- a node that another subvolume reaches is fixed, and so is one that the last commit holds; a copy is not
-shared_leaf_is_fixed : is_fixed (record before { held = record { nodes = []; others = []; extents = [] } }) 5 1064960 ≡ true
-unfolding owners reach reach_of_root pieces_of file_part inode_read extent_data_read inode_text extent_data_text u64_bytes u16_bytes u64_at
+shared_leaf_is_fixed : is_fixed (record before { held = record { nodes = []; others = []; extents = [] } }) 5 1064960
+    ≡ true
+unfolding owners reach reach_of_root pieces_of file_part inode_read extent_data_read inode_text extent_data_text
+    u64_bytes u16_bytes u64_at
 shared_leaf_is_fixed = refl
 
 committed_root_is_fixed : is_fixed before 5 1081344 ≡ true
-unfolding owners reach reach_of_root pieces_of file_part inode_read extent_data_read inode_text extent_data_text u64_bytes u16_bytes u64_at
+unfolding owners reach reach_of_root pieces_of file_part inode_read extent_data_read inode_text extent_data_text
+    u64_bytes u16_bytes u64_at
 committed_root_is_fixed = refl
 
 copy_is_not_fixed : is_fixed after 5 1130496 ≡ false
-unfolding owners reach reach_of_root pieces_of file_part inode_read extent_data_read inode_text extent_data_text u64_bytes u16_bytes u64_at
+unfolding owners reach reach_of_root pieces_of file_part inode_read extent_data_read inode_text extent_data_text
+    u64_bytes u16_bytes u64_at
 copy_is_not_fixed = refl
 
 -- ---- a source that is deleted while its snapshot lives: its leaf becomes full
@@ -117,10 +130,13 @@ deleted-layout : layout_of deleted ≡ deleted_source
 deleted-layout = refl
 
 leaf_of_deleted_becomes_full : is_full_after deleted (leaf_of 1064960 2 256 false (first_file ∷ [])).1 1064960 ≡ true
-unfolding reach reach_of_root pieces_of file_part inode_read extent_data_read inode_text extent_data_text u64_bytes u16_bytes u64_at
+unfolding reach reach_of_root pieces_of file_part inode_read extent_data_read inode_text extent_data_text u64_bytes
+    u16_bytes u64_at
 leaf_of_deleted_becomes_full = refl
 
 -- the snapshot's own root does not
-root_of_snapshot_does_not : is_full_after deleted (inner_of 1114112 3 257 false (pointer 257 1064960 2 ∷ pointer 258 1081344 2 ∷ [])).1 1114112 ≡ false
-unfolding reach reach_of_root pieces_of file_part inode_read extent_data_read inode_text extent_data_text u64_bytes u16_bytes u64_at
+root_of_snapshot_does_not : is_full_after deleted
+    (inner_of 1114112 3 257 false (pointer 257 1064960 2 ∷ pointer 258 1081344 2 ∷ [])).1 1114112 ≡ false
+unfolding reach reach_of_root pieces_of file_part inode_read extent_data_read inode_text extent_data_text u64_bytes
+    u16_bytes u64_at
 root_of_snapshot_does_not = refl

@@ -1,5 +1,5 @@
--- What each file command does to a subvolume's files (this project's own, after write(2), FICLONERANGE, truncate(2) and unlink(2)).
--- Positions, lengths and sizes are in bytes.
+-- What each file command does to a subvolume's files (this project's own, after write(2), FICLONERANGE, truncate(2) and
+-- unlink(2)). Positions, lengths and sizes are in bytes.
 use Rattle.std.specs.Prelude.{ℕ, ◌+◌, ◌-◌, min, max, ◌&&◌, List, [], ◌∷◌, ◌++◌, map, length, Option, Some, None, nat_lt}
 use Rattle.std.specs.Bool.{then_some}
 use Rattle.std.specs.List.{filter_map, count_by}
@@ -71,7 +71,14 @@ with_pieces generation from to given file = record file {
 
 -- one piece for the whole of a new extent
 abbrev pub new_piece : ℕ → ℕ → ℕ → ℕ → Piece
-new_piece generation position len extent = record { position = position; len = len; extent = extent; offset = 0; stamp = generation; extent_bytes = len }
+new_piece generation position len extent = record {
+  position = position;
+  len = len;
+  extent = extent;
+  offset = 0;
+  stamp = generation;
+  extent_bytes = len;
+}
 
 -- a piece of one range, at its place in another
 abbrev pub moved : ℕ → ℕ → Piece → Piece
@@ -83,7 +90,8 @@ with_size generation size file = record file { size = size; transid = generation
 
 -- ---- commands
 
--- what a file command does: the subvolume that it edits, its files afterwards, the bytes that it reserves, and how many pieces it touches
+-- what a file command does: the subvolume that it edits, its files afterwards, the bytes that it reserves, and how many
+-- pieces it touches
 pub record FileChange : Type 0 where
   pub sub : ℕ
   pub files : List (ℕ × File)
@@ -94,7 +102,9 @@ pub record FileChange : Type 0 where
 abbrev pub write_change : State → ℕ → ℕ → ℕ → ℕ → ℕ → FileChange
 write_change state sub ino off len extent = record {
   sub = sub;
-  files = with_value ino (with_pieces (next_generation state) off (off + len) (new_piece (next_generation state) off len extent ∷ []) (file_or_new (next_generation state) (file_at state sub ino))) (files_in_sub state sub);
+  files = with_value ino (with_pieces (next_generation state) off (off + len)
+      (new_piece (next_generation state) off len extent ∷ [])
+      (file_or_new (next_generation state) (file_at state sub ino))) (files_in_sub state sub);
   amount = len + state.sizes.nodesize;
   pieces = pieces_meeting off (off + len) (pieces_or_none (file_at state sub ino));
 }
@@ -103,9 +113,12 @@ write_change state sub ino off len extent = record {
 abbrev pub clone_change : State → ℕ → ℕ → ℕ → ℕ → ℕ → ℕ → ℕ → FileChange
 clone_change state sub ino off len to_sub to_ino to_off = record {
   sub = to_sub;
-  files = with_value to_ino (with_pieces (next_generation state) to_off (to_off + len) (map (moved off to_off) (within off (off + len) (pieces_or_none (file_at state sub ino)))) (file_or_new (next_generation state) (file_at state to_sub to_ino))) (files_in_sub state to_sub);
+  files = with_value to_ino (with_pieces (next_generation state) to_off (to_off + len)
+      (map (moved off to_off) (within off (off + len) (pieces_or_none (file_at state sub ino))))
+      (file_or_new (next_generation state) (file_at state to_sub to_ino))) (files_in_sub state to_sub);
   amount = state.sizes.nodesize;
-  pieces = pieces_meeting to_off (to_off + len) (pieces_or_none (file_at state to_sub to_ino)) + pieces_meeting off (off + len) (pieces_or_none (file_at state sub ino));
+  pieces = pieces_meeting to_off (to_off + len) (pieces_or_none (file_at state to_sub to_ino)) + pieces_meeting off
+      (off + len) (pieces_or_none (file_at state sub ino));
 }
 
 abbrev pub truncate_change : State → ℕ → ℕ → ℕ → File → FileChange
@@ -117,13 +130,20 @@ truncate_change state sub ino size file = record {
 }
 
 abbrev pub unlink_change : State → ℕ → ℕ → File → FileChange
-unlink_change state sub ino file = record { sub = sub; files = without_key ino (files_in_sub state sub); amount = 0; pieces = length file.pieces }
+unlink_change state sub ino file = record {
+  sub = sub;
+  files = without_key ino (files_in_sub state sub);
+  amount = 0;
+  pieces = length file.pieces;
+}
 
--- what a file command does; none where it is no file command, a write finds no run, or a truncate or an unlink finds no file. What a clone or
--- a write of a file that is not there would do is told too: whether it is done is the refusals' to say
+-- what a file command does; none where it is no file command, a write finds no run, or a truncate or an unlink finds no
+-- file. What a clone or a write of a file that is not there would do is told too: whether it is done is the refusals'
+-- to say
 unfoldable pub file_change : State → Command → Option FileChange
 file_change state (Write sub ino off len) = option_map (write_change state sub ino off len) (first_run state len)
-file_change state (Clone sub ino off len to_sub to_ino to_off) = Some (clone_change state sub ino off len to_sub to_ino to_off)
+file_change state (Clone sub ino off len to_sub to_ino to_off) =
+    Some (clone_change state sub ino off len to_sub to_ino to_off)
 file_change state (Truncate sub ino size) = option_map (truncate_change state sub ino size) (file_at state sub ino)
 file_change state (Unlink sub ino) = option_map (unlink_change state sub ino) (file_at state sub ino)
 file_change state _ = None

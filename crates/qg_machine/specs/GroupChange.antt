@@ -1,5 +1,6 @@
 -- What commands do to quota groups, and how a commit counts them (btrfs-qgroup(8), fs/btrfs/qgroup.c).
-use Rattle.std.specs.Prelude.{ℕ, Bool, ◌&&◌, ◌||◌, not, List, [], ◌∷◌, map, Option, Some, None, ◌==◌, nat_lt, if◌then◌else◌}
+use Rattle.std.specs.Prelude.{ℕ, Bool, ◌&&◌, ◌||◌, not, List, [], ◌∷◌, map, Option, Some, None, ◌==◌, nat_lt}
+use Rattle.std.specs.Prelude.{if◌then◌else◌}
 use Rattle.std.specs.List.{filter, fold, list_any}
 use Rattle.qg_num.specs.declared.counters.Counters.{Counters}
 use Rattle.qg_num.specs.declared.counters.Which.{Which}
@@ -13,7 +14,12 @@ use Rattle.qg_image.specs.Counts.{direct_count}
 
 -- a group that is made in this generation: nothing counted, no limit
 abbrev pub new_group : ℕ → Group
-new_group generation = record { counters = record { rfer = 0; excl = 0 }; max_rfer = None; max_excl = None; stamp = generation }
+new_group generation = record {
+  counters = record { rfer = 0; excl = 0 };
+  max_rfer = None;
+  max_excl = None;
+  stamp = generation;
+}
 
 -- ---- relations
 
@@ -39,11 +45,15 @@ abbrev pub assigned : ℕ → ℕ → Quota → Quota
 assigned member parent quota = record quota { pairs = with_pair (member, parent) quota.pairs }
 
 abbrev pub unassigned : ℕ → ℕ → Quota → Quota
-unassigned member parent quota = record quota { pairs = filter (λ pair. not (same_pair pair (member, parent))) quota.pairs }
+unassigned member parent quota =
+    record quota { pairs = filter (λ pair. not (same_pair pair (member, parent))) quota.pairs }
 
 -- the group goes, and with it its relations to its parents
 abbrev pub destroyed : ℕ → Quota → Quota
-destroyed group quota = record { groups = without_key group quota.groups; pairs = filter (λ pair. not (pair.0 == group)) quota.pairs }
+destroyed group quota = record {
+  groups = without_key group quota.groups;
+  pairs = filter (λ pair. not (pair.0 == group)) quota.pairs;
+}
 
 abbrev pub with_limit : Which → Option ℕ → Group → Group
 with_limit Rfer max group = record group { max_rfer = max }
@@ -58,12 +68,16 @@ limited number which max quota = changed (value_at number quota.groups) where
 -- a snapshot's group gets the limits of the source's group
 abbrev pub limits_of : ℕ → Option Group → Group
 limits_of generation None = new_group generation
-limits_of generation (Some source) = record (new_group generation) { max_rfer = source.max_rfer; max_excl = source.max_excl }
+limits_of generation (Some source) = record (new_group generation) {
+  max_rfer = source.max_rfer;
+  max_excl = source.max_excl;
+}
 
 -- and a relation to each group of a list; it gets no other relation, and none without a list (this project's own)
 abbrev pub inherited : ℕ → ℕ → ℕ → List ℕ → Quota → Quota
 inherited generation source copy parents quota =
-    fold (λ made parent. assigned copy parent made) (with_group copy (limits_of generation (value_at source quota.groups)) quota) parents
+    fold (λ made parent. assigned copy parent made)
+    (with_group copy (limits_of generation (value_at source quota.groups)) quota) parents
 
 -- quota as it is turned on: a group for each subvolume
 abbrev pub quota_for : ℕ → List ℕ → Quota
@@ -82,4 +96,5 @@ recounted_group layout hierarchy generation entry =
 
 -- each group with its direct count
 unfoldable pub recounted : Layout → ℕ → Quota → Quota
-recounted layout generation quota = record quota { groups = map (recounted_group layout (hierarchy_of quota) generation) quota.groups }
+recounted layout generation quota =
+    record quota { groups = map (recounted_group layout (hierarchy_of quota) generation) quota.groups }

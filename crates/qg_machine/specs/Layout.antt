@@ -1,4 +1,5 @@
--- Which layouts of nodes the machine may come to: slots and the cut of trees are its only free choices (this project's own).
+-- Which layouts of nodes the machine may come to: slots and the cut of trees are its only free choices (this project's
+-- own).
 use Rattle.std.specs.Prelude.{◌≡◌, ℕ, ◌≤◌, Bool, ◌&&◌, ◌||◌, not, List, length, map, Some, None, Result, ◌==◌, IsTrue}
 use Rattle.std.specs.List.{list_all, list_any, filter, AllByRecursion}
 use Rattle.std.specs.List.Sorted.{IsStrictlyIncreasing}
@@ -38,24 +39,28 @@ super_to_come state = record {
   format = 1;
 }
 
--- the tree under a subvolume's root breaks no rule of the walk over an image that the next commit would write (levels, owners,
--- generations, key ranges, shape, items), and holds the items of its files
+-- the tree under a subvolume's root breaks no rule of the walk over an image that the next commit would write (levels,
+-- owners, generations, key ranges, shape, items), and holds the items of its files
 pub record IsTreeOf (state : State) (subvolume : Subvolume) : Type 0 where
   pub items : List Item
-  pub walked : walk_failure (node_failure Files (super_to_come state)) (found_in state.layout) deepest (root_expected None None) subvolume.root ≡ None
+  pub walked : walk_failure (node_failure Files (super_to_come state)) (found_in state.layout) deepest
+      (root_expected None None) subvolume.root ≡ None
   pub under :
-      items_under Files (super_to_come state) (found_in state.layout) (level_of (node_at state.layout subvolume.root)) (root_expected None None) subvolume.root
+      items_under Files (super_to_come state) (found_in state.layout) (level_of (node_at state.layout subvolume.root))
+      (root_expected None None) subvolume.root
       ≡ Some items
   pub files : files_of (next_generation state) items ≡ Some subvolume.files
 
--- a node of the layout is one of the format, its numbers fit their fields, it stands under its address, and some subvolume reaches it
+-- a node of the layout is one of the format, its numbers fit their fields, it stands under its address, and some
+-- subvolume reaches it
 pub record IsReached (state : State) (entry : ℕ × Placed) : Type 0 where
   pub node_of_format : IsNode state.sizes.nodesize entry.1.node
   pub fits : NodeFits entry.1.node
   pub placed : (header_of entry.1.node).address ≡ entry.0
   pub reached : IsTrue (is_reached (layout_of state) entry.0)
 
--- the layout is that of the files: it is a table (addresses ascend, each once), each subvolume has its tree, and there are no other nodes
+-- the layout is that of the files: it is a table (addresses ascend, each once), each subvolume has its tree, and there
+-- are no other nodes
 pub record IsWhole (state : State) : Type 0 where
   pub ascending : IsStrictlyIncreasing (keys_of state.layout)
   pub trees : AllByRecursion (λ entry. IsTreeOf state entry.1) state.subvolumes
@@ -66,7 +71,8 @@ pub record IsWhole (state : State) : Type 0 where
 -- a node is another subvolume's too, or the last commit holds it
 abbrev pub is_fixed : State → ℕ → ℕ → Bool
 is_fixed state sub address =
-    list_any (λ other. not (other == sub)) (owners (layout_of state) address) || list_any (λ node. node == address) state.held.nodes
+    list_any (λ other. not (other == sub)) (owners (layout_of state) address)
+    || list_any (λ node. node == address) state.held.nodes
 
 -- a node that stays is full exactly where it was or where its owner no longer reaches it
 abbrev pub is_full_after : State → Placed → ℕ → Bool
@@ -74,7 +80,8 @@ is_full_after new placed address = placed.full || not (reaches (layout_of new) (
 
 -- a node that is edited where it lies has the owner and the generation that it had
 abbrev pub has_same_maker : Node → Node → Bool
-has_same_maker node other = ((header_of node).owner == (header_of other).owner) && ((header_of node).generation == (header_of other).generation)
+has_same_maker node other = ((header_of node).owner == (header_of other).owner)
+    && ((header_of node).generation == (header_of other).generation)
 
 -- a node that stays is full where it must be and has its maker; where it is fixed it stays as it is
 pub record StaysAs (old new : State) (sub : ℕ) (entry : ℕ × Placed) (placed : Placed) : Type 0 where
@@ -84,12 +91,14 @@ pub record StaysAs (old new : State) (sub : ℕ) (entry : ℕ × Placed) (placed
 
 -- a node of the layout stays as it may; any node goes where nobody reaches it
 abbrev pub KeepsNode : State → State → ℕ → ℕ × Placed → Type 0
-KeepsNode old new sub entry = (placed : Placed) → value_at entry.0 new.layout ≡ Some placed → StaysAs old new sub entry placed
+KeepsNode old new sub entry = (placed : Placed) → value_at entry.0 new.layout ≡ Some placed
+    → StaysAs old new sub entry placed
 
 -- a node that was not there lies in a free slot, is the subvolume's, of the generation to come, and not full
 abbrev pub is_made_node : State → ℕ → ℕ × Placed → Bool
 is_made_node old owner entry =
-    is_free_slot old entry.0 && ((header_of entry.1.node).owner == owner) && ((header_of entry.1.node).generation == next_generation old) && not entry.1.full
+    is_free_slot old entry.0 && ((header_of entry.1.node).owner == owner)
+    && ((header_of entry.1.node).generation == next_generation old) && not entry.1.full
 
 abbrev pub made_nodes : State → State → List (ℕ × Placed)
 made_nodes old new = filter (λ entry. not (has_key entry.0 old.layout)) new.layout
@@ -103,9 +112,10 @@ pub record CopiesOnWrite (old new : State) (sub copies : ℕ) : Type 0 where
 
 -- ---- the other trees
 
--- a node of the root, extent or quota tree lies in a slot that the layout leaves: a free one, or once these trees are edited by copy on write
--- one where one of them had a node in the last commit
+-- a node of the root, extent or quota tree lies in a slot that the layout leaves: a free one, or once these trees are
+-- edited by copy on write one where one of them had a node in the last commit
 abbrev pub is_other_slot : State → State → ℕ → Bool
 is_other_slot old new address =
     is_slot old.sizes address && not (has_key address new.layout)
-    && (is_free_slot old address || (edits_other_trees && list_any (λ node. (header_of node).address == address) old.held.others))
+    && (is_free_slot old address
+    || (edits_other_trees && list_any (λ node. (header_of node).address == address) old.held.others))

@@ -1,5 +1,6 @@
 -- When each command is refused: the first of its refusals, in their order, that holds (this project's own).
-use Rattle.std.specs.Prelude.{ℕ, ◌+◌, ◌^◌, Bool, ◌&&◌, ◌||◌, not, List, [], ◌∷◌, length, Option, Some, None, is_none, ◌==◌, nat_le, nat_lt, if◌then◌else◌}
+use Rattle.std.specs.Prelude.{ℕ, ◌+◌, ◌^◌, Bool, ◌&&◌, ◌||◌, not, List, [], ◌∷◌, length, Option, Some, None, is_none}
+use Rattle.std.specs.Prelude.{◌==◌, nat_le, nat_lt, if◌then◌else◌}
 use Rattle.std.specs.Bool.{then_some}
 use Rattle.std.specs.List.{filter, list_any}
 use Rattle.std.specs.Option.{option_map}
@@ -37,7 +38,8 @@ no_file state sub ino = refuse (is_none (file_at state sub ino)) why.NoFile
 
 -- positions are of whole sectors, and so is a length, which is not 0
 abbrev pub no_align : List ℕ → ℕ → Option Refusal
-no_align positions len = refuse (list_any (λ position. not (is_aligned position)) (len ∷ positions) || (len == 0)) why.Align
+no_align positions len = refuse (list_any (λ position. not (is_aligned position)) (len ∷ positions) || (len == 0))
+    why.Align
 
 -- ends are by the largest size
 abbrev pub no_far : List ℕ → Option Refusal
@@ -80,7 +82,8 @@ number_to_come state = next_subvolume (keys_of state.subvolumes) (groups_of stat
 -- one subvolume more, with its group and so many relations, would pass a limit
 abbrev pub too_many_subvolumes : State → ℕ → Option Refusal
 too_many_subvolumes state relations = refuse
-    (nat_le most_subvolumes (length state.subvolumes) || (is_quota_on state && nat_le most_groups (length (groups_of state)))
+    (nat_le most_subvolumes (length state.subvolumes)
+    || (is_quota_on state && nat_le most_groups (length (groups_of state)))
     || nat_lt most_relations (length (pairs_of state) + relations) || nat_le (2 ^ 48) (number_to_come state))
     why.TooMany
 
@@ -106,7 +109,8 @@ over_limit state sub n = passed state.quota where
 abbrev pub no_parents : State → List ℕ → List ℕ → Option Refusal
 no_parents state earlier [] = None
 no_parents state earlier (group ∷ groups) = first_some
-    (no_level (not (level_of_group group == 0)) ∷ no_group state group ∷ refuse (list_any (λ before. before == group) earlier) why.Related
+    (no_level (not (level_of_group group == 0)) ∷ no_group state group
+    ∷ refuse (list_any (λ before. before == group) earlier) why.Related
     ∷ no_parents state (group ∷ earlier) groups ∷ [])
 
 -- ---- need of slots
@@ -116,7 +120,8 @@ abbrev pub with_files : State → ℕ → List (ℕ × File) → State
 with_files state sub files = changed (value_at sub state.subvolumes) where
   changed : Option Subvolume → State
   changed None = state
-  changed (Some subvolume) = record state { subvolumes = with_value sub (record subvolume { files = files }) state.subvolumes }
+  changed (Some subvolume) =
+      record state { subvolumes = with_value sub (record subvolume { files = files }) state.subvolumes }
 
 -- the level of a subvolume's root node
 abbrev pub root_level : State → ℕ → ℕ
@@ -141,7 +146,8 @@ no_nodes_for state (Some change) = no_nodes state (change_need state change)
 
 -- how many nodes a subvolume reaches
 abbrev pub nodes_reached : State → ℕ → ℕ
-nodes_reached state sub = length (filter (λ element. has_key element.address state.layout) (distinct (reach (layout_of state) sub)))
+nodes_reached state sub =
+    length (filter (λ element. has_key element.address state.layout) (distinct (reach (layout_of state) sub)))
 
 -- the nodes that a structural command may copy
 abbrev pub structural_copies : State → Command → ℕ
@@ -164,47 +170,61 @@ is_pending state = nat_lt 0 (length state.pending)
 
 -- what each structural command is refused for at last
 abbrev pub no_commit : State → Command → Option Refusal
-no_commit state structural = first_some (no_generation state ∷ no_nodes state (structural_need state (structural_copies state structural)) ∷ [])
+no_commit state structural =
+    first_some (no_generation state ∷ no_nodes state (structural_need state (structural_copies state structural)) ∷ [])
 
 -- ---- each command
 
 unfoldable pub refusal : State → Command → Option Refusal
 refusal state (command.Write sub ino off len) = first_some
-    (no_sub state sub ∷ no_align (off ∷ []) len ∷ no_far ((off + len) ∷ []) ∷ refuse (nat_lt longest_extent len) why.Far ∷ too_many_pending state
+    (no_sub state sub ∷ no_align (off ∷ []) len ∷ no_far ((off + len) ∷ []) ∷ refuse (nat_lt longest_extent len) why.Far
+    ∷ too_many_pending state
     ∷ over_limit state sub (len + state.sizes.nodesize) ∷ refuse (is_none (first_run state len)) why.NoRun
     ∷ no_nodes_for state (file_change state (command.Write sub ino off len)) ∷ [])
 refusal state (command.Clone sub ino off len to_sub to_ino to_off) = first_some
-    (no_sub state sub ∷ no_sub state to_sub ∷ no_file state sub ino ∷ no_align (off ∷ to_off ∷ []) len ∷ no_far ((off + len) ∷ (to_off + len) ∷ [])
-    ∷ no_source state sub ino (off + len) ∷ refuse ((sub == to_sub) && (ino == to_ino) && share_a_byte off to_off len) why.Overlap ∷ too_many_pending state
+    (no_sub state sub ∷ no_sub state to_sub ∷ no_file state sub ino ∷ no_align (off ∷ to_off ∷ []) len
+    ∷ no_far ((off + len) ∷ (to_off + len) ∷ [])
+    ∷ no_source state sub ino (off + len) ∷ refuse ((sub == to_sub) && (ino == to_ino) && share_a_byte off to_off len)
+    why.Overlap ∷ too_many_pending state
     ∷ over_limit state to_sub state.sizes.nodesize
     ∷ no_nodes_for state (file_change state (command.Clone sub ino off len to_sub to_ino to_off)) ∷ [])
 refusal state (command.Truncate sub ino size) = first_some
-    (no_sub state sub ∷ no_file state sub ino ∷ refuse (not (is_aligned size)) why.Align ∷ no_far (size ∷ []) ∷ too_many_pending state
+    (no_sub state sub ∷ no_file state sub ino ∷ refuse (not (is_aligned size)) why.Align ∷ no_far (size ∷ [])
+    ∷ too_many_pending state
     ∷ no_nodes_for state (file_change state (command.Truncate sub ino size)) ∷ [])
 refusal state (command.Unlink sub ino) = first_some
-    (no_sub state sub ∷ no_file state sub ino ∷ too_many_pending state ∷ no_nodes_for state (file_change state (command.Unlink sub ino)) ∷ [])
+    (no_sub state sub ∷ no_file state sub ino ∷ too_many_pending state ∷ no_nodes_for state
+    (file_change state (command.Unlink sub ino)) ∷ [])
 refusal state command.Commit = if is_pending state then no_generation state else None
 refusal state command.SubCreate = first_some (too_many_subvolumes state 0 ∷ no_commit state command.SubCreate ∷ [])
 refusal state (command.Snap sub groups) = first_some
-    (no_sub state sub ∷ refuse (not (is_quota_on state) && nat_lt 0 (length groups)) why.NoQuota ∷ no_parents state [] groups
+    (no_sub state sub ∷ refuse (not (is_quota_on state) && nat_lt 0 (length groups)) why.NoQuota
+    ∷ no_parents state [] groups
     ∷ too_many_subvolumes state (length groups) ∷ no_commit state (command.Snap sub groups) ∷ [])
 refusal state (command.Delete sub) = first_some
     (refuse (sub == TOP_LEVEL) why.TopLevel ∷ no_sub state sub ∷ no_commit state (command.Delete sub) ∷ [])
 refusal state command.QuotaOn = first_some
-    (refuse (is_quota_on state) why.QuotaOn ∷ refuse (nat_lt most_groups (length state.subvolumes)) why.TooMany ∷ no_commit state command.QuotaOn ∷ [])
+    (refuse (is_quota_on state) why.QuotaOn ∷ refuse (nat_lt most_groups (length state.subvolumes)) why.TooMany
+    ∷ no_commit state command.QuotaOn ∷ [])
 refusal state command.QuotaOff = first_some (no_quota state ∷ no_commit state command.QuotaOff ∷ [])
 refusal state (command.GroupCreate group) = first_some
-    (no_quota state ∷ no_level (not (level_of_group group == 0)) ∷ refuse (list_any (λ kept. kept == group) (groups_of state)) why.GroupThere
-    ∷ refuse (nat_le most_groups (length (groups_of state))) why.TooMany ∷ no_commit state (command.GroupCreate group) ∷ [])
+    (no_quota state ∷ no_level (not (level_of_group group == 0))
+    ∷ refuse (list_any (λ kept. kept == group) (groups_of state)) why.GroupThere
+    ∷ refuse (nat_le most_groups (length (groups_of state))) why.TooMany ∷ no_commit state (command.GroupCreate group)
+    ∷ [])
 refusal state (command.GroupDestroy group) = first_some
-    (no_quota state ∷ no_group state group ∷ refuse (list_any (λ pair. pair.1 == group) (pairs_of state) || has_subvolume state group) why.Busy
+    (no_quota state ∷ no_group state group ∷ refuse (list_any (λ pair. pair.1 == group) (pairs_of state)
+    || has_subvolume state group) why.Busy
     ∷ no_commit state (command.GroupDestroy group) ∷ [])
 refusal state (command.Assign member parent) = first_some
-    (no_quota state ∷ no_level (nat_lt (level_of_group member) (level_of_group parent)) ∷ no_group state member ∷ no_group state parent
-    ∷ refuse (has_pair member parent (pairs_of state)) why.Related ∷ refuse (nat_le most_relations (length (pairs_of state))) why.TooMany
+    (no_quota state ∷ no_level (nat_lt (level_of_group member) (level_of_group parent)) ∷ no_group state member
+    ∷ no_group state parent
+    ∷ refuse (has_pair member parent (pairs_of state)) why.Related
+    ∷ refuse (nat_le most_relations (length (pairs_of state))) why.TooMany
     ∷ no_commit state (command.Assign member parent) ∷ [])
 refusal state (command.Remove member parent) = first_some
-    (no_quota state ∷ refuse (not (has_pair member parent (pairs_of state))) why.NotRelated ∷ no_commit state (command.Remove member parent) ∷ [])
+    (no_quota state ∷ refuse (not (has_pair member parent (pairs_of state))) why.NotRelated ∷ no_commit state
+    (command.Remove member parent) ∷ [])
 refusal state (command.Limit group which max) = first_some
     (no_quota state ∷ no_group state group ∷ no_commit state (command.Limit group which max) ∷ [])
 refusal state command.Show = no_quota state

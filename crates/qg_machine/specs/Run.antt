@@ -29,6 +29,7 @@ Turn old line reply commits new = Obeys old line reply commits new ⊎ Ignores o
 abbrev pub Run : State → List (List ℕ) → List (List ℕ) → List State → State → Type 0
 Run old [] [] commits new = (new ≡ old) × (commits ≡ [])
 Run old (line ∷ lines) (reply ∷ replies) commits new =
-    (mid : State) × (first : List State) × (later : List State) × Turn old line reply first mid × Run mid lines replies later new × (commits ≡ first ++ later)
+    (mid : State) × (first : List State) × (later : List State) × Turn old line reply first mid
+    × Run mid lines replies later new × (commits ≡ first ++ later)
 Run old [] (reply ∷ replies) commits new = ⊥
 Run old (line ∷ lines) [] commits new = ⊥

@@ -1,5 +1,7 @@
--- One step of the machine: from a state a command may give this answer, make these commits, and leave this state (this project's own).
-use Rattle.std.specs.Prelude.{◌≡◌, ℕ, false, List, [], ◌∷◌, ◌++◌, map, Option, Some, None, IsTrue, ◌==◌, MatchBool, MatchOption, if◌then◌else◌}
+-- One step of the machine: from a state a command may give this answer, make these commits, and leave this state (this
+-- project's own).
+use Rattle.std.specs.Prelude.{◌≡◌, ℕ, false, List, [], ◌∷◌, ◌++◌, map, Option, Some, None, IsTrue, ◌==◌, MatchBool}
+use Rattle.std.specs.Prelude.{MatchOption, if◌then◌else◌}
 use Rattle.std.specs.List.{IsDistinct, filter, list_all}
 use Rattle.std.specs.Option.{option_map}
 use Rattle.qg_num.specs.declared.answer.Answer.{Answer}
@@ -19,7 +21,8 @@ use Rattle.qg_image.specs.Space.{is_free_slot, first_run}
 use Rattle.qg_image.specs.ImageState.{addresses_of, as_committed}
 use Rattle.qg_image.specs.OtherTrees.{AreOtherTrees}
 use Rattle.qg_machine.specs.FileChange.{FileChange, file_change}
-use Rattle.qg_machine.specs.GroupChange.{new_group, with_group, assigned, unassigned, destroyed, limited, inherited, quota_for, recounted}
+use Rattle.qg_machine.specs.GroupChange.{new_group, with_group, assigned, unassigned, destroyed, limited, inherited}
+use Rattle.qg_machine.specs.GroupChange.{quota_for, recounted}
 use Rattle.qg_machine.specs.Refusals.{refusal, is_pending, change_copies, change_need, number_to_come}
 use Rattle.qg_machine.specs.Layout.{CopiesOnWrite, is_full_after, is_other_slot}
 
@@ -30,7 +33,8 @@ abbrev pub with_tree : State → ℕ → List (ℕ × File) → ℕ → State
 with_tree state sub files root = changed (value_at sub state.subvolumes) where
   changed : Option Subvolume → State
   changed None = state
-  changed (Some subvolume) = record state { subvolumes = with_value sub (record subvolume { files = files; root = root }) state.subvolumes }
+  changed (Some subvolume) =
+      record state { subvolumes = with_value sub (record subvolume { files = files; root = root }) state.subvolumes }
 
 -- the command, as it is pending; what it touched is said with the bounds on work
 abbrev pub accepted : State → Command → FileChange → ℕ → Accepted
@@ -48,7 +52,10 @@ pub record ChangesFiles (old : State) (given : Command) (change : FileChange) (n
   pub root : ℕ
   pub layout : List (ℕ × Placed)
   pub touched : ℕ
-  pub changed : new ≡ record (with_tree old change.sub change.files root) { layout = layout; pending = accepted old given change touched ∷ old.pending }
+  pub changed : new ≡ record (with_tree old change.sub change.files root) {
+    layout = layout;
+    pending = accepted old given change touched ∷ old.pending;
+  }
   pub laid_out : CopiesOnWrite old new change.sub (change_copies old change)
 
 -- what a file command answers: a write tells its extent
@@ -66,8 +73,8 @@ settled state = record state {
   pending = [];
 }
 
--- what was pending is committed, and the last commit is now the state itself, with trees of roots, extents and quota that tell it, whose nodes
--- lie each in a slot of its own
+-- what was pending is committed, and the last commit is now the state itself, with trees of roots, extents and quota
+-- that tell it, whose nodes lie each in a slot of its own
 pub record Commits (old new : State) : Type 0 where
   pub others : List Node
   pub slots : IsTrue (list_all (is_other_slot old old) (addresses_of others))
@@ -84,12 +91,18 @@ CommitsPending old commits new =
 
 -- a leaf of a subvolume that is made in this generation
 abbrev pub empty_leaf : ℕ → ℕ → ℕ → Placed
-empty_leaf generation sub address = record { node = Leaf (record { address = address; generation = generation; owner = sub; level = 0 }) []; full = false }
+empty_leaf generation sub address =
+    record {
+      node = Leaf (record { address = address; generation = generation; owner = sub; level = 0 }) [];
+      full = false;
+    }
 
 -- a copy of a node for a subvolume, at an address
 abbrev pub copy_of : ℕ → ℕ → ℕ → Node → Node
-copy_of generation sub address (Leaf header items) = Leaf (record { address = address; generation = generation; owner = sub; level = header.level }) items
-copy_of generation sub address (Inner header pointers) = Inner (record { address = address; generation = generation; owner = sub; level = header.level }) pointers
+copy_of generation sub address (Leaf header items) =
+    Leaf (record { address = address; generation = generation; owner = sub; level = header.level }) items
+copy_of generation sub address (Inner header pointers) =
+    Inner (record { address = address; generation = generation; owner = sub; level = header.level }) pointers
 
 -- a new subvolume: an empty leaf in a free slot, and a group without limits while quota is on
 pub record CreatesSubvolume (old : State) (sub : ℕ) (new : State) : Type 0 where
@@ -101,7 +114,8 @@ pub record CreatesSubvolume (old : State) (sub : ℕ) (new : State) : Type 0 whe
     quota = option_map (with_group sub (new_group (next_generation old))) old.quota;
   }
 
--- a snapshot: one node in a free slot, with the items of the source's root, and a group with the source's limits and these parents
+-- a snapshot: one node in a free slot, with the items of the source's root, and a group with the source's limits and
+-- these parents
 pub record Snapshots (old : State) (sub : ℕ) (parents : List ℕ) (copy : ℕ) (new : State) : Type 0 where
   pub source : Subvolume
   pub there : value_at sub old.subvolumes ≡ Some source
@@ -112,7 +126,8 @@ pub record Snapshots (old : State) (sub : ℕ) (parents : List ℕ) (copy : ℕ)
   pub copied : new ≡ record old {
     subvolumes = with_value copy (record { files = source.files; root = address; last_snapshot = next_generation old })
         (with_value sub (record source { last_snapshot = next_generation old }) old.subvolumes);
-    layout = with_value address (record { node = copy_of (next_generation old) copy address root; full = false }) old.layout;
+    layout = with_value address (record { node = copy_of (next_generation old) copy address root; full = false })
+        old.layout;
     quota = option_map (inherited (next_generation old) sub copy parents) old.quota;
   }
 
@@ -123,7 +138,8 @@ without_subvolume state sub = record state { subvolumes = without_key sub state.
 -- the nodes that some subvolume of a state reaches, each full where it was or where its owner no longer reaches it
 abbrev pub layout_left : State → List (ℕ × Placed)
 layout_left state =
-    map (λ entry. (entry.0, record entry.1 { full = is_full_after state entry.1 entry.0 })) (filter (λ entry. is_reached (layout_of state) entry.0) state.layout)
+    map (λ entry. (entry.0, record entry.1 { full = is_full_after state entry.1 entry.0 }))
+    (filter (λ entry. is_reached (layout_of state) entry.0) state.layout)
 
 -- a deleted subvolume goes, with the nodes that nobody then reaches; its group stays
 abbrev pub deleted : State → ℕ → State
@@ -135,20 +151,28 @@ with_quota state change = record state { quota = option_map change state.quota }
 
 -- what a structural command changes between its commits, and its answer
 abbrev pub Changes : State → Command → Answer → State → Type 0
-Changes old command.SubCreate given new = (given ≡ answer.Sub (number_to_come old)) × CreatesSubvolume old (number_to_come old) new
-Changes old (command.Snap sub parents) given new = (given ≡ answer.Sub (number_to_come old)) × Snapshots old sub parents (number_to_come old) new
+Changes old command.SubCreate given new = (given ≡ answer.Sub (number_to_come old))
+    × CreatesSubvolume old (number_to_come old) new
+Changes old (command.Snap sub parents) given new = (given ≡ answer.Sub (number_to_come old))
+    × Snapshots old sub parents (number_to_come old) new
 Changes old (command.Delete sub) given new = (given ≡ answer.Done) × (new ≡ deleted old sub)
-Changes old command.QuotaOn given new = (given ≡ answer.Done) × (new ≡ record old { quota = Some (quota_for (next_generation old) (keys_of old.subvolumes)) })
+Changes old command.QuotaOn given new = (given ≡ answer.Done)
+    × (new ≡ record old { quota = Some (quota_for (next_generation old) (keys_of old.subvolumes)) })
 Changes old command.QuotaOff given new = (given ≡ answer.Done) × (new ≡ record old { quota = None })
-Changes old (command.GroupCreate group) given new = (given ≡ answer.Done) × (new ≡ with_quota old (with_group group (new_group (next_generation old))))
+Changes old (command.GroupCreate group) given new = (given ≡ answer.Done)
+    × (new ≡ with_quota old (with_group group (new_group (next_generation old))))
 Changes old (command.GroupDestroy group) given new = (given ≡ answer.Done) × (new ≡ with_quota old (destroyed group))
-Changes old (command.Assign member parent) given new = (given ≡ answer.Done) × (new ≡ with_quota old (assigned member parent))
-Changes old (command.Remove member parent) given new = (given ≡ answer.Done) × (new ≡ with_quota old (unassigned member parent))
-Changes old (command.Limit group which max) given new = (given ≡ answer.Done) × (new ≡ with_quota old (limited group which max))
+Changes old (command.Assign member parent) given new = (given ≡ answer.Done)
+    × (new ≡ with_quota old (assigned member parent))
+Changes old (command.Remove member parent) given new = (given ≡ answer.Done)
+    × (new ≡ with_quota old (unassigned member parent))
+Changes old (command.Limit group which max) given new = (given ≡ answer.Done)
+    × (new ≡ with_quota old (limited group which max))
 Changes old _ given new = ⊥
 
 -- a structural command commits what is pending, makes its change, and commits that
-pub record DoesStructural (old : State) (given : Command) (reply : Answer) (commits : List State) (new : State) : Type 0 where
+pub record DoesStructural (old : State) (given : Command) (reply : Answer) (commits : List State)
+    (new : State) : Type 0 where
   pub before : State
   pub earlier : List State
   pub first : CommitsPending old earlier before
@@ -160,7 +184,12 @@ pub record DoesStructural (old : State) (given : Command) (reply : Answer) (comm
 -- ---- questions
 
 abbrev pub row_of : ℕ × Group → Row
-row_of entry = record { group = entry.0; counters = entry.1.counters; max_rfer = entry.1.max_rfer; max_excl = entry.1.max_excl }
+row_of entry = record {
+  group = entry.0;
+  counters = entry.1.counters;
+  max_rfer = entry.1.max_rfer;
+  max_excl = entry.1.max_excl;
+}
 
 -- the stored counters and limits of each group, ascending by number
 abbrev pub rows_of : Option Quota → List Row
@@ -179,25 +208,31 @@ Stays old commits new = (new ≡ old) × (commits ≡ [])
 
 -- a file command that changes so: what it answers, and that nothing is committed
 abbrev pub DoesChange : State → Command → Answer → List State → State → FileChange → Type 0
-DoesChange old given reply commits new change = (file_answer old given ≡ Some reply) × (commits ≡ []) × ChangesFiles old given change new
+DoesChange old given reply commits new change = (file_answer old given ≡ Some reply) × (commits ≡ [])
+    × ChangesFiles old given change new
 
 -- a command that is not refused
 abbrev pub Does : State → Command → Answer → List State → State → Type 0
 Does old (command.Write sub ino off len) reply commits new =
-    MatchOption (file_change old (command.Write sub ino off len)) ⊥ (DoesChange old (command.Write sub ino off len) reply commits new)
+    MatchOption (file_change old (command.Write sub ino off len)) ⊥
+    (DoesChange old (command.Write sub ino off len) reply commits new)
 Does old (command.Clone sub ino off len to_sub to_ino to_off) reply commits new =
-    MatchOption (file_change old (command.Clone sub ino off len to_sub to_ino to_off)) ⊥ (DoesChange old (command.Clone sub ino off len to_sub to_ino to_off) reply commits new)
+    MatchOption (file_change old (command.Clone sub ino off len to_sub to_ino to_off)) ⊥
+    (DoesChange old (command.Clone sub ino off len to_sub to_ino to_off) reply commits new)
 Does old (command.Truncate sub ino size) reply commits new =
-    MatchOption (file_change old (command.Truncate sub ino size)) ⊥ (DoesChange old (command.Truncate sub ino size) reply commits new)
+    MatchOption (file_change old (command.Truncate sub ino size)) ⊥
+    (DoesChange old (command.Truncate sub ino size) reply commits new)
 Does old (command.Unlink sub ino) reply commits new =
     MatchOption (file_change old (command.Unlink sub ino)) ⊥ (DoesChange old (command.Unlink sub ino) reply commits new)
 Does old command.Commit reply commits new = (reply ≡ answer.Commit new.generation) × CommitsPending old commits new
 Does old command.Show reply commits new = (reply ≡ answer.Shown (rows_of old.quota)) × Stays old commits new
 Does old (command.Ls sub ino) reply commits new = (file_told (file_at old sub ino) ≡ Some reply) × Stays old commits new
-Does old (command.Owners address) reply commits new = (reply ≡ answer.Owners (owners (layout_of old) address)) × Stays old commits new
+Does old (command.Owners address) reply commits new = (reply ≡ answer.Owners (owners (layout_of old) address))
+    × Stays old commits new
 Does old structural reply commits new = DoesStructural old structural reply commits new
 
 -- a refused command answers the first of its refusals that holds, and changes nothing; any other is done
 abbrev pub Step : State → Command → Answer → List State → State → Type 0
 Step old given reply commits new =
-    MatchOption (refusal old given) (Does old given reply commits new) (λ why. (reply ≡ answer.Refused why) × Stays old commits new)
+    MatchOption (refusal old given) (Does old given reply commits new) (λ why. (reply ≡ answer.Refused why)
+    × Stays old commits new)

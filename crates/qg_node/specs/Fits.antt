@@ -1,4 +1,5 @@
--- Numbers that fit their fields (on-disk format, "nodes and leaves"): a field of 8 bytes holds one below 2^64, a byte one below 256.
+-- Numbers that fit their fields (on-disk format, "nodes and leaves"): a field of 8 bytes holds one below 2^64, a byte
+-- one below 256.
 --
 -- Every node that a program holds is so, since its fields have these types.
 use Rattle.std.specs.Prelude.{◌^◌, ◌<◌, All}

@@ -9,11 +9,13 @@ use Rattle.qg_node.specs.Reading.{node_read}
 
 -- bytes are read as a node at an address exactly where they are its text there
 abbrev pub ReadsTexts : Type 0
-ReadsTexts = (at : ℕ) (bytes : List ℕ) (node : Node) → IsBytes bytes → IsNodeSize (length bytes) → (node_read at bytes ≡ Ok node) ↔ (IsNodeText bytes at node × NodeFits node)
+ReadsTexts = (at : ℕ) (bytes : List ℕ) (node : Node) → IsBytes bytes → IsNodeSize (length bytes)
+    → (node_read at bytes ≡ Ok node) ↔ (IsNodeText bytes at node × NodeFits node)
 
 -- the text of a node is read as the node, at the address that its header names
 abbrev pub ReadsBack : Type 0
-ReadsBack = (size : ℕ) (node : Node) → IsNodeSize size → IsNode size node → NodeFits node → node_read (header_of node).address (node_text size node) ≡ Ok node
+ReadsBack = (size : ℕ) (node : Node) → IsNodeSize size → IsNode size node → NodeFits node
+    → node_read (header_of node).address (node_text size node) ≡ Ok node
 
 -- bytes are the text of one node at most, whatever their address
 abbrev pub OneNode : Type 0
@@ -23,4 +25,5 @@ OneNode =
 
 -- a node's text has as many bytes as it was asked for, and each number of it is a byte
 abbrev pub FillsItsSize : Type 0
-FillsItsSize = (size : ℕ) (node : Node) → IsNode size node → NodeFits node → (length (node_text size node) ≡ size) × IsBytes (node_text size node)
+FillsItsSize = (size : ℕ) (node : Node) → IsNode size node → NodeFits node → (length (node_text size node) ≡ size)
+    × IsBytes (node_text size node)

@@ -49,10 +49,12 @@ inner_text room pointers = flat_map pointer_text pointers ++ zeros (room - 33 * 
 abbrev pub IsNodeSize : ℕ → Type 0
 IsNodeSize size = (size ≡ 4096) ⊎ (size ≡ 16384)
 
--- the header from its 32nd byte on: fsid, address, flags and chunk tree's uuid, generation, owner, number of items, level
+-- the header from its 32nd byte on: fsid, address, flags and chunk tree's uuid, generation, owner, number of items,
+-- level
 unfoldable pub header_text : Header → ℕ → List ℕ
 header_text header count =
-    zeros 16 ++ u64_bytes header.address ++ zeros 24 ++ u64_bytes header.generation ++ u64_bytes header.owner ++ u32_bytes count ++ header.level ∷ []
+    zeros 16 ++ u64_bytes header.address ++ zeros 24 ++ u64_bytes header.generation ++ u64_bytes header.owner
+    ++ u32_bytes count ++ header.level ∷ []
 
 -- what a node's checksum covers: all but its first 32 bytes
 unfoldable pub covered_text : ℕ → Node → List ℕ

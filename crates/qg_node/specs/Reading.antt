@@ -1,7 +1,8 @@
 -- What bytes are read as at an address: a node, or the first rule that they break as one.
 --
 -- The rules are looked at in one order (this project's own): csum, place, level, empty, bounds, order, slack.
-use Rattle.std.specs.Prelude.{◌≡◌, ⊤, ℕ, zero, suc, ◌+◌, ◌-◌, ◌*◌, Bool, ◌&&◌, ◌||◌, not, List, [], ◌∷◌, length, drop, map, slice_index, slice_range, Result, Ok, Err, nat_le, ◌==◌, if◌then◌else◌}
+use Rattle.std.specs.Prelude.{◌≡◌, ⊤, ℕ, zero, suc, ◌+◌, ◌-◌, ◌*◌, Bool, ◌&&◌, ◌||◌, not, List, [], ◌∷◌, length, drop}
+use Rattle.std.specs.Prelude.{map, slice_index, slice_range, Result, Ok, Err, nat_le, ◌==◌, if◌then◌else◌}
 use Rattle.qg_num.specs.Fields.{u64_at, u32_at, is_zero}
 use Rattle.qg_crc32c.specs.Crc32c.{crc32c_of}
 use Rattle.qg_num.specs.Key.{key_at}
@@ -37,7 +38,12 @@ has_empty_fields bytes = is_zero 32 48 bytes && is_zero 56 80 bytes
 
 -- the fields of a header, where a node has them
 unfoldable pub header_at : List ℕ → Header
-header_at bytes = record { address = u64_at 48 bytes; generation = u64_at 80 bytes; owner = u64_at 88 bytes; level = slice_index bytes 100 }
+header_at bytes = record {
+  address = u64_at 48 bytes;
+  generation = u64_at 80 bytes;
+  owner = u64_at 88 bytes;
+  level = slice_index bytes 100;
+}
 
 -- how many items or pointers the header tells
 abbrev pub count_at : List ℕ → ℕ
@@ -45,7 +51,8 @@ count_at bytes = u32_at 96 bytes
 
 -- ---- leaves
 
--- the item whose header stands at a place and whose body ends at `end`, and where its body begins; no body begins below `low`
+-- the item whose header stands at a place and whose body ends at `end`, and where its body begins; no body begins below
+-- `low`
 unfoldable pub item_at : ℕ → ℕ → ℕ → List ℕ → Result (Item × ℕ) NodeFault
 item_at place end low bytes =
     let size = u32_at (place + 21) bytes in
@@ -75,7 +82,11 @@ leaf_at bytes =
 
 -- the pointer in the 33 bytes from a place on
 unfoldable pub pointer_at : ℕ → List ℕ → Pointer
-pointer_at place bytes = record { key = key_at place bytes; child = u64_at (place + 17) bytes; generation = u64_at (place + 25) bytes }
+pointer_at place bytes = record {
+  key = key_at place bytes;
+  child = u64_at (place + 17) bytes;
+  generation = u64_at (place + 25) bytes;
+}
 
 -- so many pointers, one behind the other, from a place on
 unfoldable pub pointers_at : ℕ → ℕ → List ℕ → List Pointer

@@ -4,7 +4,8 @@ ghost use Rattle.qg_num.specs.Fields.{u32_bytes, zeros};
 ghost use Rattle.qg_num.specs.Key.{IsKey, key_bytes};
 ghost use Rattle.qg_node.specs.Fits.{HeaderFits, ItemFits, NodeFits, PointerFits};
 ghost use Rattle.qg_node.specs.Nodes.{header_of, items_bytes};
-ghost use Rattle.qg_node.specs.NodeText.{IsNode, IsNodeSize, covered_text, header_text, inner_text, item_header, leaf_text, node_text, pointer_text};
+ghost use Rattle.qg_node.specs.NodeText.{IsNode, IsNodeSize, covered_text, header_text, inner_text, item_header};
+ghost use Rattle.qg_node.specs.NodeText.{leaf_text, node_text, pointer_text};
 ghost use Rattle.qg_node.specs.Reading.{node_read};
 
 use crate::node::{ITEM_HEADER_BYTES, POINTER_BYTES};

@@ -1,7 +1,8 @@
 -- Texts that are put together of bytes, zeros and numbers are bytes.
 use Rattle.std.proofs.Common.{ℕ, zero, suc, ◌<◌, List, [], ◌∷◌, ◌++◌, lit<}
 use Rattle.qg_num.specs.Fields.{IsBytes, zeros, u16_bytes, u32_bytes, u64_bytes}
-use Rattle.qg_num.proofs.Numbers.{IsBytes-append, IsBytes-zeros, IsBytes-u64_bytes, IsBytes-u32_bytes, IsBytes-u16_bytes}
+use Rattle.qg_num.proofs.Numbers.{IsBytes-append, IsBytes-zeros, IsBytes-u64_bytes, IsBytes-u32_bytes}
+use Rattle.qg_num.proofs.Numbers.{IsBytes-u16_bytes}
 
 -- a record, so that lists are found from the facts
 pub record AreBytes (bytes : List ℕ) : Type 0 where

@@ -1,8 +1,11 @@
 -- A number gives its bytes, and its bytes give the number.
-use Rattle.std.proofs.Common.{◌≡◌, ℕ, zero, suc, ◌+◌, ◌-◌, ◌^◌, ◌≤◌, ◌<◌, List, [], ◌++◌, length, take, drop, refl, sym, ap, ◌∙◌, arith, inl, inr, lit<}
+use Rattle.std.proofs.Common.{◌≡◌, ℕ, zero, suc, ◌+◌, ◌-◌, ◌^◌, ◌≤◌, ◌<◌, List, [], ◌++◌, length, take, drop, refl, sym}
+use Rattle.std.proofs.Common.{ap, ◌∙◌, arith, inl, inr, lit<}
 use Rattle.std.specs.Int.{bytes_low_first}
 use Rattle.std.proofs.lemmas.Bool.{cases_lt}
-use Rattle.std.proofs.lemmas.List.{drop-drop, drop_at, get_or_append_left, get_or-append_right, get_or-drop, get_or_past, get_or-replicate, get_or-take, length-drop, length-replicate, length-take}
+use Rattle.std.proofs.lemmas.List.{drop-drop, drop_at, get_or_append_left, get_or-append_right, get_or-drop}
+use Rattle.std.proofs.lemmas.List.{get_or_past, get_or-replicate, get_or-take, length-drop, length-replicate}
+use Rattle.std.proofs.lemmas.List.{length-take}
 use Rattle.std.proofs.lemmas.Nat.{le_bytes_4, le_bytes_8}
 use Rattle.byteorder.specs.Endian.{little_bytes, little_number}
 use Rattle.byteorder.specs.Numbers.{little_from-lt, little_number-reads_back}
@@ -61,42 +64,71 @@ IsBytes-u16_bytes n = low_bytes 0 2 n
 
 -- ---- a number that was written is read
 
-pub u64_at-u64_bytes : (place n : ℕ) (front rest : List ℕ) → length front ≡ place → n < 2 ^ 64 → u64_at place (front ++ (u64_bytes n ++ rest)) ≡ n
+pub u64_at-u64_bytes : (place n : ℕ) (front rest : List ℕ) → length front ≡ place → n < 2 ^ 64
+    → u64_at place (front ++ (u64_bytes n ++ rest)) ≡ n
 unfolding u64_at u64_bytes
-u64_at-u64_bytes place n front rest long fits = ap (little_number 8) (drop_at front (little_bytes 8 n ++ rest) place long) ∙ little_number-reads_back 8 n rest fits
+u64_at-u64_bytes place n front rest long fits =
+    ap (little_number 8) (drop_at front (little_bytes 8 n ++ rest) place long) ∙ little_number-reads_back 8 n rest fits
 
-pub u32_at-u32_bytes : (place n : ℕ) (front rest : List ℕ) → length front ≡ place → n < 2 ^ 32 → u32_at place (front ++ (u32_bytes n ++ rest)) ≡ n
+pub u32_at-u32_bytes : (place n : ℕ) (front rest : List ℕ) → length front ≡ place → n < 2 ^ 32
+    → u32_at place (front ++ (u32_bytes n ++ rest)) ≡ n
 unfolding u32_at u32_bytes
-u32_at-u32_bytes place n front rest long fits = ap (little_number 4) (drop_at front (little_bytes 4 n ++ rest) place long) ∙ little_number-reads_back 4 n rest fits
+u32_at-u32_bytes place n front rest long fits =
+    ap (little_number 4) (drop_at front (little_bytes 4 n ++ rest) place long) ∙ little_number-reads_back 4 n rest fits
 
 -- two numbers with the same bytes are one
 pub u64_bytes_cancel : (m n : ℕ) → m < 2 ^ 64 → n < 2 ^ 64 → u64_bytes m ≡ u64_bytes n → m ≡ n
 u64_bytes_cancel m n fits_m fits_n same =
-    sym (u64_at-u64_bytes 0 m [] [] refl fits_m) ∙ ap (λ (bytes : List ℕ). u64_at 0 (bytes ++ [])) same ∙ u64_at-u64_bytes 0 n [] [] refl fits_n
+    sym (u64_at-u64_bytes 0 m [] [] refl fits_m) ∙ ap (λ (bytes : List ℕ). u64_at 0 (bytes ++ [])) same
+    ∙ u64_at-u64_bytes 0 n [] [] refl fits_n
 
 pub u32_bytes_cancel : (m n : ℕ) → m < 2 ^ 32 → n < 2 ^ 32 → u32_bytes m ≡ u32_bytes n → m ≡ n
 u32_bytes_cancel m n fits_m fits_n same =
-    sym (u32_at-u32_bytes 0 m [] [] refl fits_m) ∙ ap (λ (bytes : List ℕ). u32_at 0 (bytes ++ [])) same ∙ u32_at-u32_bytes 0 n [] [] refl fits_n
+    sym (u32_at-u32_bytes 0 m [] [] refl fits_m) ∙ ap (λ (bytes : List ℕ). u32_at 0 (bytes ++ [])) same
+    ∙ u32_at-u32_bytes 0 n [] [] refl fits_n
 
 -- ---- a number that was read gives its bytes back
 
 eight : (bytes : List ℕ) → IsBytes bytes → 8 ≤ length bytes → little_bytes 8 (little_number 8 bytes) ≡ take 8 bytes
 eight bytes are long =
     le_bytes_8 (take 8 bytes) (little_number 8 bytes) (omega (arith, length-take 8 bytes)) (IsBytes-take 8 bytes are)
-    (omega (arith, get_or-take 8 bytes 0 0 (lit< tt), get_or-take 8 bytes 1 0 (lit< tt), get_or-take 8 bytes 2 0 (lit< tt), get_or-take 8 bytes 3 0 (lit< tt), get_or-take 8 bytes 4 0 (lit< tt), get_or-take 8 bytes 5 0 (lit< tt), get_or-take 8 bytes 6 0 (lit< tt), get_or-take 8 bytes 7 0 (lit< tt)))
+    (omega (
+      arith,
+      get_or-take 8 bytes 0 0 (lit< tt),
+      get_or-take 8 bytes 1 0 (lit< tt),
+      get_or-take 8 bytes 2 0
+          (lit< tt),
+      get_or-take 8 bytes 3 0 (lit< tt),
+      get_or-take 8 bytes 4 0 (lit< tt),
+      get_or-take 8 bytes 5 0
+          (lit< tt),
+      get_or-take 8 bytes 6 0 (lit< tt),
+      get_or-take 8 bytes 7 0 (lit< tt),
+    ))
 
 four : (bytes : List ℕ) → IsBytes bytes → 4 ≤ length bytes → little_bytes 4 (little_number 4 bytes) ≡ take 4 bytes
 four bytes are long =
     le_bytes_4 (take 4 bytes) (little_number 4 bytes) (omega (arith, length-take 4 bytes)) (IsBytes-take 4 bytes are)
-    (omega (arith, get_or-take 4 bytes 0 0 (lit< tt), get_or-take 4 bytes 1 0 (lit< tt), get_or-take 4 bytes 2 0 (lit< tt), get_or-take 4 bytes 3 0 (lit< tt)))
+    (omega (
+      arith,
+      get_or-take 4 bytes 0 0 (lit< tt),
+      get_or-take 4 bytes 1 0 (lit< tt),
+      get_or-take 4 bytes 2 0
+          (lit< tt),
+      get_or-take 4 bytes 3 0 (lit< tt),
+    ))
 
-pub u64_bytes-u64_at : (place : ℕ) (bytes : List ℕ) → IsBytes bytes → place + 8 ≤ length bytes → u64_bytes (u64_at place bytes) ≡ take 8 (drop place bytes)
+pub u64_bytes-u64_at : (place : ℕ) (bytes : List ℕ) → IsBytes bytes → place + 8 ≤ length bytes
+    → u64_bytes (u64_at place bytes) ≡ take 8 (drop place bytes)
 unfolding u64_bytes u64_at
-u64_bytes-u64_at place bytes are within = eight (drop place bytes) (IsBytes-drop place bytes are) (omega (arith, length-drop place bytes))
+u64_bytes-u64_at place bytes are within = eight (drop place bytes) (IsBytes-drop place bytes are)
+    (omega (arith, length-drop place bytes))
 
-pub u32_bytes-u32_at : (place : ℕ) (bytes : List ℕ) → IsBytes bytes → place + 4 ≤ length bytes → u32_bytes (u32_at place bytes) ≡ take 4 (drop place bytes)
+pub u32_bytes-u32_at : (place : ℕ) (bytes : List ℕ) → IsBytes bytes → place + 4 ≤ length bytes
+    → u32_bytes (u32_at place bytes) ≡ take 4 (drop place bytes)
 unfolding u32_bytes u32_at
-u32_bytes-u32_at place bytes are within = four (drop place bytes) (IsBytes-drop place bytes are) (omega (arith, length-drop place bytes))
+u32_bytes-u32_at place bytes are within = four (drop place bytes) (IsBytes-drop place bytes are)
+    (omega (arith, length-drop place bytes))
 
 -- a number that was read is in range
 pub u64_at-lt : (place : ℕ) (bytes : List ℕ) → IsBytes bytes → u64_at place bytes < 2 ^ 64

@@ -1,4 +1,5 @@
--- The fields of a text of bytes: numbers with the lowest byte first, and zeros (on-disk format, "all fields are little-endian").
+-- The fields of a text of bytes: numbers with the lowest byte first, and zeros (on-disk format, "all fields are
+-- little-endian").
 use Rattle.std.specs.Prelude.{ℕ, ◌<◌, List, drop, replicate, slice_index, slice_range, Bool, ◌==◌}
 use Rattle.std.specs.List.{list_all}
 use Rattle.byteorder.specs.Endian.{little_bytes, little_number}

@@ -39,7 +39,8 @@ impl GroupId {
         })
     }
 
-    /// The group of a number, as the keys of quota items have it (on-disk format, QGROUP_INFO). Each number is that of one group.
+    /// The group of a number, as the keys of quota items have it (on-disk format, QGROUP_INFO). Each number is that of
+    /// one group.
     pub fn from_number(number: u64) -> GroupId
         ensures { result ≡ number }
     {

@@ -1,4 +1,5 @@
-/// The rule that an image breaks, in the order in which a walk looks at them (on-disk format; the choice is this project's own).
+/// The rule that an image breaks, in the order in which a walk looks at them (on-disk format; the choice is this
+/// project's own).
 #[derive(Clone, Copy, Debug, PartialEq, Eq)]
 pub enum Rule {
     /// Neither place holds a superblock.

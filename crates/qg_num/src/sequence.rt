@@ -1,5 +1,6 @@
 // A list that clauses see as one.
-ghost use Rattle.std.specs.Prelude.{◌≡◌, ◌<◌, ◌≤◌, ◌==◌, ◌∷◌, ◌++◌, [], IfOk, OnOk, OnErr, length, take, drop, remove, slice_get, slice_set, slice_index_or};
+ghost use Rattle.std.specs.Prelude.{◌≡◌, ◌<◌, ◌≤◌, ◌==◌, ◌∷◌, ◌++◌, [], IfOk, OnOk, OnErr, length, take, drop, remove};
+ghost use Rattle.std.specs.Prelude.{slice_get, slice_set, slice_index_or};
 ghost use Rattle.std.specs.Borrow.{sem};
 ghost use Rattle.qg_num.specs.Lending.{LendsItem};
 
@@ -62,7 +63,8 @@ impl<T: Drop> Sequence<T> {
         Ok(())
     }
 
-    /// Puts an item in front of the one at an index, or at the end. Where memory is refused, the list stays as it was and the item is dropped.
+    /// Puts an item in front of the one at an index, or at the end. Where memory is refused, the list stays as it was
+    /// and the item is dropped.
     pub fn insert(&mut self, index: usize, item: T) -> Result<(), AllocError>
         requires { index ≤ length self.old }
         ensures ok { OnOk result (self.new ≡ take index self.old ++ item ∷ drop index self.old) }
@@ -175,7 +177,8 @@ impl<T: Copy> Sequence<T> {
         })
     }
 
-    /// Puts items in front of the one at an index, or at the end; those from there on move up once. Where memory is refused, the list stays as it was.
+    /// Puts items in front of the one at an index, or at the end; those from there on move up once. Where memory is
+    /// refused, the list stays as it was.
     pub fn insert_slice(&mut self, index: usize, items: &[T]) -> Result<(), AllocError>
         requires { index ≤ length self.old }
         ensures ok { OnOk result (self.new ≡ take index self.old ++ items.now ++ drop index self.old) }

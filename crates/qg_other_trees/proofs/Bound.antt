@@ -1,9 +1,11 @@
 -- The records of a book that knows a layout are among those of the layout, so that they weigh no more.
-use Rattle.std.proofs.Common.{◌≡◌, ℕ, ◌+◌, ◌<◌, ◌≤◌, Bool, true, false, List, [], ◌∷◌, ◌++◌, map, cond, refl, sym, ap, subst, ◌∙◌, arith, inl, inr}
+use Rattle.std.proofs.Common.{◌≡◌, ℕ, ◌+◌, ◌<◌, ◌≤◌, Bool, true, false, List, [], ◌∷◌, ◌++◌, map, cond, refl, sym, ap}
+use Rattle.std.proofs.Common.{subst, ◌∙◌, arith, inl, inr}
 use Rattle.std.specs.Prelude.{◌||◌, ◌==◌, Option, Some, None, Contains, if◌then◌else◌}
 use Rattle.std.specs.List.{count_by, filter_map, list_any, sum_by}
 use Rattle.std.proofs.lemmas.Bool.{and_parts, cases_Bool, cond-true, cond-false, eq-eqb, eqb-true, true≢false}
-use Rattle.std.proofs.lemmas.List.Elements.{All-contains, Contains-append_cases, Contains-append_left, Contains-append_right, recursion_from_All}
+use Rattle.std.proofs.lemmas.List.Elements.{All-contains, Contains-append_cases, Contains-append_left}
+use Rattle.std.proofs.lemmas.List.Elements.{Contains-append_right, recursion_from_All}
 use Rattle.std.proofs.lemmas.List.Sums.{sum_by-append, sum_by-cons}
 use Rattle.std.proofs.lemmas.Option.{same_Some}
 use Rattle.qg_node.specs.Nodes.{header_of, items_bytes}
@@ -12,7 +14,8 @@ use Rattle.qg_items.specs.declared.extent.Reference.{Reference}
 use Rattle.qg_image.specs.declared.element.Element.{Element}
 use Rattle.qg_image.specs.Need.{extent_records}
 use Rattle.qg_image.specs.Owed.{Owing, is_nothing, layout_extents, owed, owed_to}
-use Rattle.qg_image.specs.Record.{Record, distinct_records, extent_record, record_bytes, records_bytes, same_record, same_reference}
+use Rattle.qg_image.specs.Record.{Record, distinct_records, extent_record, record_bytes, records_bytes, same_record}
+use Rattle.qg_image.specs.Record.{same_reference}
 use Rattle.qg_image.specs.Record.Record.{ExtentOf, InfoOf, LimitOf, NodeOf, ReferenceTo, RelationOf, RootOf, Status}
 use Rattle.qg_image.specs.State.{Layout, Placed}
 use Rattle.qg_image.proofs.Contained.{contains_cases, contains_here, contains_later, none_contained}
@@ -23,7 +26,8 @@ use Rattle.qg_refs.specs.Book.{what_in}
 use Rattle.qg_refs.specs.Counts.{Ascend}
 use Rattle.qg_refs.proofs.RankOrder.{same_itself, same_reference_is}
 use Rattle.qg_extents.specs.Table.{IsTable, book_of}
-use Rattle.qg_extents.specs.Written.{extent_of, items_of_book, part_of, parts_of_book, parts_of_extent, record_of, record_part}
+use Rattle.qg_extents.specs.Written.{extent_of, items_of_book, part_of, parts_of_book, parts_of_extent, record_of}
+use Rattle.qg_extents.specs.Written.{record_part}
 use Rattle.qg_extents.proofs.Sayable.{entry-found, entry-may}
 use Rattle.qg_other_trees.specs.Telling.{Knows}
 use Rattle.qg_other_trees.proofs.Recorded.{begins_at, some_there, told_owed}
@@ -102,7 +106,8 @@ kept_once [] x has = absurd (none_contained x has)
 kept_once (y ∷ records) x has = elim (cases_Bool (list_any (same_record y) records)) [
   | inl again ↦
       subst (λ (list : List Record). Contains list x)
-      (sym (cond-true (list_any (same_record y) records) (distinct_records records) (y ∷ distinct_records records) again))
+      (sym (cond-true (list_any (same_record y) records) (distinct_records records) (y ∷ distinct_records records)
+      again))
       (elim (contains_cases y records x has) [
         | inl is ↦
             kept_once records x
@@ -111,7 +116,8 @@ kept_once (y ∷ records) x has = elim (cases_Bool (list_any (same_record y) rec
       ])
   | inr new ↦
       subst (λ (list : List Record). Contains list x)
-      (sym (cond-false (list_any (same_record y) records) (distinct_records records) (y ∷ distinct_records records) new))
+      (sym (cond-false (list_any (same_record y) records) (distinct_records records) (y ∷ distinct_records records)
+      new))
       (elim (contains_cases y records x has) [
         | inl is ↦
             subst (λ (r : Record). Contains (y ∷ distinct_records records) r) is
@@ -169,7 +175,8 @@ sum_within (x ∷ records) others differ within =
     let rest = sum_within records (cut.front ++ cut.back) differ.1
     (λ y has.
     without cut.front cut.back x y
-    (subst (λ (list : List Record). Contains list y) cut.are (within y (contains_later x records y has))) (apart y has)) in
+    (subst (λ (list : List Record). Contains list y) cut.are (within y (contains_later x records y has)))
+    (apart y has)) in
     let all : sum_by record_bytes others ≡ sum_by record_bytes (cut.front ++ x ∷ cut.back) =
     ap (λ (list : List Record). sum_by record_bytes list) cut.are in
     omega (arith, sum_by-cons record_bytes x records, all, sum_cut cut.front cut.back x, rest)
@@ -242,7 +249,8 @@ module _ (layout : Layout) (table : List (ℕ × Kept)) (is : IsTable table) (kn
   of_owed = map (λ (owing : Owing). ReferenceTo owing.address owing.reference) (owed layout)
 
   node_there : (x : Record) → Contains of_nodes x → Contains (extent_records layout) x
-  node_there x has = Contains-append_left (of_nodes ++ of_extents) of_owed x (Contains-append_left of_nodes of_extents x has)
+  node_there x has = Contains-append_left (of_nodes ++ of_extents) of_owed x
+      (Contains-append_left of_nodes of_extents x has)
 
   extent_there : (x : Record) → Contains of_extents x → Contains (extent_records layout) x
   extent_there x has =
@@ -257,7 +265,8 @@ module _ (layout : Layout) (table : List (ℕ × Kept)) (is : IsTable table) (kn
       let some = All-contains (λ (e : Counted). 0 < count_by (same_reference e.reference) (owed_to layout at))
       kept.references entry (λ i d inside. told_owed layout table is knows at kept i d there inside) has in
       let from = owing_of (owed layout) at entry.reference (some_counted (owed_to layout at) entry.reference some) in
-      let named = contains_map (λ (owing : Owing). ReferenceTo owing.address owing.reference) (owed layout) from.owing from.has in
+      let named = contains_map (λ (owing : Owing). ReferenceTo owing.address owing.reference)
+      (owed layout) from.owing from.has in
       let same : ReferenceTo from.owing.address from.owing.reference ≡ ReferenceTo at entry.reference =
       λ i. ReferenceTo (from.there i) (from.is i) in
       subst (λ (r : Record). Contains (extent_records layout) r) same
@@ -285,7 +294,8 @@ module _ (layout : Layout) (table : List (ℕ × Kept)) (is : IsTable table) (kn
     | NodeHere placed here block ↦
         let node = knows.nodes at placed here in
         let named = record_by at kept _ (ap what_in (sym there) ∙ node.known) in
-        let has = contains_map (λ (entry : ℕ × Placed). NodeOf entry.0 (header_of entry.1.node).level) layout.nodes (at, placed)
+        let has = contains_map (λ (entry : ℕ × Placed). NodeOf entry.0 (header_of entry.1.node).level) layout.nodes
+        (at, placed)
         (value_contained at layout.nodes placed here) in
         subst (λ (r : Record). Contains (extent_records layout) r) (sym named)
         (node_there (NodeOf at (header_of placed.node).level) has)
@@ -294,7 +304,8 @@ module _ (layout : Layout) (table : List (ℕ × Kept)) (is : IsTable table) (kn
         let known = ap what_in (sym there) ∙ ap (λ (q : ℕ). what_in (book_of table q)) (sym here) ∙ extent.known in
         let named = record_by at kept _ known in
         let has = contains_map (λ (e : Element). ExtentOf e.address e.bytes) (layout_extents layout) run run_named in
-        let moved : ExtentOf run.address run.bytes ≡ ExtentOf at run.bytes = ap (λ (q : ℕ). ExtentOf q run.bytes) here in
+        let moved : ExtentOf run.address run.bytes ≡ ExtentOf at run.bytes =
+        ap (λ (q : ℕ). ExtentOf q run.bytes) here in
         subst (λ (r : Record). Contains (extent_records layout) r) (moved ∙ sym named)
         (extent_there (ExtentOf run.address run.bytes) has)
     | NothingHere nothing ↦
@@ -323,6 +334,7 @@ module _ (layout : Layout) (table : List (ℕ × Kept)) (is : IsTable table) (kn
       let each = recursion_from_All (λ (entry : ℕ × Kept). Ascend entry.1.references) table
       (λ i d inside. (entry-may table i d is inside).sound.ascend) in
       let differ = book_differs table is.ascend each in
-      let within = sum_within (map extent_record (parts_of_book table)) (distinct_records (extent_records layout)) differ
+      let within = sum_within (map extent_record (parts_of_book table)) (distinct_records (extent_records layout))
+      differ
       (λ x has. kept_once (extent_records layout) x (all_there x has)) in
       omega (arith, book_weighs table, within)

@@ -40,8 +40,10 @@ one_leaf nodesize owner generation items slots nodes root level size light is =
 -- ---- any trees
 
 -- a tree has no more nodes than its items can ask for
-pub few_nodes : (nodesize owner generation : ℕ) (items : List Item) (slots : List ℕ) (nodes : List Node) (root level : ℕ)
-    → IsBuilt nodesize owner generation items slots nodes root level → length nodes ≤ most_nodes nodesize (items_bytes items)
+pub few_nodes : (nodesize owner generation : ℕ) (items : List Item) (slots : List ℕ) (nodes : List Node)
+    (root level : ℕ)
+    → IsBuilt nodesize owner generation items slots nodes root level
+    → length nodes ≤ most_nodes nodesize (items_bytes items)
 few_nodes nodesize owner generation items slots nodes root level is =
     elim (cases_Bool (nat_le (items_bytes items) (capacity nodesize))) [
       | inl fits ↦

@@ -21,7 +21,8 @@ module _ (state : State) (whole : IsWhole state) where
   item_of entry tree = (entry.0, root_item_of entry.1 (root_node state whole entry.1 tree))
 
   -- the ROOT_ITEMs of subvolumes that have trees
-  abbrev pub items_of : (subvolumes : List (ℕ × Subvolume)) → AllByRecursion (λ entry. IsTreeOf state entry.1) subvolumes
+  abbrev pub items_of : (subvolumes : List (ℕ × Subvolume))
+      → AllByRecursion (λ entry. IsTreeOf state entry.1) subvolumes
       → List (ℕ × RootItem)
   items_of [] trees = []
   items_of (entry ∷ subvolumes) trees = item_of entry trees.0 ∷ items_of subvolumes trees.1
@@ -29,7 +30,8 @@ module _ (state : State) (whole : IsWhole state) where
   abbrev own_item : ℕ × Subvolume → Option (ℕ × RootItem)
   own_item entry = option_map (λ root. (entry.0, root_item_of entry.1 root)) (node_at state.layout entry.1.root)
 
-  each_has_root : (subvolumes : List (ℕ × Subvolume)) (trees : AllByRecursion (λ entry. IsTreeOf state entry.1) subvolumes)
+  each_has_root : (subvolumes : List (ℕ × Subvolume))
+      (trees : AllByRecursion (λ entry. IsTreeOf state entry.1) subvolumes)
       → filter_map own_item subvolumes ≡ items_of subvolumes trees
   each_has_root [] trees = refl
   each_has_root (entry ∷ subvolumes) trees =
@@ -39,8 +41,10 @@ module _ (state : State) (whole : IsWhole state) where
   unfolding subvolume_items
   items_are = each_has_root state.subvolumes whole.trees
 
-  module _ (super : Super) (image : List ℕ) (comes : IsToCome state super) (holds : HoldsLayout super image state.layout) where
-    all_found : (subvolumes : List (ℕ × Subvolume)) (trees : AllByRecursion (λ entry. IsTreeOf state entry.1) subvolumes)
+  module _ (super : Super) (image : List ℕ) (comes : IsToCome state super)
+      (holds : HoldsLayout super image state.layout) where
+    all_found : (subvolumes : List (ℕ × Subvolume))
+        (trees : AllByRecursion (λ entry. IsTreeOf state entry.1) subvolumes)
         → nodes_of_roots super image (items_of subvolumes trees) ≡ all_nodes state whole subvolumes trees
     all_found [] trees = refl
     all_found (entry ∷ subvolumes) trees =
@@ -61,4 +65,5 @@ are_those_of state super image whole comes holds served runs walked =
       met = met state whole served runs slots;
       there = (finds state whole).each;
     } in
-    subst (λ (nodes : List Node). AreThoseOf state.layout nodes) (sym (those_found state whole super image comes holds)) are
+    subst (λ (nodes : List Node). AreThoseOf state.layout nodes) (sym (those_found state whole super image comes holds))
+    are

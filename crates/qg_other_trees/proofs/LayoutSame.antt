@@ -12,7 +12,8 @@ use Rattle.qg_super.specs.Places.{is_served, is_slot}
 use Rattle.qg_image.specs.declared.part.ExtentPart.{ExtentPart}
 use Rattle.qg_image.specs.declared.part.ExtentPart.TheVariants.{DataRecord, NodeRecord, Referenced}
 use Rattle.qg_image.specs.Table.{value_at}
-use Rattle.qg_image.specs.Owed.{Agrees, What, agrees_at, are_references, is_record, is_recorded_once, node_flags, owed_to, what_at}
+use Rattle.qg_image.specs.Owed.{Agrees, What, agrees_at, are_references, is_record, is_recorded_once, node_flags}
+use Rattle.qg_image.specs.Owed.{owed_to, what_at}
 use Rattle.qg_image.specs.Owed.What.{Block}
 use Rattle.qg_image.specs.State.{Layout, Placed, State, layout_of, node_at}
 use Rattle.qg_image.specs.ImageState.{is_full_record, placed}
@@ -66,13 +67,15 @@ once_marks header full refs (Referenced other reference count ∷ []) once = abs
 once_marks header full refs (NodeRecord other level extent ∷ []) once =
     let made = and_parts ((level == header.level) && (extent.flags == node_flags full) && (extent.refs == refs))
     (extent.generation == header.generation) once in
-    let counted = and_parts ((level == header.level) && (extent.flags == node_flags full)) (extent.refs == refs) made.0 in
+    let counted = and_parts ((level == header.level) && (extent.flags == node_flags full))
+    (extent.refs == refs) made.0 in
     let marked = and_parts (level == header.level) (extent.flags == node_flags full) counted.0 in
     flags_mark extent.flags full (eqb-true extent.flags (node_flags full) marked.1)
 once_marks header full refs (part ∷ other ∷ records) once = absurd cc
 
 agrees_once : (layout : Layout) (parts : List ExtentPart) (q : ℕ) → agrees_at layout parts q ≡ true
-    → is_recorded_once (what_at layout q) (told_sum (told_in (parts_at parts q))) (filter is_record (parts_at parts q)) ≡ true
+    → is_recorded_once (what_at layout q) (told_sum (told_in (parts_at parts q))) (filter is_record (parts_at parts q))
+    ≡ true
 unfolding agrees_at
 agrees_once layout parts q agrees =
     (and_parts (is_recorded_once (what_at layout q) (told_sum (told_in (parts_at parts q)))
@@ -85,7 +88,8 @@ marks_told layout parts q here agrees there =
     let what : what_at layout q ≡ Block (header_of here.node) here.full = rw there refl in
     let refs = told_sum (told_in (parts_at parts q)) in
     let records = filter is_record (parts_at parts q) in
-    let once = subst (λ (w : What). is_recorded_once w refs records ≡ true) what (agrees_once layout parts q (agrees q)) in
+    let once = subst (λ (w : What). is_recorded_once w refs records ≡ true) what
+    (agrees_once layout parts q (agrees q)) in
     marks_at q parts ∙ once_marks (header_of here.node) here.full refs records once
 
 -- ---- the layout
@@ -109,12 +113,14 @@ module _ (state : State) (whole : IsWhole state) (served : is_served state.sizes
 
   alike : AgreeByAddress found
   alike = record {
-    agree = λ a b has has' same. same_Some a b (sym (found_at a has) ∙ ap (node_at state.layout) same ∙ found_at b has');
+    agree = λ a b has has' same. same_Some a b (sym (found_at a has) ∙ ap (node_at state.layout) same
+        ∙ found_at b has');
   }
 
   lies : (q : ℕ) (here : Placed) → value_at q state.layout ≡ Some here → address_of here.node ≡ q
   lies q here there =
-      (each_contained (IsReached state) state.layout (q, here) whole.reached (value_contained q state.layout here there)).placed
+      (each_contained (IsReached state) state.layout (q, here) whole.reached
+      (value_contained q state.layout here there)).placed
 
   laid_as : (q : ℕ) (here : Placed) → value_at q (layout_by parts found) ≡ Some here → here ≡ placed parts here.node
   laid_as q here there =

@@ -48,7 +48,8 @@ beside_quotas quotas (entry ∷ entries) numbers = elim (cases_Bool (nat_lt 8 en
       (rw (numbers.0, beside_quotas quotas entries numbers.1) refl)
 ]
 
-quotas_found : (quotas : RootItem) (entries : List (ℕ × RootItem)) → value_at 8 (with_value 8 quotas entries) ≡ Some quotas
+quotas_found : (quotas : RootItem) (entries : List (ℕ × RootItem))
+    → value_at 8 (with_value 8 quotas entries) ≡ Some quotas
 quotas_found quotas [] = refl
 quotas_found quotas (entry ∷ entries) = elim (cases_Bool (nat_lt 8 entry.0)) [
   | inl behind ↦ rw behind refl
@@ -100,7 +101,8 @@ has_beside n quotas (entry ∷ entries) differs numbers = elim (cases_Bool (nat_
   | inl behind ↦ rw behind (rw differs refl)
   | inr before ↦
       rw (before, other_than_quotas entry.0 numbers.0)
-      (ap (λ (rest : Option RootItem). if entry.0 == n then Some entry.1 else rest) (has_beside n quotas entries differs numbers.1))
+      (ap (λ (rest : Option RootItem). if entry.0 == n then Some entry.1 else rest)
+      (has_beside n quotas entries differs numbers.1))
 ]
 
 -- the top-level subvolume is named

@@ -1,5 +1,6 @@
 -- Each node of a whole layout is found from some subvolume's root down, and the layout is that of the image.
-use Rattle.std.proofs.Common.{◌≡◌, ℕ, Bool, true, false, List, [], ◌∷◌, ◌++◌, map, refl, sym, ap, subst, ◌∙◌, arith, inl, inr}
+use Rattle.std.proofs.Common.{◌≡◌, ℕ, Bool, true, false, List, [], ◌∷◌, ◌++◌, map, refl, sym, ap, subst, ◌∙◌, arith}
+use Rattle.std.proofs.Common.{inl, inr}
 use Rattle.std.specs.Prelude.{◌||◌, ◌==◌, Option, Some, Contains}
 use Rattle.std.specs.List.{AllByRecursion, flat_map, list_any}
 use Rattle.std.specs.Option.{option_map}
@@ -49,7 +50,8 @@ among_there q (first ∷ elements) among =
     there_more q first elements (among_there q elements) (first.address == q) refl among
 
 -- one of a list passes a test
-one_passes : {A : Type 0} (test : A → Bool) (xs : List A) → list_any test xs ≡ true → (x : A) × Contains xs x × (test x ≡ true)
+one_passes : {A : Type 0} (test : A → Bool) (xs : List A) → list_any test xs ≡ true
+    → (x : A) × Contains xs x × (test x ≡ true)
 one_passes test [] any = absurd cc
 one_passes test (x ∷ xs) any = elim (cases_Bool (test x)) [
   | inl is ↦ (x, contains_here x xs, is)
@@ -60,7 +62,8 @@ one_passes test (x ∷ xs) any = elim (cases_Bool (test x)) [
 ]
 
 -- a number that a table has tells a value
-key_tells : {A : Type 0} (q : ℕ) (table : List (ℕ × A)) → Contains (keys_of table) q → (value : A) × (value_at q table ≡ Some value)
+key_tells : {A : Type 0} (q : ℕ) (table : List (ℕ × A)) → Contains (keys_of table) q
+    → (value : A) × (value_at q table ≡ Some value)
 key_tells q [] has = absurd (none_contained q has)
 key_tells q (entry ∷ table) has = elim (cases_Bool (entry.0 == q)) [
   | inl same ↦ (entry.1, rw same refl)
@@ -123,10 +126,12 @@ module _ (state : State) (whole : IsWhole state) where
       (nodes state whole subvolume tree) (lie state whole) (nodes_there state whole subvolume tree)
 
   found_each : (subvolumes : List (ℕ × Subvolume)) (trees : AllByRecursion (λ entry. IsTreeOf state entry.1) subvolumes)
-      (node : Node) → Contains (all_nodes state whole subvolumes trees) node → node_at state.layout (address_of node) ≡ Some node
+      (node : Node) → Contains (all_nodes state whole subvolumes trees) node
+      → node_at state.layout (address_of node) ≡ Some node
   found_each [] trees node has = absurd (none_contained node has)
   found_each (entry ∷ subvolumes) trees node has =
-      elim (Contains-append_cases (nodes state whole entry.1 trees.0) (all_nodes state whole subvolumes trees.1) node has) [
+      elim (Contains-append_cases (nodes state whole entry.1 trees.0) (all_nodes state whole subvolumes trees.1) node
+      has) [
         | inl here ↦ (finds_one entry.1 trees.0).each node here
         | inr later ↦ found_each subvolumes trees.1 node later
       ]
@@ -177,7 +182,8 @@ module _ (state : State) (whole : IsWhole state) (served : is_served state.sizes
       let own = nodes state whole entry.1 tree in
       let of_node = one_flat_mapped (elements_of state.sizes.nodesize) own element.element element.has in
       let found_at = (finds_one state whole entry.1 tree).each of_node.0 of_node.1 in
-      elim (contains_cases (record { address = address_of of_node.0; bytes = state.sizes.nodesize }) (extents_named of_node.0)
+      elim (contains_cases (record { address = address_of of_node.0; bytes = state.sizes.nodesize })
+      (extents_named of_node.0)
       element.element of_node.2) [
         | inl is ↦
             let lies : address_of of_node.0 ≡ q = ap (λ (e : Element). e.address) is ∙ element.at in
@@ -203,7 +209,8 @@ module _ (state : State) (whole : IsWhole state) (served : is_served state.sizes
       let root = key_tells sub.0 layout.roots sub.1 in
       let entry = one_mapped (λ (entry : ℕ × Subvolume). (entry.0, entry.1.root)) state.subvolumes (sub.0, root.0)
       (value_contained sub.0 layout.roots root.0 root.1) in
-      let tree = each_contained (λ (entry : ℕ × Subvolume). IsTreeOf state entry.1) state.subvolumes entry.0 whole.trees entry.1 in
+      let tree = each_contained (λ (entry : ℕ × Subvolume). IsTreeOf state entry.1) state.subvolumes entry.0 whole.trees
+      entry.1 in
       let own : root.0 ≡ entry.0.1.root = ap (λ (pair : ℕ × ℕ). pair.1) (sym entry.2) in
       let told : value_at sub.0 layout.roots ≡ Some entry.0.1.root = root.1 ∙ ap (λ (r : ℕ). Some r) own in
       let among = sym (ap (is_among q) (reach_is sub.0 entry.0.1 tree told)) ∙ sub.2 in

@@ -71,4 +71,5 @@ one_root state subvolume node alone there = rw (alone, there) refl
 pub one_there : (state : State) (subvolume : Subvolume) (node : Node) → state.subvolumes ≡ (TOP_LEVEL, subvolume) ∷ []
     → node_at state.layout subvolume.root ≡ Some node → AllByRecursion (HasRoot state.layout) state.subvolumes
 one_there state subvolume node alone there =
-    subst (λ (list : List (ℕ × Subvolume)). AllByRecursion (HasRoot state.layout) list) (sym alone) (ap is_some there, tt)
+    subst (λ (list : List (ℕ × Subvolume)). AllByRecursion (HasRoot state.layout) list) (sym alone)
+    (ap is_some there, tt)

@@ -1,5 +1,6 @@
 -- What the layout of a whole state owes is owed to a node or a data extent that begins in it.
-use Rattle.std.proofs.Common.{◌≡◌, ℕ, zero, suc, ◌<◌, Bool, true, false, List, [], ◌∷◌, map, refl, sym, ap, subst, ◌∙◌, inl, inr}
+use Rattle.std.proofs.Common.{◌≡◌, ℕ, zero, suc, ◌<◌, Bool, true, false, List, [], ◌∷◌, map, refl, sym, ap, subst, ◌∙◌}
+use Rattle.std.proofs.Common.{inl, inr}
 use Rattle.std.specs.Prelude.{◌==◌, Option, Some, None, Contains}
 use Rattle.std.specs.List.{AllByRecursion, cons_option, filter_map, find, flat_map}
 use Rattle.std.specs.Option.{option_and_then, option_map}
@@ -22,7 +23,8 @@ use Rattle.qg_image.specs.Table.{value_at}
 use Rattle.qg_image.specs.declared.part.FilePart.{FilePart}
 use Rattle.qg_image.specs.declared.part.FilePart.TheVariants.{Inode, PieceOf}
 use Rattle.qg_image.specs.declared.element.Element.{Element}
-use Rattle.qg_image.specs.Owed.{Owing, is_nothing, layout_extents, owed, owed_by_node, owed_by_part, owed_count, owed_to, owed_to_child, what_at}
+use Rattle.qg_image.specs.Owed.{Owing, is_nothing, layout_extents, owed, owed_by_node, owed_by_part, owed_count}
+use Rattle.qg_image.specs.Owed.{owed_to, owed_to_child, what_at}
 use Rattle.qg_image.specs.Reach.{extent_of, piece_of_part, pieces_of}
 use Rattle.qg_image.specs.State.{Layout, Placed, State, Subvolume, layout_of, node_at}
 use Rattle.qg_image.proofs.Contained.{contains_cases, contains_here, contains_later, none_contained}
@@ -127,30 +129,37 @@ leaf_child found (Some (Leaf header items)) nodes node pointer are has leads =
     ]
 
 inner_child : (found : ℕ → Option Node) (level : ℕ)
-    → ((address : ℕ) (nodes : List Node) (node : Node) (pointer : Pointer) → nodes_below found level address ≡ Some nodes
+    → ((address : ℕ) (nodes : List Node) (node : Node) (pointer : Pointer)
+    → nodes_below found level address ≡ Some nodes
     → Contains nodes node → Contains (own_pointers node) pointer → IsSomeNode (found pointer.child))
     → (here : Option Node) (nodes : List Node) (node : Node) (pointer : Pointer)
     → option_and_then
-    (λ node. option_and_then (λ below. Some (node ∷ below)) (option_and_then (joined (λ pointer. nodes_below found level pointer.child)) (inner_pointers node)))
+    (λ node. option_and_then (λ below. Some (node ∷ below))
+    (option_and_then (joined (λ pointer. nodes_below found level pointer.child)) (inner_pointers node)))
     here ≡ Some nodes
     → Contains nodes node → Contains (own_pointers node) pointer → IsSomeNode (found pointer.child)
 inner_child found level lower None nodes node pointer are has leads = absurd cc
 inner_child found level lower (Some (Leaf header items)) nodes node pointer are has leads = absurd cc
 inner_child found level lower (Some (Inner header pointers)) nodes node pointer are has leads =
     some_below (joined (λ (p : Pointer). nodes_below found level p.child) pointers) refl are where
-      some_below : (below : Option (List Node)) → joined (λ (p : Pointer). nodes_below found level p.child) pointers ≡ below
-          → option_and_then (λ below. Some (Inner header pointers ∷ below)) below ≡ Some nodes → IsSomeNode (found pointer.child)
+      some_below : (below : Option (List Node)) → joined (λ (p : Pointer). nodes_below found level p.child) pointers
+          ≡ below
+          → option_and_then (λ below. Some (Inner header pointers ∷ below)) below ≡ Some nodes
+          → IsSomeNode (found pointer.child)
       some_below None is given = absurd cc
       some_below (Some below) is given =
-          let list = subst (λ (l : List Node). Contains l node) (sym (same_Some (Inner header pointers ∷ below) nodes given)) has in
+          let list = subst (λ (l : List Node). Contains l node)
+          (sym (same_Some (Inner header pointers ∷ below) nodes given)) has in
           elim (contains_cases (Inner header pointers) below node list) [
             | inl same ↦
                 let mine = subst (λ (n : Node). Contains (own_pointers n) pointer) (sym same) leads in
-                let under = joined_each (λ (p : Pointer). nodes_below found level p.child) pointers below pointer is mine in
+                let under = joined_each (λ (p : Pointer). nodes_below found level p.child) pointers below pointer is
+                mine in
                 let first = first_below found level pointer.child under.0 under.1 in
                 (first.node, first.is)
             | inr later ↦
-                let under = joined_one (λ (p : Pointer). nodes_below found level p.child) pointers below node is later in
+                let under = joined_one (λ (p : Pointer). nodes_below found level p.child) pointers below node is
+                later in
                 lower under.pointer.child under.list node pointer under.is under.has leads
           ]
 
@@ -177,7 +186,8 @@ given_contained f [] x y has is = absurd (none_contained x has)
 given_contained {A} {B} f (z ∷ xs) x y has is = elim (contains_cases z xs x has) [
   | inl same ↦
       let here : f z ≡ Some y = ap f same ∙ is in
-      subst (λ (o : Option B). Contains (cons_option o (filter_map f xs)) y) (sym here) (contains_here y (filter_map f xs))
+      subst (λ (o : Option B). Contains (cons_option o (filter_map f xs)) y) (sym here)
+      (contains_here y (filter_map f xs))
   | inr later ↦ behind (f z) (given_contained f xs x y later is)
 ]
   where
@@ -213,11 +223,14 @@ module _ (state : State) (whole : IsWhole state) (served : is_served state.sizes
   root_begins entry has =
       let from = one_mapped (λ (entry : ℕ × Subvolume). (entry.0, entry.1.root)) state.subvolumes entry has in
       let subvolume = from.0.1 in
-      let tree = each_contained (λ (entry : ℕ × Subvolume). IsTreeOf state entry.1) state.subvolumes from.0 whole.trees from.1 in
+      let tree = each_contained (λ (entry : ℕ × Subvolume). IsTreeOf state entry.1) state.subvolumes from.0 whole.trees
+      from.1 in
       subst (λ (e : ℕ × ℕ). is_nothing (what_at layout e.1) ≡ false) from.2
-      (block_begins layout subvolume.root (root_node state whole subvolume tree) (root_there state whole subvolume tree))
+      (block_begins layout subvolume.root (root_node state whole subvolume tree)
+      (root_there state whole subvolume tree))
 
-  node_begins : (entry : ℕ × Placed) (owing : Owing) → Contains state.layout entry → Contains (owed_by_node entry.1) owing
+  node_begins : (entry : ℕ × Placed) (owing : Owing) → Contains state.layout entry
+      → Contains (owed_by_node entry.1) owing
       → is_nothing (what_at layout owing.address) ≡ false
   unfolding owed_by_node layout_extents pieces_of
   node_begins entry owing has owes =
@@ -231,10 +244,12 @@ module _ (state : State) (whole : IsWhole state) (served : is_served state.sizes
         | inl to_child ↦
             let pointer = one_mapped child (own_pointers node) owing to_child in
             let at : pointer.0.child ≡ owing.address =
-            sym (child_address (header_of node) placed.full pointer.0.child) ∙ ap (λ (o : Owing). o.address) pointer.2 in
+            sym (child_address (header_of node) placed.full pointer.0.child)
+            ∙ ap (λ (o : Owing). o.address) pointer.2 in
             let under = one.entry.1 in
             let below = child_found (node_at state.layout) (level state whole under one.tree) under.root
-            (nodes state whole under one.tree) node pointer.0 (has_nodes state whole under one.tree).below one.one pointer.1 in
+            (nodes state whole under one.tree) node pointer.0 (has_nodes state whole under one.tree).below one.one
+            pointer.1 in
             subst (λ (q : ℕ). is_nothing (what_at layout q) ≡ false) at
             (block_begins layout pointer.0.child below.0 below.1)
         | inr to_extent ↦
@@ -245,13 +260,15 @@ module _ (state : State) (whole : IsWhole state) (served : is_served state.sizes
             (contains_map extent_of (pieces_of node) piece.0
             (given_contained (λ (i : Item). option_and_then piece_of_part (file_part i)) (own_items node) item.0 piece.0
             item.1 piece.1)) in
-            subst (λ (q : ℕ). is_nothing (what_at layout q) ≡ false) (sym piece.2) (named_begins layout (extent_of piece.0) named)
+            subst (λ (q : ℕ). is_nothing (what_at layout q) ≡ false) (sym piece.2)
+            (named_begins layout (extent_of piece.0) named)
       ]
 
   owing_begins : (owing : Owing) → Contains (owed layout) owing → is_nothing (what_at layout owing.address) ≡ false
   unfolding owed
   owing_begins owing has =
-      elim (Contains-append_cases (map root_owing layout.roots) (flat_map (λ (e : ℕ × Placed). owed_by_node e.1) state.layout) owing has) [
+      elim (Contains-append_cases (map root_owing layout.roots)
+      (flat_map (λ (e : ℕ × Placed). owed_by_node e.1) state.layout) owing has) [
         | inl to_root ↦
             let entry = one_mapped root_owing layout.roots owing to_root in
             subst (λ (o : Owing). is_nothing (what_at layout o.address) ≡ false) entry.2 (root_begins entry.0 entry.1)

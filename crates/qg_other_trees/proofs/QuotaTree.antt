@@ -21,11 +21,13 @@ use Rattle.qg_check.specs.Editable.{AreGroupsOf}
 use Rattle.qg_tree.specs.Build.{IsMadeFor}
 use Rattle.qg_tree.specs.Row.{address_of}
 use Rattle.qg_tree.specs.declared.building.Built.{Built}
-use Rattle.qg_other_trees.specs.Trees.{IsQuotaTreeOf, IsTreeOfItems, QuotaTells, most_nodes, quota_nodes_laid, quota_tree_bytes, quota_trees, root_item_laid}
+use Rattle.qg_other_trees.specs.Trees.{IsQuotaTreeOf, IsTreeOfItems, QuotaTells, most_nodes, quota_nodes_laid}
+use Rattle.qg_other_trees.specs.Trees.{quota_tree_bytes, quota_trees, root_item_laid}
 use Rattle.qg_other_trees.proofs.Enough.{most_filled}
 
 -- what holds of a value holds of one that may be there
-pub of_some : {A : Type 0} (P Q : A → Type 0) (given : Option A) → ((x : A) → P x → Q x) → IfSome given P → IfSome given Q
+pub of_some : {A : Type 0} (P Q : A → Type 0) (given : Option A) → ((x : A) → P x → Q x) → IfSome given P
+    → IfSome given Q
 of_some P Q None f h = tt
 of_some P Q (Some x) f h = f x h
 
@@ -74,7 +76,8 @@ quota_told_by nodesize generation (Some quota) slots (Some built) is = is.items
 quota_told_by nodesize generation _ slots _ is = []
 
 -- the tree of quota that is on
-pub record HasQuotaTree (nodesize generation : ℕ) (quota : Quota) (slots : List ℕ) (quotas : Option Built) : Type 0 where
+pub record HasQuotaTree (nodesize generation : ℕ) (quota : Quota) (slots : List ℕ) (quotas : Option Built) : Type
+    0 where
   pub built : Built
   pub there : quotas ≡ Some built
   pub stands : IsTreeOfItems Quotas QUOTA_TREE nodesize generation (QuotaTells generation quota) slots built

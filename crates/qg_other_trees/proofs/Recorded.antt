@@ -1,5 +1,6 @@
 -- What the items of a book say is exactly what a layout owes that the book knows.
-use Rattle.std.proofs.Common.{◌≡◌, ℕ, suc, ◌<◌, Bool, true, false, List, [], ◌∷◌, map, length, get_or, cond, refl, sym, ap, subst, ◌∙◌, arith, inl, inr}
+use Rattle.std.proofs.Common.{◌≡◌, ℕ, suc, ◌<◌, Bool, true, false, List, [], ◌∷◌, map, length, get_or, cond, refl, sym}
+use Rattle.std.proofs.Common.{ap, subst, ◌∙◌, arith, inl, inr}
 use Rattle.std.specs.Prelude.{◌&&◌, ◌==◌, nat_lt, Contains, Option, Some, None}
 use Rattle.std.specs.List.{AllByRecursion, count_by, filter, find, list_all, list_any}
 use Rattle.std.proofs.lemmas.Bool.{and_from, cases_Bool, cond-true, cond-false, eq-eqb, eqb-true, true≢false}
@@ -15,7 +16,9 @@ use Rattle.qg_items.specs.declared.extent.Reference.TheVariants.{KeyedBlock}
 use Rattle.qg_image.specs.Table.{value_at}
 use Rattle.qg_image.specs.declared.part.ExtentPart.{ExtentPart}
 use Rattle.qg_image.specs.declared.element.Element.{Element}
-use Rattle.qg_image.specs.Owed.{Agrees, What, agrees_at, are_references, is_nothing, is_record, is_record_of, is_recorded_once, is_told_once, layout_extents, node_flags, owed_count, owed_to, what_at}
+use Rattle.qg_image.specs.Owed.{Agrees, What, agrees_at, are_references, is_nothing, is_record, is_record_of}
+use Rattle.qg_image.specs.Owed.{is_recorded_once, is_told_once, layout_extents, node_flags, owed_count, owed_to}
+use Rattle.qg_image.specs.Owed.{what_at}
 use Rattle.qg_image.specs.Owed.What.{Nothing, Data, Block}
 use Rattle.qg_image.specs.Record.{same_reference}
 use Rattle.qg_image.specs.State.{Layout, Placed}
@@ -30,7 +33,8 @@ use Rattle.qg_refs.proofs.Counting.{count-cons, count-found, count-nil}
 use Rattle.qg_refs.proofs.RankOrder.{precedes_differs, same_itself}
 use Rattle.qg_extents.specs.Table.{IsTable, book_of}
 use Rattle.qg_extents.specs.Told.{parts_at, told_in, told_sum}
-use Rattle.qg_extents.specs.Written.{extent_of, part_of, parts_of_book, parts_of_extent, record_flags, record_of, record_part, refs_of}
+use Rattle.qg_extents.specs.Written.{extent_of, part_of, parts_of_book, parts_of_extent, record_flags, record_of}
+use Rattle.qg_extents.specs.Written.{record_part, refs_of}
 use Rattle.qg_extents.proofs.Back.{parts_at-book}
 use Rattle.qg_other_trees.specs.Telling.{Knows}
 
@@ -124,7 +128,8 @@ owed_some : (owed : List Reference) (x : Reference) → Contains owed x → 0 < 
 owed_some [] x has = absurd (none_contained x has)
 owed_some (y ∷ owed) x has = elim (contains_cases y owed x has) [
   | inl is ↦
-      let own : same_reference x y ≡ true = subst (λ (z : Reference). same_reference x z ≡ true) (sym is) (same_itself x) in
+      let own : same_reference x y ≡ true = subst (λ (z : Reference). same_reference x z ≡ true) (sym is)
+      (same_itself x) in
       let one : one_where (same_reference x y) ≡ 1 = cond-true _ _ _ own in
       omega (arith, one, sum_by-cons (λ (z : Reference). one_where (same_reference x z)) y owed)
   | inr later ↦
@@ -136,7 +141,8 @@ is_counted n m some same = grind (arith, nat_tests)
 
 all_counts : (owed : List Reference) (references : List Counted)
     → AllByRecursion (λ e. (0 < e.count) × (e.count ≡ owed_times owed e.reference)) references
-    → list_all (λ (entry : Reference × ℕ). nat_lt 0 entry.1 && (entry.1 == owed_times owed entry.0)) (map pair_of references)
+    → list_all (λ (entry : Reference × ℕ). nat_lt 0 entry.1 && (entry.1 == owed_times owed entry.0))
+    (map pair_of references)
     ≡ true
 all_counts owed [] are = refl
 all_counts owed (entry ∷ references) are =
@@ -269,7 +275,8 @@ agrees_by : (layout : Layout) (parts : List ExtentPart) (at : ℕ) (here : List 
     → are_references (told_in here) (owed_to layout at) ≡ true → agrees_at layout parts at ≡ true
 unfolding agrees_at
 agrees_by layout parts at here is once are =
-    subst (λ (some : List ExtentPart). (is_recorded_once (what_at layout at) (told_sum (told_in some)) (filter is_record some)
+    subst (λ (some : List ExtentPart).
+    (is_recorded_once (what_at layout at) (told_sum (told_in some)) (filter is_record some)
     && are_references (told_in some) (owed_to layout at)) ≡ true) (sym is)
     (and_from (is_recorded_once (what_at layout at) (told_sum (told_in here)) (filter is_record here))
     (are_references (told_in here) (owed_to layout at)) once are)
@@ -289,7 +296,8 @@ module _ (layout : Layout) (table : List (ℕ × Kept)) (is : IsTable table) (kn
     | NodeHere placed there block ↦
         absurd (nothing_known (book_of table at) _ none (knows.nodes at placed there).known)
     | ExtentHere run named there bytes ↦
-        absurd (nothing_known (book_of table run.address) _ (ap (book_of table) there ∙ none) (knows.extents run named).known)
+        absurd (nothing_known (book_of table run.address) _ (ap (book_of table) there ∙ none)
+        (knows.extents run named).known)
     | NothingHere nothing ↦ nothing
   ]
 
@@ -349,7 +357,8 @@ module _ (layout : Layout) (table : List (ℕ × Kept)) (is : IsTable table) (kn
       sym (ap (λ (k : Option Kept). count_of (references_in k) x) there) ∙ counts_at at x in
       let once : is_recorded_once (what_at layout at) (told_sum (told_in (parts_of_extent entry)))
       (filter is_record (parts_of_extent entry)) ≡ true =
-      subst (λ (records : List ExtentPart). is_recorded_once (what_at layout at) (told_sum (told_in (parts_of_extent entry)))
+      subst (λ (records : List ExtentPart). is_recorded_once (what_at layout at)
+      (told_sum (told_in (parts_of_extent entry)))
       records ≡ true) (sym (record_alone entry))
       (subst (λ (refs : ℕ). is_record_of (what_at layout at) refs (record_of entry) ≡ true)
       (sym (ap told_sum (told_extent entry) ∙ sum_pairs kept.references)) (right at kept there)) in

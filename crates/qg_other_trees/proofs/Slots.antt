@@ -1,5 +1,6 @@
 -- Elements of lists, slots in front and behind, and the nodes that lie in them.
-use Rattle.std.proofs.Common.{◌≡◌, ℕ, ◌+◌, ◌≤◌, List, [], ◌∷◌, ◌++◌, map, length, take, drop, refl, sym, ap, subst, ◌∙◌, arith, inl, inr}
+use Rattle.std.proofs.Common.{◌≡◌, ℕ, ◌+◌, ◌≤◌, List, [], ◌∷◌, ◌++◌, map, length, take, drop, refl, sym, ap, subst, ◌∙◌}
+use Rattle.std.proofs.Common.{arith, inl, inr}
 use Rattle.std.specs.Prelude.{◌==◌, Option, Some}
 use Rattle.std.specs.List.{AllByRecursion, Contains, IsDistinct, filter_map}
 use Rattle.std.proofs.lemmas.Bool.{cases_Bool, cond-true, cond-false, eqb-true}
@@ -28,7 +29,8 @@ pub value_contained : {A : Type 0} (q : ℕ) (table : List (ℕ × A)) (value : 
 value_contained q [] value is = absurd cc
 value_contained {A} q (entry ∷ table) value is = elim (cases_Bool (entry.0 == q)) [
   | inl same ↦
-      let held : Some entry.1 ≡ Some value = sym (cond-true (entry.0 == q) (Some entry.1) (value_at q table) same) ∙ is in
+      let held : Some entry.1 ≡ Some value = sym (cond-true (entry.0 == q) (Some entry.1) (value_at q table) same)
+      ∙ is in
       let at : entry.0 ≡ q = eqb-true entry.0 q same in
       let what : entry.1 ≡ value = same_Some entry.1 value held in
       let whole : entry ≡ (q, value) = λ i. (at i, what i) in

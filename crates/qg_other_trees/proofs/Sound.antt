@@ -1,5 +1,6 @@
 -- An image that holds the trees of a commit, and the nodes of a whole layout where they lie, is sound.
-use Rattle.std.proofs.Common.{◌≡◌, ℕ, ◌+◌, ◌≤◌, Bool, true, false, cond, List, [], ◌∷◌, ◌++◌, map, length, get_or, not, refl, sym, ap, subst, ◌∙◌}
+use Rattle.std.proofs.Common.{◌≡◌, ℕ, ◌+◌, ◌≤◌, Bool, true, false, cond, List, [], ◌∷◌, ◌++◌, map, length, get_or, not}
+use Rattle.std.proofs.Common.{refl, sym, ap, subst, ◌∙◌}
 use Rattle.std.specs.Bool.{then_some}
 use Rattle.std.specs.Prelude.{◌&&◌, ◌==◌, nat_le, nat_lt, unwrap_or, Option, Some, None, Ok, slice_range}
 use Rattle.std.specs.List.{All, AllByRecursion, IsDistinct, filter_map, find, list_all}
@@ -33,9 +34,13 @@ use Rattle.qg_image.specs.State.{Layout, Placed, State, Subvolume, layout_of, ne
 use Rattle.qg_image.specs.declared.failure.Failure.{Failure}
 use Rattle.qg_image.specs.declared.tree.Tree.TheVariants.{Extents, Files, Quotas, Roots}
 use Rattle.qg_image.specs.Failure.{first_failure, unless}
-use Rattle.qg_image.specs.ImageState.{as_committed, extent_parts, items_of_root, layout_in, nodes_of_root, of_tree, other_nodes, quota_in, quota_parts, quota_told, roots_in, state_in, subvolume_in, subvolume_roots, subvolumes_in, super_in, super_of, tree_nodes}
+use Rattle.qg_image.specs.ImageState.{as_committed, extent_parts, items_of_root, layout_in, nodes_of_root, of_tree}
+use Rattle.qg_image.specs.ImageState.{other_nodes, quota_in, quota_parts, quota_told, roots_in, state_in, subvolume_in}
+use Rattle.qg_image.specs.ImageState.{subvolume_roots, subvolumes_in, super_in, super_of, tree_nodes}
 use Rattle.qg_image.specs.OtherTrees.{subvolume_items, super_at}
-use Rattle.qg_image.specs.Verdict.{IsSound, are_few, are_roots, counts_failure, extent_set, is_quota, most_subvolumes, places_failure, quota_failure, references_failure, root_failure, roots_failure, space_failure, subvolume_failure, together_failure}
+use Rattle.qg_image.specs.Verdict.{IsSound, are_few, are_roots, counts_failure, extent_set, is_quota, most_subvolumes}
+use Rattle.qg_image.specs.Verdict.{places_failure, quota_failure, references_failure, root_failure, roots_failure}
+use Rattle.qg_image.specs.Verdict.{space_failure, subvolume_failure, together_failure}
 use Rattle.qg_image.specs.Walk.{node_found, root_expected, root_told, tree_failure}
 use Rattle.qg_machine.specs.Layout.{IsTreeOf, IsWhole}
 use Rattle.qg_reach.proofs.Layouts.{layout_by, layout_in-nodes}
@@ -49,14 +54,16 @@ use Rattle.qg_other_trees.specs.declared.laying.OtherTrees.{OtherTrees}
 use Rattle.qg_other_trees.specs.Holds.{AreRuns, HasCommit, HoldsLayout, IsToCome, IsTreeIn, nodes_of_roots}
 use Rattle.qg_other_trees.specs.Sound.{IsCommitted, KeepsRules, committed}
 use Rattle.qg_other_trees.specs.Telling.{IsStateOf}
-use Rattle.qg_other_trees.specs.Trees.{AreTrees, IsQuotaTreeOf, nodes_laid, quota_nodes_laid, root_item_laid, superblock_laid}
+use Rattle.qg_other_trees.specs.Trees.{AreTrees, IsQuotaTreeOf, nodes_laid, quota_nodes_laid, root_item_laid}
+use Rattle.qg_other_trees.specs.Trees.{superblock_laid}
 use Rattle.qg_other_trees.proofs.Found.{item_of, items_are, items_of, those_found}
 use Rattle.qg_other_trees.proofs.LayoutSame.{layout_is}
 use Rattle.qg_other_trees.proofs.Lists.{quota_few, quota_keeps, quota_said, quotas_named, roots_keep, subvolumes_named}
 use Rattle.qg_other_trees.proofs.MetNodes.{those}
 use Rattle.qg_other_trees.proofs.QuotaTree.{parts_if, quota_walked, root_if}
 use Rattle.qg_other_trees.proofs.Recorded.{book_agrees}
-use Rattle.qg_other_trees.proofs.Telling.{are_those, behind_extents, behind_quotas, built_for, extents_root, for_extents, for_roots, others, quotas_root}
+use Rattle.qg_other_trees.proofs.Telling.{are_those, behind_extents, behind_quotas, built_for, extents_root}
+use Rattle.qg_other_trees.proofs.Telling.{for_extents, for_roots, others, quotas_root}
 use Rattle.qg_other_trees.proofs.TreesIn.{IsTreeIn-open, IsTreeIn-told, those_open, those_told}
 use Rattle.qg_other_trees.proofs.Walked.{in_slots, tree_in}
 use Rattle.qg_other_trees.proofs.Whole.{nodes}
@@ -131,7 +138,8 @@ files_fit : (generation : ℕ) (items : List Item) (files : List (ℕ × File)) 
     → are_files (file_parts items) ≡ true
 unfolding files_of
 files_fit generation items files h =
-    then_passes (list_all (is_file_item generation) items) (are_files (file_parts items)) (files_in (file_parts items)) files h
+    then_passes (list_all (is_file_item generation) items) (are_files (file_parts items)) (files_in (file_parts items))
+    files h
 
 none_found : (test : ℕ → Bool) (xs : List ℕ) → ((x : ℕ) → test x ≡ true) → find (λ x. not (test x)) xs ≡ None
 none_found test [] all = refl
@@ -141,7 +149,8 @@ nothing_disagrees : (layout : Layout) (parts : List ExtentPart) → Agrees layou
 unfolding disagreement
 nothing_disagrees layout parts agrees = none_found (agrees_at layout parts) _ agrees
 
-references_kept : (super : Super) (image : List ℕ) (layout : Layout) → disagreement layout (extent_parts super image) ≡ None
+references_kept : (super : Super) (image : List ℕ) (layout : Layout)
+    → disagreement layout (extent_parts super image) ≡ None
     → homeless layout ≡ None → references_failure super image layout ≡ None
 unfolding references_failure
 references_kept super image layout agree home = rw (agree, home) refl
@@ -158,7 +167,8 @@ record FindsQuota (super : Super) (image : List ℕ) (nodesize generation : ℕ)
   walked : root_failure Quotas super image (root_if generation quotas) ≡ None
 
 -- its items tell the quota
-quota_back : (nodesize generation : ℕ) (subvolumes : List ℕ) (quota : Option Quota) (slots : List ℕ) (quotas : Option Built)
+quota_back : (nodesize generation : ℕ) (subvolumes : List ℕ) (quota : Option Quota) (slots : List ℕ)
+    (quotas : Option Built)
     → AreGroupsOf generation subvolumes quota → IsQuotaTreeOf nodesize generation quota slots quotas
     → option_map (λ root. quota_told (parts_if generation quota)) (root_if generation quotas) ≡ quota
 quota_back nodesize generation subvolumes None slots None groups laid = refl
@@ -179,7 +189,8 @@ quota_passes super image nodesize generation subvolumes None slots (Some built) 
     absurd laid
 quota_passes super image nodesize generation subvolumes (Some quota) slots None roots groups laid same said walked =
     absurd laid
-quota_passes super image nodesize generation subvolumes (Some quota) slots (Some built) roots groups laid same said walked =
+quota_passes super image nodesize generation subvolumes (Some quota) slots (Some built) roots groups laid same said
+    walked =
     let root = root_item_laid built generation in
     let parts = quota_parts super image in
     let subs = keys_of (subvolume_roots roots) in
@@ -293,7 +304,8 @@ module _ (sizes : Sizes) (roots : List (ℕ × RootItem)) (book : List (ℕ × K
   quota_finds None here (Some built) laid there = absurd laid
   quota_finds (Some q) here None laid there = absurd laid
   quota_finds (Some q) here (Some built) laid there =
-      let fits = built_for sizes generation roots book quota slots trees state differ are is Quotas QUOTA_TREE _ here built refl
+      let fits = built_for sizes generation roots book quota slots trees state differ are is Quotas QUOTA_TREE _ here
+      built refl
       laid in
       let tree = IsTreeIn-told Quotas super sizes.nodesize QUOTA_TREE generation laid.items here built.nodes built.root
       built.level fits image there in
@@ -320,7 +332,8 @@ module _ (sizes : Sizes) (roots : List (ℕ × RootItem)) (book : List (ℕ × K
   extents_named = ap (value_at EXTENT_TREE) roots_said
 
   quotas_there : value_at QUOTA_TREE (roots_in super image) ≡ named_quotas
-  quotas_there = ap (value_at QUOTA_TREE) roots_said ∙ quotas_named generation named_extents roots named_quotas are.subvolumes
+  quotas_there = ap (value_at QUOTA_TREE) roots_said
+      ∙ quotas_named generation named_extents roots named_quotas are.subvolumes
 
   only : subvolume_roots (roots_in super image) ≡ roots
   only = ap subvolume_roots roots_said ∙ subvolumes_named generation named_extents roots named_quotas are.subvolumes
@@ -337,7 +350,8 @@ module _ (sizes : Sizes) (roots : List (ℕ × RootItem)) (book : List (ℕ × K
   quotas_said : quota_parts super image ≡ parts_if generation quota
   unfolding quota_parts
   quotas_said =
-      ap (λ (root : Option RootItem). filter_map quota_part (of_tree (items_of_root Quotas super image) root)) quotas_there
+      ap (λ (root : Option RootItem). filter_map quota_part (of_tree (items_of_root Quotas super image) root))
+      quotas_there
       ∙ quota_tree.parts
 
   agrees : Agrees (layout_of old) (extent_parts super image)
@@ -359,7 +373,8 @@ module _ (sizes : Sizes) (roots : List (ℕ × RootItem)) (book : List (ℕ × K
     abbrev named_root : RootItem
     named_root = (item_of old whole entry tree).1
 
-    file_tree : IsTreeIn Files super image (root_told named_root) named_root.bytenr tree.items (nodes old whole entry.1 tree)
+    file_tree : IsTreeIn Files super image (root_told named_root) named_root.bytenr tree.items
+        (nodes old whole entry.1 tree)
     file_tree = tree_in old super image whole comes holds entry.1 tree
 
     fit : are_files (file_parts tree.items) ≡ true
@@ -375,7 +390,8 @@ module _ (sizes : Sizes) (roots : List (ℕ × RootItem)) (book : List (ℕ × K
     one_passes : subvolume_failure super image named_root ≡ None
     one_passes =
         let test = are_files (file_parts (items_of_root Files super image named_root)) in
-        both_none (tree_failure Files super image (root_told named_root) named_root.bytenr) (unless test rule.File named_root.bytenr)
+        both_none (tree_failure Files super image (root_told named_root) named_root.bytenr)
+        (unless test rule.File named_root.bytenr)
         file_tree.walked
         (kept_so test rule.File named_root.bytenr
         (ap (λ (items : List Item). are_files (file_parts items)) file_tree.items_are ∙ fit))
@@ -386,13 +402,15 @@ module _ (sizes : Sizes) (roots : List (ℕ × RootItem)) (book : List (ℕ × K
   all_in (entry ∷ subvolumes) trees = rw (own_in entry trees.0, all_in subvolumes trees.1) refl
 
   all_pass : (subvolumes : List (ℕ × Subvolume)) (trees : AllByRecursion (λ entry. IsTreeOf old entry.1) subvolumes)
-      → first_failure (map (λ entry. subvolume_failure super image entry.1) (items_of old whole subvolumes trees)) ≡ None
+      → first_failure (map (λ entry. subvolume_failure super image entry.1) (items_of old whole subvolumes trees))
+      ≡ None
   all_pass [] trees = refl
   all_pass (entry ∷ subvolumes) trees = rw (one_passes entry trees.0) (all_pass subvolumes trees.1)
 
   -- ---- the state
 
-  root_nodes_are : tree_nodes Roots super image (root_expected None None) super.root ≡ are.root_tree.stands.reached.those
+  root_nodes_are : tree_nodes Roots super image (root_expected None None) super.root
+      ≡ are.root_tree.stands.reached.those
   root_nodes_are = root_tree.nodes_are ∙ root_order
 
   extent_nodes_are : of_tree (nodes_of_root Extents super image) (value_at EXTENT_TREE (roots_in super image))
@@ -413,20 +431,23 @@ module _ (sizes : Sizes) (roots : List (ℕ × RootItem)) (book : List (ℕ × K
   subvolumes_are : subvolumes_in super image ≡ old.subvolumes
   unfolding subvolumes_in
   subvolumes_are =
-      ap (λ (named : List (ℕ × RootItem)). map (λ entry. (entry.0, subvolume_in super image entry.1)) named) (only ∙ roots_of_old)
+      ap (λ (named : List (ℕ × RootItem)). map (λ entry. (entry.0, subvolume_in super image entry.1)) named) (only
+      ∙ roots_of_old)
       ∙ all_in old.subvolumes whole.trees
 
   layout_same : layout_in super image ≡ old.layout
   layout_same =
       let nodes_are : nodes_of_roots super image (subvolume_roots (roots_in super image)) ≡ those old whole =
-      ap (nodes_of_roots super image) (only ∙ sym is.roots_are ∙ same_items []) ∙ those_found old whole super image comes holds in
+      ap (nodes_of_roots super image) (only ∙ sym is.roots_are ∙ same_items [])
+      ∙ those_found old whole super image comes holds in
       layout_in-nodes super image
       ∙ ap (λ (list : List Node). layout_by (extent_parts super image) list) nodes_are
       ∙ layout_is old whole served runs (in_slots old super image whole comes holds) (extent_parts super image) agrees
 
   quota_same : quota_in super image ≡ quota
   quota_same =
-      ap (λ (root : Option RootItem). option_map (λ (own : RootItem). quota_told (quota_parts super image)) root) quotas_there
+      ap (λ (root : Option RootItem). option_map (λ (own : RootItem). quota_told (quota_parts super image)) root)
+      quotas_there
       ∙ ap (λ (parts : List QuotaPart). option_map (λ (own : RootItem). quota_told parts) named_quotas) quotas_said
       ∙ quota_back sizes.nodesize generation (keys_of roots) quota behind trees.quotas are.groups are.quota_tree
 
@@ -452,8 +473,10 @@ module _ (sizes : Sizes) (roots : List (ℕ × RootItem)) (book : List (ℕ × K
   state_same : state_in super image ≡ committed laid old quota
   state_same =
       state_parts
-      ∙ ap (λ (list : List Node). now list (subvolumes_in super image) (layout_in super image) (quota_in super image)) others_in
-      ∙ ap (λ (list : List (ℕ × Subvolume)). now laid list (layout_in super image) (quota_in super image)) subvolumes_are
+      ∙ ap (λ (list : List Node). now list (subvolumes_in super image) (layout_in super image) (quota_in super image))
+      others_in
+      ∙ ap (λ (list : List (ℕ × Subvolume)). now laid list (layout_in super image) (quota_in super image))
+      subvolumes_are
       ∙ ap (λ (list : List (ℕ × Placed)). now laid old.subvolumes list (quota_in super image)) layout_same
       ∙ ap (λ (quota : Option Quota). now laid old.subvolumes old.layout quota) quota_same
 
@@ -480,13 +503,15 @@ module _ (sizes : Sizes) (roots : List (ℕ × RootItem)) (book : List (ℕ × K
 
   quota_pass : quota_failure super image (roots_in super image) named_quotas ≡ None
   quota_pass =
-      quota_passes super image sizes.nodesize generation (keys_of roots) quota behind trees.quotas (roots_in super image)
+      quota_passes super image sizes.nodesize generation (keys_of roots) quota behind trees.quotas
+      (roots_in super image)
       are.groups are.quota_tree subvolumes_keyed quotas_said quota_tree.walked
 
   quotas_pass : quota_failure super image (roots_in super image) (value_at QUOTA_TREE (roots_in super image)) ≡ None
   quotas_pass = ap (quota_failure super image (roots_in super image)) quotas_there ∙ quota_pass
 
-  subvolumes_pass : first_failure (map (λ entry. subvolume_failure super image entry.1) (subvolume_roots (roots_in super image)))
+  subvolumes_pass : first_failure
+      (map (λ entry. subvolume_failure super image entry.1) (subvolume_roots (roots_in super image)))
       ≡ None
   subvolumes_pass =
       ap (λ (named : List (ℕ × RootItem)). first_failure (map (λ entry. subvolume_failure super image entry.1) named))
@@ -506,12 +531,14 @@ module _ (sizes : Sizes) (roots : List (ℕ × RootItem)) (book : List (ℕ × K
   references_pass : references_failure super image (layout_of (state_in super image)) ≡ None
   references_pass =
       ap (references_failure super image) layout_now
-      ∙ references_kept super image (layout_of old) (nothing_disagrees (layout_of old) (extent_parts super image) agrees) home
+      ∙ references_kept super image (layout_of old)
+      (nothing_disagrees (layout_of old) (extent_parts super image) agrees) home
 
   counts_pass : counts_failure (layout_of (state_in super image)) (state_in super image).quota ≡ None
   counts_pass = ap (λ (now : State). counts_failure (layout_of now) now.quota) state_same ∙ counts
 
-  places_pass_here : places_failure super (super_in image first_place) (super_in image second_place) (length image) ≡ None
+  places_pass_here : places_failure super (super_in image first_place) (super_in image second_place) (length image)
+      ≡ None
   places_pass_here = rw (has.first, has.second) (places_pass super (length image) has.long)
 
   keeps : KeepsRules super image

@@ -1,5 +1,6 @@
 -- A layout is a table that ascends.
-use Rattle.std.proofs.Common.{◌≡◌, ℕ, zero, suc, ◌+◌, ◌<◌, ◌≤◌, Bool, true, false, cond, List, [], ◌∷◌, length, get_or, refl, sym, subst, arith, inl, inr, add-one}
+use Rattle.std.proofs.Common.{◌≡◌, ℕ, zero, suc, ◌+◌, ◌<◌, ◌≤◌, Bool, true, false, cond, List, [], ◌∷◌, length, get_or}
+use Rattle.std.proofs.Common.{refl, sym, subst, arith, inl, inr, add-one}
 use Rattle.std.specs.Prelude.{◌==◌, nat_lt, Contains}
 use Rattle.std.specs.List.{AllByRecursion}
 use Rattle.std.specs.List.Sorted.{IsStrictlyIncreasing}
@@ -68,7 +69,8 @@ nodes-ascend parts layout (node ∷ nodes) up =
     nodes-ascend parts (with_value (address_of node) (placed parts node) layout) nodes
     (with_value-ascends 0 (address_of node) (placed parts node) layout (omega arith) up)
 
-pub layout-ascends : (parts : List ExtentPart) (nodes : List Node) → IsStrictlyIncreasing (keys_of (layout_by parts nodes))
+pub layout-ascends : (parts : List ExtentPart) (nodes : List Node)
+    → IsStrictlyIncreasing (keys_of (layout_by parts nodes))
 layout-ascends parts nodes = increasing 0 (keys_of (layout_by parts nodes)) (nodes-ascend parts [] nodes tt)
 
 all_with : {A : Type 0} (P : ℕ × A → Type 0) (n : ℕ) (value : A) (table : List (ℕ × A)) → P (n, value)
@@ -87,7 +89,8 @@ all_with {A} P n value (entry ∷ table) here all =
     ] in
     elim (cases_Bool (nat_lt n entry.0)) [
       | inl before ↦
-          subst (AllByRecursion P) (sym (cond-true (nat_lt n entry.0) ((n, value) ∷ entry ∷ table) kept before)) (here, all)
+          subst (AllByRecursion P) (sym (cond-true (nat_lt n entry.0) ((n, value) ∷ entry ∷ table) kept before))
+          (here, all)
       | inr after ↦
           subst (AllByRecursion P) (sym (cond-false (nat_lt n entry.0) ((n, value) ∷ entry ∷ table) kept after)) rest
     ]

@@ -7,7 +7,8 @@ use Rattle.std.specs.Option.{option_map}
 use Rattle.std.proofs.lemmas.Bool.{and_from, le-leb, lt-ltb}
 use Rattle.std.proofs.lemmas.List.{append_assoc}
 use Rattle.std.proofs.lemmas.List.Elements.{Contains-append_left}
-use Rattle.std.proofs.lemmas.List.Sorted.{Contains-permutation, IsPermutation-append, IsPermutation-append_comm, IsPermutation-map, IsPermutation-sym}
+use Rattle.std.proofs.lemmas.List.Sorted.{Contains-permutation, IsPermutation-append, IsPermutation-append_comm}
+use Rattle.std.proofs.lemmas.List.Sorted.{IsPermutation-map, IsPermutation-sym}
 use Rattle.std.proofs.lemmas.Map.Keys.{IsDistinct-IsPermutation}
 use Rattle.qg_node.specs.declared.item.Item.{Item}
 use Rattle.qg_node.specs.declared.node.Node.{Node}
@@ -35,7 +36,8 @@ use Rattle.qg_tree.proofs.Frame.{AllByRecursion-append, IsDistinct-front}
 use Rattle.qg_other_trees.specs.declared.laying.OtherTrees.{OtherTrees}
 use Rattle.qg_other_trees.specs.Telling.{AreToldBy, IsStateOf}
 use Rattle.qg_check.specs.Editable.{AreGroupsOf}
-use Rattle.qg_other_trees.specs.Trees.{AreTrees, IsQuotaTreeOf, IsTreeOfItems, nodes_laid, quota_nodes_laid, root_item_laid}
+use Rattle.qg_other_trees.specs.Trees.{AreTrees, IsQuotaTreeOf, IsTreeOfItems, nodes_laid, quota_nodes_laid}
+use Rattle.qg_other_trees.specs.Trees.{root_item_laid}
 use Rattle.qg_other_trees.proofs.Lists.{quota_said, quotas_named, subvolumes_named}
 use Rattle.qg_other_trees.proofs.Others.{format, tree_open, tree_told}
 use Rattle.qg_other_trees.proofs.QuotaTree.{quota_placed, quota_same, quota_told_by, quota_walked, root_if}
@@ -55,10 +57,12 @@ generation_now generation some =
 pub record TellsQuota (super : Super) (nodesize generation : ℕ) (quota : Option Quota) (slots : List ℕ)
     (quotas : Option Built) (laid : IsQuotaTreeOf nodesize generation quota slots quotas) : Type 0 where
   pub tree : IsTreeOfRoot Quotas super (root_if generation quotas)
-      (quota_walked nodesize generation quota slots quotas laid) (quota_told_by nodesize generation quota slots quotas laid)
+      (quota_walked nodesize generation quota slots quotas laid)
+      (quota_told_by nodesize generation quota slots quotas laid)
   pub formats : AllByRecursion (IsOfFormat nodesize) (quota_walked nodesize generation quota slots quotas laid)
   pub says : quota
-      ≡ option_map (λ root. quota_told (filter_map quota_part (quota_told_by nodesize generation quota slots quotas laid)))
+      ≡ option_map (λ root. quota_told
+      (filter_map quota_part (quota_told_by nodesize generation quota slots quotas laid)))
       (root_if generation quotas)
 
 module _ (sizes : Sizes) (generation : ℕ) (roots : List (ℕ × RootItem)) (book : List (ℕ × Kept)) (quota : Option Quota)
@@ -180,7 +184,8 @@ module _ (sizes : Sizes) (generation : ℕ) (roots : List (ℕ × RootItem)) (bo
   apart : IsDistinct (λ a b. a == b) (addresses_of others)
   apart =
       IsDistinct-IsPermutation (λ a b. a == b) flips (map address_of (nodes_laid trees)) (map address_of others)
-      (IsPermutation-map address_of (nodes_laid trees) others (IsPermutation-sym others (nodes_laid trees) moved)) laid_apart
+      (IsPermutation-map address_of (nodes_laid trees) others (IsPermutation-sym others (nodes_laid trees) moved))
+      laid_apart
 
   -- ---- each is a tree
 
@@ -209,9 +214,11 @@ module _ (sizes : Sizes) (generation : ℕ) (roots : List (ℕ × RootItem)) (bo
       quota_said generation (keys_of roots) q groups
       ∙ ap (λ (parts : List QuotaPart). quota_told parts) (sym laid.told.told) in
       record {
-        tree = tree_told Quotas leads sizes.nodesize QUOTA_TREE generation laid.items here built.nodes built.root built.level
+        tree = tree_told Quotas leads sizes.nodesize QUOTA_TREE generation laid.items here built.nodes built.root
+            built.level
             fits differs;
-        formats = format Quotas leads sizes.nodesize QUOTA_TREE generation laid.items here built.nodes built.root built.level
+        formats = format Quotas leads sizes.nodesize QUOTA_TREE generation laid.items here built.nodes built.root
+            built.level
             fits differs;
         says = ap (λ (quota : Quota). Some quota) said;
       }
@@ -241,7 +248,8 @@ module _ (sizes : Sizes) (generation : ℕ) (roots : List (ℕ × RootItem)) (bo
 
   subvolumes : subvolume_roots (filter_map root_part are.root_tree.items) ≡ subvolume_items state
   subvolumes =
-      ap subvolume_roots named ∙ subvolumes_named generation extents_root roots quotas_root are.subvolumes ∙ sym is.roots_are
+      ap subvolume_roots named ∙ subvolumes_named generation extents_root roots quotas_root are.subvolumes
+      ∙ sym is.roots_are
 
   agrees : Agrees (layout_of state) (filter_map extent_part are.extent_tree.items)
   agrees =
@@ -266,7 +274,8 @@ module _ (sizes : Sizes) (generation : ℕ) (roots : List (ℕ × RootItem)) (bo
     extents = extents_told;
     agrees = agrees;
     quota_root = quotas_root;
-    quotas_named = ap (value_at QUOTA_TREE) named ∙ quotas_named generation extents_root roots quotas_root are.subvolumes;
+    quotas_named = ap (value_at QUOTA_TREE) named
+        ∙ quotas_named generation extents_root roots quotas_root are.subvolumes;
     quota_nodes = quota_those;
     quota_items = quota_items;
     quotas = quotas_told.tree;

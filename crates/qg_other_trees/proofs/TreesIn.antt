@@ -1,6 +1,7 @@
 -- A tree that was built, where each of its nodes is found at its address, also in an image.
 use Rattle.std.proofs.Common.{◌≡◌, ℕ, zero, suc, ◌-◌, Bool, true, false, cond, List, [], ◌∷◌, refl, sym, ap, subst}
-use Rattle.std.specs.Prelude.{◌&&◌, ◌==◌, nat_le, nat_lt, is_none, unwrap_or, Option, Some, None, Result, Ok, Err, IsTrue}
+use Rattle.std.specs.Prelude.{◌&&◌, ◌==◌, nat_le, nat_lt, is_none, unwrap_or, Option, Some, None, Result, Ok, Err}
+use Rattle.std.specs.Prelude.{IsTrue}
 use Rattle.std.specs.List.{All, AllByRecursion, list_all}
 use Rattle.std.specs.Result.{result_ok}
 use Rattle.std.proofs.lemmas.Bool.{and_parts, and_from, eqb-true}
@@ -18,7 +19,9 @@ use Rattle.qg_image.specs.declared.failure.Failure.{Failure}
 use Rattle.qg_image.specs.declared.tree.Tree.{Tree}
 use Rattle.qg_image.specs.declared.expected.Expected.{Expected}
 use Rattle.qg_image.specs.Failure.{first_failure, unless}
-use Rattle.qg_image.specs.Walk.{is_generation, is_item_of, is_owner, is_told, way_failure, shape_failure, node_failure, node_found, pointers_failure, found_failure, walk_failure, deepest, root_expected, tree_failure}
+use Rattle.qg_image.specs.Walk.{is_generation, is_item_of, is_owner, is_told, way_failure, shape_failure, node_failure}
+use Rattle.qg_image.specs.Walk.{node_found, pointers_failure, found_failure, walk_failure, deepest, root_expected}
+use Rattle.qg_image.specs.Walk.{tree_failure}
 use Rattle.qg_image.specs.ItemsUnder.{is_way, items_under, nodes_under, nodes_of}
 use Rattle.qg_image.specs.ImageState.{level_in, tree_items, tree_nodes}
 use Rattle.qg_tree.specs.Build.{Allows, IsBuilt}
@@ -138,7 +141,8 @@ node_way : (tree : Tree) (super : Super) (expected : Expected) (address : ℕ) (
 unfolding node_failure
 node_way tree super expected address node none =
     let items = unless (list_all (is_item_of tree super.generation) (own_items node)) rule.Item address in
-    (three_none (way_failure tree super expected address node) (shape_failure super.nodesize expected address node) items
+    (three_none (way_failure tree super expected address node) (shape_failure super.nodesize expected address node)
+    items
     none).0
 
 node_opened : (tree : Tree) (super : Super) (level generation address : ℕ) (node : Node)
@@ -361,7 +365,8 @@ module _ (tree : Tree) (super : Super) (nodesize owner generation : ℕ) (items 
   pub IsTreeIn-told : IsTreeIn tree super image (root_expected (Some level) (Some generation)) root items nodes
   IsTreeIn-told =
       in_image (root_expected (Some level) (Some generation))
-      (stands_told tree super nodesize owner generation items slots nodes root level is (node_found super image) found_each)
+      (stands_told tree super nodesize owner generation items slots nodes root level is
+      (node_found super image) found_each)
 
   -- its nodes are in the order of the tree that was built
   pub those_told : IsTreeIn-told.those ≡ is.built.reached.those
@@ -371,7 +376,8 @@ module _ (tree : Tree) (super : Super) (nodesize owner generation : ℕ) (items 
   pub IsTreeIn-open : IsTreeIn tree super image (root_expected None None) root items nodes
   IsTreeIn-open =
       in_image (root_expected None None)
-      (stands_open tree super nodesize owner generation items slots nodes root level is (node_found super image) found_each)
+      (stands_open tree super nodesize owner generation items slots nodes root level is
+      (node_found super image) found_each)
 
   pub those_open : IsTreeIn-open.those ≡ is.built.reached.those
   unfolding in_image IsTreeIn-open

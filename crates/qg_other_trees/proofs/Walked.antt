@@ -25,7 +25,9 @@ use Rattle.qg_image.specs.declared.expected.Expected.{Expected}
 use Rattle.qg_image.specs.Failure.{unless}
 use Rattle.qg_image.specs.ImageState.{level_in, tree_items, tree_nodes}
 use Rattle.qg_image.specs.ItemsUnder.{is_way, items_under, nodes_of, nodes_under}
-use Rattle.qg_image.specs.Walk.{deepest, found_failure, in_slot, is_generation, is_item_of, is_owner, node_failure, node_found, pointers_failure, root_expected, shape_failure, tree_failure, walk_failure, way_failure}
+use Rattle.qg_image.specs.Walk.{deepest, found_failure, in_slot, is_generation, is_item_of, is_owner, node_failure}
+use Rattle.qg_image.specs.Walk.{node_found, pointers_failure, root_expected, shape_failure, tree_failure, walk_failure}
+use Rattle.qg_image.specs.Walk.{way_failure}
 use Rattle.qg_machine.specs.Layout.{IsTreeOf, IsWhole, found_in, super_to_come}
 use Rattle.qg_tree.proofs.Frame.{AllByRecursion-weaker, Judge, Keeps, neither, none_of_two, under_kept, walk_kept}
 use Rattle.qg_tree.proofs.Reached.{nodes_kept}
@@ -33,7 +35,8 @@ use Rattle.qg_other_trees.specs.Holds.{HoldsLayout, IsToCome, IsTreeIn, IsWalked
 use Rattle.qg_reach.proofs.Members.{each_contained}
 use Rattle.qg_other_trees.proofs.Slots.{value_contained}
 use Rattle.qg_other_trees.proofs.TreesIn.{four_kept, given_so, none_of_three, three_none, way_walked}
-use Rattle.qg_other_trees.proofs.Whole.{items_there, level, node_placed, nodes, nodes_there, root_node, root_there, there_is, way_passes}
+use Rattle.qg_other_trees.proofs.Whole.{items_there, level, node_placed, nodes, nodes_there, root_node, root_there}
+use Rattle.qg_other_trees.proofs.Whole.{there_is, way_passes}
 
 -- ---- what a judge sees of a superblock: the generation and the bytes of a node
 
@@ -180,14 +183,17 @@ module _ (state : State) (super : Super) (image : List ℕ) (whole : IsWhole sta
     root_image : node_found super image subvolume.root ≡ Ok at_root
     root_image = found_too subvolume.root at_root (root_there state whole subvolume tree)
 
-    walked_told : walk_failure (node_failure Files super) (node_found super image) deepest (told_of at_root) subvolume.root
+    walked_told : walk_failure (node_failure Files super) (node_found super image) deepest
+        (told_of at_root) subvolume.root
         ≡ None
     walked_told =
         let judge = node_failure Files super in
-        let kept = walk_kept (node_failure Files to_come) (found_in state.layout) (node_found super image) keeps_walk deepest
+        let kept = walk_kept (node_failure Files to_come) (found_in state.layout) (node_found super image) keeps_walk
+        deepest
         untold subvolume.root tree.walked in
         let mine = same_judges (node_failure Files to_come) judge (node_found super image) deepest untold subvolume.root
-        (λ expected address node. same_node Files to_come super expected address node (sym comes.generation) sized) kept in
+        (λ expected address node. same_node Files to_come super expected address node (sym comes.generation) sized)
+        kept in
         walk_closed judge (node_found super image) deepest subvolume.root at_root root_image
         (node_closed Files super subvolume.root at_root) mine
 
@@ -197,7 +203,8 @@ module _ (state : State) (super : Super) (image : List ℕ) (whole : IsWhole sta
         let judge = way_failure Files super in
         let none = way_walked Files to_come (found_in state.layout) untold subvolume.root
         (way_passes state whole subvolume tree) in
-        let kept = walk_kept (way_failure Files to_come) (found_in state.layout) (node_found super image) keeps_walk deepest
+        let kept = walk_kept (way_failure Files to_come) (found_in state.layout) (node_found super image) keeps_walk
+        deepest
         untold subvolume.root none in
         let mine = same_judges (way_failure Files to_come) judge (node_found super image) deepest untold subvolume.root
         (λ expected address node. same_way Files to_come super expected address node (sym comes.generation)) kept in
@@ -211,7 +218,8 @@ module _ (state : State) (super : Super) (image : List ℕ) (whole : IsWhole sta
     level_same : high ≡ level_in super image subvolume.root
     level_same = rw (root_there state whole subvolume tree, root_image) refl
 
-    items_image : items_under Files super (node_found super image) (level_in super image subvolume.root) (told_of at_root)
+    items_image : items_under Files super (node_found super image) (level_in super image subvolume.root)
+        (told_of at_root)
         subvolume.root ≡ Some tree.items
     items_image =
         let found = nodes_of (node_found super image) in
@@ -221,7 +229,8 @@ module _ (state : State) (super : Super) (image : List ℕ) (whole : IsWhole sta
         given_so (is_way Files super (node_found super image) (told_of at_root) subvolume.root)
         (items_below found (level_in super image subvolume.root) subvolume.root) tree.items way_image here
 
-    nodes_image : nodes_under Files super (node_found super image) (level_in super image subvolume.root) (told_of at_root)
+    nodes_image : nodes_under Files super (node_found super image) (level_in super image subvolume.root)
+        (told_of at_root)
         subvolume.root ≡ Some those
     nodes_image =
         let found = nodes_of (node_found super image) in

@@ -1,5 +1,6 @@
 -- The items of a book weigh what their records do, each once, and no more than the records of a layout that it knows.
-use Rattle.std.proofs.Common.{◌≡◌, ◌≢◌, ℕ, suc, ◌+◌, ◌<◌, Bool, true, false, List, [], ◌∷◌, ◌++◌, map, length, get_or, refl, sym, ap, subst, ◌∙◌, arith, inl, inr}
+use Rattle.std.proofs.Common.{◌≡◌, ◌≢◌, ℕ, suc, ◌+◌, ◌<◌, Bool, true, false, List, [], ◌∷◌, ◌++◌, map, length, get_or}
+use Rattle.std.proofs.Common.{refl, sym, ap, subst, ◌∙◌, arith, inl, inr}
 use Rattle.std.specs.Prelude.{◌&&◌, ◌||◌, ◌==◌, Option, Some, None}
 use Rattle.std.specs.List.{AllByRecursion, list_any, sum_by}
 use Rattle.std.specs.Cmp.{ranked}
@@ -19,14 +20,17 @@ use Rattle.qg_items.proofs.ExtentBodies.{length-data_ref_text, length-extent_tex
 use Rattle.qg_image.specs.declared.part.ExtentPart.{ExtentPart}
 use Rattle.qg_image.specs.declared.part.ExtentPart.TheVariants.{DataRecord, NodeRecord, Referenced}
 use Rattle.qg_image.specs.Owed.{part_address}
-use Rattle.qg_image.specs.Record.{Record, distinct_records, extent_record, record_bytes, records_bytes, same_record, same_reference}
+use Rattle.qg_image.specs.Record.{Record, distinct_records, extent_record, record_bytes, records_bytes, same_record}
+use Rattle.qg_image.specs.Record.{same_reference}
 use Rattle.qg_image.specs.Record.Record.{ReferenceTo}
 use Rattle.qg_refs.specs.declared.counted.Counted.{Counted}
 use Rattle.qg_refs.specs.declared.kept.Kept.{Kept}
 use Rattle.qg_refs.specs.Counts.{Ascend}
 use Rattle.qg_refs.specs.Order.{precedes}
 use Rattle.qg_refs.proofs.RankOrder.{precedes_differs}
-use Rattle.qg_extents.specs.Written.{extent_of, item_of_record, item_of_reference, items_of_book, items_of_extent, items_of_references, number_behind, part_of, parts_of_book, parts_of_extent, record_item, record_of, record_part}
+use Rattle.qg_extents.specs.Written.{extent_of, item_of_record, item_of_reference, items_of_book, items_of_extent}
+use Rattle.qg_extents.specs.Written.{items_of_references, number_behind, part_of, parts_of_book, parts_of_extent}
+use Rattle.qg_extents.specs.Written.{record_item, record_of, record_part}
 
 -- ---- what each item takes
 
@@ -112,7 +116,8 @@ other_address : (a b : ℕ) → a ≢ b → (a == b) ≡ false
 other_address a b apart = grind (arith, nat_tests)
 
 -- records at different addresses differ
-far_apart : (p q : ExtentPart) → part_address p ≢ part_address q → same_record (extent_record p) (extent_record q) ≡ false
+far_apart : (p q : ExtentPart) → part_address p ≢ part_address q
+    → same_record (extent_record p) (extent_record q) ≡ false
 far_apart (DataRecord a bytes e) (DataRecord b bytes' e') apart = rw (other_address a b apart) refl
 far_apart (DataRecord a bytes e) (NodeRecord b level e') apart = refl
 far_apart (DataRecord a bytes e) (Referenced b reference count) apart = refl
@@ -133,7 +138,8 @@ none_far p [] past = refl
 none_far p (q ∷ parts) past =
     rw (far_apart p q (λ is. omega (arith, is, past.0)), none_far p parts past.1) refl
 
-any-append : (test : Record → Bool) (front back : List Record) → list_any test front ≡ false → list_any test back ≡ false
+any-append : (test : Record → Bool) (front back : List Record) → list_any test front ≡ false
+    → list_any test back ≡ false
     → list_any test (front ++ back) ≡ false
 any-append test [] back none none' = none'
 any-append test (x ∷ front) back none none' = elim (cases_Bool (test x)) [
@@ -150,7 +156,8 @@ differ-front : (at : ℕ) (here back : List ExtentPart) → AllByRecursion (λ p
 differ-front at [] back are past first second = second
 differ-front at (p ∷ here) back are past first second =
     let far = none_far p back (subst (λ (a : ℕ). ArePast a back) (sym are.0) past) in
-    let joined = any-append (same_record (extent_record p)) (map extent_record here) (map extent_record back) first.0 far in (
+    let joined = any-append (same_record (extent_record p)) (map extent_record here) (map extent_record back) first.0
+    far in (
       subst (λ (records : List Record). list_any (same_record (extent_record p)) records ≡ false)
           (sym (map-append extent_record here back)) joined,
       differ-front at here back are.1 past first.1 second,
@@ -165,7 +172,8 @@ none_same : (at : ℕ) (x : Reference) (references : List Counted)
 none_same at x [] before = refl
 none_same at x (entry ∷ references) before =
     let first : same_record (ReferenceTo at x) (ReferenceTo at entry.reference) ≡ false =
-    and_false (at == at) (same_reference x entry.reference) (precedes_differs x entry.reference (before 0 entry (omega arith))) in
+    and_false (at == at) (same_reference x entry.reference)
+    (precedes_differs x entry.reference (before 0 entry (omega arith))) in
     rw (first, none_same at x references (λ k d inside. before (suc k) d (omega (arith, inside)))) refl
 
 references_differ : (at : ℕ) (references : List Counted) → Ascend references
@@ -177,12 +185,14 @@ references_differ at (entry ∷ references) up = (
 )
 
 record_differs : (at bytes : ℕ) (level : Option ℕ) (extent : ExtentItem) (references : List Counted)
-    → list_any (same_record (extent_record (record_part at bytes level extent))) (map extent_record (map (part_of at) references))
+    → list_any (same_record (extent_record (record_part at bytes level extent)))
+    (map extent_record (map (part_of at) references))
     ≡ false
 record_differs at bytes None extent [] = refl
 record_differs at bytes (Some level) extent [] = refl
 record_differs at bytes None extent (entry ∷ references) = record_differs at bytes None extent references
-record_differs at bytes (Some level) extent (entry ∷ references) = record_differs at bytes (Some level) extent references
+record_differs at bytes (Some level) extent (entry ∷ references) =
+    record_differs at bytes (Some level) extent references
 
 extent_differs : (entry : ℕ × Kept) → Ascend entry.1.references → Differ (map extent_record (parts_of_extent entry))
 extent_differs entry up = (
@@ -228,7 +238,8 @@ pub book_differs : (table : List (ℕ × Kept)) → IsStrictlySortedBy nat_cmp (
 unfolding IsStrictlySortedBy
 book_differs [] ascend each = tt
 book_differs (entry ∷ table) ascend each =
-    differ-front entry.0 (parts_of_extent entry) (parts_of_book table) (extent_at entry) (book_past entry.0 table ascend.0)
+    differ-front entry.0 (parts_of_extent entry) (parts_of_book table) (extent_at entry)
+    (book_past entry.0 table ascend.0)
     (extent_differs entry each.0) (book_differs table ascend.1 each.1)
 
 pub records_weigh : (table : List (ℕ × Kept)) → IsStrictlySortedBy nat_cmp (keys_of table) → EachAscends table

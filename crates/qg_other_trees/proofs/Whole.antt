@@ -105,7 +105,8 @@ inner_owns : (items : Pointer → Option (List Item)) (nodes : Pointer → Optio
     → ((pointer : Pointer) → items pointer ≡ option_map (flat_map own_items) (nodes pointer))
     → (here : Option Node) → option_and_then (joined items) (option_and_then inner_pointers here)
     ≡ option_map (flat_map own_items) (option_and_then
-    (λ node. option_and_then (λ below. Some (node ∷ below)) (option_and_then (joined nodes) (inner_pointers node))) here)
+    (λ node. option_and_then (λ below. Some (node ∷ below)) (option_and_then (joined nodes) (inner_pointers node)))
+    here)
 inner_owns items nodes same None = refl
 inner_owns items nodes same (Some (Leaf header own)) = refl
 inner_owns items nodes same (Some (Inner header pointers)) =

@@ -32,7 +32,8 @@ pub record HasCommit (super : Super) (nodes : List Node) (image : List ℕ) : Ty
   pub found : All (λ node. node_found super image (header_of node).address ≡ Ok node) nodes
 
 -- in the image a tree breaks no rule, and these are its items and, in some order, its nodes
-pub record IsTreeIn (tree : Tree) (super : Super) (image : List ℕ) (expected : Expected) (root : ℕ) (items : List Item) (nodes : List Node) : Type 0 where
+pub record IsTreeIn (tree : Tree) (super : Super) (image : List ℕ) (expected : Expected) (root : ℕ) (items : List Item)
+    (nodes : List Node) : Type 0 where
   pub walked : tree_failure tree super image expected root ≡ None
   pub items_are : tree_items tree super image expected root ≡ items
   pub those : List Node
@@ -51,16 +52,18 @@ pub record IsToCome (state : State) (super : Super) : Type 0 where
   pub generation : super.generation ≡ next_generation state
   pub same_sizes : sizes_of super ≡ state.sizes
 
--- A subvolume's tree in a state breaks no rule in an image, by the ROOT_ITEM of its root node. Its items and nodes there
--- are those that the state's layout has under the root
+-- A subvolume's tree in a state breaks no rule in an image, by the ROOT_ITEM of its root node. Its items and nodes
+-- there are those that the state's layout has under the root
 pub record IsWalkedIn (state : State) (subvolume : Subvolume) (super : Super) (image : List ℕ) : Type 0 where
   pub node : Node
   pub there : node_at state.layout subvolume.root ≡ Some node
   pub items : List Item
-  pub held : items_below (node_at state.layout) (level_of (node_at state.layout subvolume.root)) subvolume.root ≡ Some items
+  pub held : items_below (node_at state.layout) (level_of (node_at state.layout subvolume.root)) subvolume.root
+      ≡ Some items
   pub files : files_of super.generation items ≡ Some subvolume.files
   pub nodes : List Node
-  pub below : nodes_below (node_at state.layout) (level_of (node_at state.layout subvolume.root)) subvolume.root ≡ Some nodes
+  pub below : nodes_below (node_at state.layout) (level_of (node_at state.layout subvolume.root)) subvolume.root
+      ≡ Some nodes
   pub walked : IsTreeIn Files super image (root_told (root_item_of subvolume node)) subvolume.root items nodes
 
 -- the data extents that the leaves of a state's layout name are runs of the data area

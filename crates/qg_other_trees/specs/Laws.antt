@@ -21,7 +21,8 @@ use Rattle.qg_refs.specs.declared.kept.Kept.{Kept}
 use Rattle.qg_extents.specs.Table.{IsTable, book_of}
 use Rattle.qg_extents.specs.Written.{items_of_book, parts_of_book}
 use Rattle.qg_other_trees.specs.declared.laying.OtherTrees.{OtherTrees}
-use Rattle.qg_other_trees.specs.Holds.{AreRuns, AreThoseOf, HasCommit, HoldsLayout, IsToCome, IsWalkedIn, nodes_of_roots}
+use Rattle.qg_other_trees.specs.Holds.{AreRuns, AreThoseOf, HasCommit, HoldsLayout, IsToCome, IsWalkedIn}
+use Rattle.qg_other_trees.specs.Holds.{nodes_of_roots}
 use Rattle.qg_other_trees.specs.Sound.{IsCommitted, committed}
 use Rattle.qg_other_trees.specs.Telling.{AreToldBy, IsStateOf, Knows}
 use Rattle.qg_other_trees.specs.Trees.{AreTrees, nodes_laid}
@@ -43,8 +44,8 @@ OtherTreesTell = (sizes : Sizes) (generation : ℕ) (roots : List (ℕ × RootIt
     → IsDistinct (λ a b. a == b) slots → AreTrees sizes generation roots book quota slots trees
     → IsStateOf sizes generation roots book quota state → (others : List Node) × AreToldBy state slots trees others
 
--- what the layout of a whole state owes is owed to what begins in it, where its subvolumes' extents lie in the data area,
--- and nodes lie in slots
+-- what the layout of a whole state owes is owed to what begins in it, where its subvolumes' extents lie in the data
+-- area, and nodes lie in slots
 abbrev pub OwesWhatBegins : Type 0
 OwesWhatBegins = (state : State) → IsWhole state → IsTrue (is_served state.sizes) → AreRuns state
     → AllByRecursion (λ entry. IsTrue (is_slot state.sizes entry.0)) state.layout
@@ -67,8 +68,8 @@ LayoutIsFound = (state : State) (super : Super) (image : List ℕ)
     → AreThoseOf state.layout (nodes_of_roots super image (subvolume_items state))
 
 -- An image that holds the trees and the nodes of the layout, and nothing else that counts, breaks no rule, where the
--- state's extents keep the rule `space`, the counters told are those of its layout, and its nodes are at home. It stands
--- for the state that a commit leaves
+-- state's extents keep the rule `space`, the counters told are those of its layout, and its nodes are at home. It
+-- stands for the state that a commit leaves
 abbrev pub CommitIsSound : Type 0
 CommitIsSound = (sizes : Sizes) (roots : List (ℕ × RootItem)) (book : List (ℕ × Kept)) (quota : Option Quota)
     (slots : List ℕ) (trees : OtherTrees) (old : State) (image : List ℕ)

@@ -13,7 +13,8 @@ use Rattle.qg_image.specs.declared.tree.Tree.TheVariants.{Extents}
 use Rattle.qg_image.specs.Failure.{first_failure}
 use Rattle.qg_image.specs.ImageState.{as_committed, roots_in, state_in, subvolume_roots, super_in}
 use Rattle.qg_image.specs.StateOf.{StateOf}
-use Rattle.qg_image.specs.Verdict.{counts_failure, extent_set, places_failure, quota_failure, references_failure, root_failure, roots_failure, space_failure, subvolume_failure}
+use Rattle.qg_image.specs.Verdict.{counts_failure, extent_set, places_failure, quota_failure, references_failure}
+use Rattle.qg_image.specs.Verdict.{root_failure, roots_failure, space_failure, subvolume_failure}
 use Rattle.qg_other_trees.specs.declared.laying.OtherTrees.{OtherTrees}
 use Rattle.qg_other_trees.specs.Telling.{AreToldBy}
 
@@ -35,14 +36,15 @@ pub record KeepsRules (super : Super) (image : List ℕ) : Type 0 where
   pub roots : roots_failure super image ≡ None
   pub extents : root_failure Extents super image (value_at EXTENT_TREE (roots_in super image)) ≡ None
   pub quotas : quota_failure super image (roots_in super image) (value_at QUOTA_TREE (roots_in super image)) ≡ None
-  pub subvolumes : first_failure (map (λ entry. subvolume_failure super image entry.1) (subvolume_roots (roots_in super image)))
+  pub subvolumes : first_failure
+      (map (λ entry. subvolume_failure super image entry.1) (subvolume_roots (roots_in super image)))
       ≡ None
   pub space : space_failure (sizes_of super) (extent_set (present_extents (state_in super image))) ≡ None
   pub references : references_failure super image (layout_of (state_in super image)) ≡ None
   pub counts : counts_failure (layout_of (state_in super image)) (state_in super image).quota ≡ None
 
--- An image breaks none of the rules, and stands for the state that a commit leaves, its other trees having the nodes that
--- were laid out in these slots, each tree's in the order of its walk; and they tell that state
+-- An image breaks none of the rules, and stands for the state that a commit leaves, its other trees having the nodes
+-- that were laid out in these slots, each tree's in the order of its walk; and they tell that state
 pub record IsCommitted (trees : OtherTrees) (old : State) (quota : Option Quota) (slots image : List ℕ) : Type 0 where
   pub others : List Node
   pub told : AreToldBy (committed others old quota) slots trees others

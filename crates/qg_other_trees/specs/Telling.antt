@@ -77,7 +77,8 @@ pub record IsStateOf (sizes : Sizes) (generation : ℕ) (roots : List (ℕ × Ro
 
 -- ---- what is told
 
--- these are the nodes that were laid out in slots, each tree's in the order of its walk; they tell this state, and lie apart
+-- these are the nodes that were laid out in slots, each tree's in the order of its walk; they tell this state, and lie
+-- apart
 pub record AreToldBy (state : State) (slots : List ℕ) (trees : OtherTrees) (others : List Node) : Type 0 where
   pub moved : IsPermutation others (nodes_laid trees)
   pub within : (slot : ℕ) → Contains (addresses_of others) slot → Contains slots slot

@@ -1,6 +1,7 @@
 -- The root, extent and quota trees of a commit, one behind the other in free slots (this project's own). Addresses and
 -- lengths are in bytes.
-use Rattle.std.specs.Prelude.{◌≡◌, ℕ, ◌+◌, ◌-◌, ◌*◌, ◌^◌, ◌<◌, ◌≤◌, List, [], ◌++◌, length, drop, Option, None, Some, ◌&&◌, ◌==◌, if◌then◌else◌, nat_le, All, IsTrue}
+use Rattle.std.specs.Prelude.{◌≡◌, ℕ, ◌+◌, ◌-◌, ◌*◌, ◌^◌, ◌<◌, ◌≤◌, List, [], ◌++◌, length, drop, Option, None, Some}
+use Rattle.std.specs.Prelude.{◌&&◌, ◌==◌, if◌then◌else◌, nat_le, All, IsTrue}
 use Rattle.std.specs.List.{IsDistinct, filter_map, list_all}
 use Rattle.std.specs.Option.{option_map}
 use Rattle.qg_num.specs.declared.counters.Counters.{Counters}
@@ -145,8 +146,9 @@ superblock_laid sizes generation root = record {
   format = 1;
 }
 
--- Three trees of this generation in an image of these sizes, one behind the other in the slots, with the superblock that
--- leads to them: of subvolumes with these ROOT_ITEMs, of these references, and of this quota; two while quota is off
+-- Three trees of this generation in an image of these sizes, one behind the other in the slots, with the superblock
+-- that leads to them: of subvolumes with these ROOT_ITEMs, of these references, and of this quota; two while quota is
+-- off
 pub record AreTrees (sizes : Sizes) (generation : ℕ) (roots : List (ℕ × RootItem)) (book : List (ℕ × Kept))
     (quota : Option Quota) (slots : List ℕ) (trees : OtherTrees) : Type 0 where
   pub subvolumes : AreSubvolumes generation roots

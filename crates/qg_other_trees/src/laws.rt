@@ -23,13 +23,14 @@ pub fn other_trees_tell_the_state()
     ensures tell { OtherTreesTell }
 {}
 
-/// A law: what the layout of a whole state owes is owed to a node or a data extent that begins in it (this project's own).
+/// A law: what the layout of a whole state owes is owed to a node or a data extent that begins in it (this project's
+/// own).
 pub fn whole_owes_what_begins()
     ensures begins { OwesWhatBegins }
 {}
 
-/// A law: where each node of a whole layout stands at its address in an image, a subvolume's tree breaks no rule there, and
-/// the items and nodes found are those of the layout (this project's own).
+/// A law: where each node of a whole layout stands at its address in an image, a subvolume's tree breaks no rule there,
+/// and the items and nodes found are those of the layout (this project's own).
 pub fn layout_is_walked_in_the_image()
     ensures walked { LayoutIsWalked }
     ensures found { LayoutIsFound }

@@ -3,7 +3,8 @@ ghost use Rattle.std.specs.Prelude.{◌≡◌, ◌<◌, ◌≤◌, ◌-◌, ◌^
 ghost use Rattle.qg_node.specs.NodeText.{IsNodeSize};
 ghost use Rattle.qg_super.specs.Places.{is_served};
 ghost use Rattle.qg_super.specs.SuperText.{is_super};
-ghost use Rattle.qg_other_trees.specs.Trees.{AreTreesOf, CanBeLaid, most_nodes_of_trees, nodes_laid, quota_nodes_laid, stamp_after, superblock_laid};
+ghost use Rattle.qg_other_trees.specs.Trees.{AreTreesOf, CanBeLaid, most_nodes_of_trees, nodes_laid, quota_nodes_laid};
+ghost use Rattle.qg_other_trees.specs.Trees.{stamp_after, superblock_laid};
 
 use crate::trees::{
     OwnRoots, extent_tree, quota_len, quota_nodes, quota_root, quota_tree_of, root_of, root_tree,
@@ -54,13 +55,13 @@ pub struct Told<'a> {
     pub roots: &'a [(RootId, RootItem)],
     /// The references to their nodes and data extents.
     pub book: &'a Extents,
-    /// The groups, ascending by number: counters, limits and stamps as they are to be stored; and their relations. None while
-    /// quota is off.
+    /// The groups, ascending by number: counters, limits and stamps as they are to be stored; and their relations. None
+    /// while quota is off.
     pub quota: &'a Option<Quota>,
 }
 
-/// The root, extent and quota trees of the generation `next` in an image of these sizes, and the superblock that leads to
-/// them. While quota is off there is no quota tree.
+/// The root, extent and quota trees of the generation `next` in an image of these sizes, and the superblock that leads
+/// to them. While quota is off there is no quota tree.
 ///
 /// The trees lie in the first of `slots`, which are addresses of free slots, in bytes: the extent tree first, then the
 /// quota tree, then the root tree.
@@ -125,8 +126,8 @@ fn superblock_of(sizes: Sizes, next: Generation, root: Address) -> Super
     }
 }
 
-/// The generation of the commit that last changed a group's counters, where they were `old` since `stamp` and the commit
-/// of `next` has `new` (this project's own).
+/// The generation of the commit that last changed a group's counters, where they were `old` since `stamp` and the
+/// commit of `next` has `new` (this project's own).
 pub fn stamp_after(
     old: &Counters,
     new: &Counters,

@@ -49,7 +49,8 @@ pub(crate) fn extent_tree(
     requires slots { AreEnough (5 * nodes_filled nodesize (items_bytes (items_of_book book.now)) + 1) slots.now }
     ensures tree { IfOk result (λ built.
         IsTreeOfItems ExtentTree EXTENT_TREE nodesize next (ExtentsTell book.now) slots.now built) }
-    ensures few { IfOk result (λ built. length built.nodes ≤ most_nodes nodesize (items_bytes (items_of_book book.now))) }
+    ensures few { IfOk result
+        (λ built. length built.nodes ≤ most_nodes nodesize (items_bytes (items_of_book book.now))) }
 {
     let items = book.items(alloc)?;
     build(
@@ -72,7 +73,8 @@ pub(crate) fn quota_tree_of(
 ) -> Result<Option<Built>, NoMemory>
     requires size { IsNodeSize nodesize }
     requires groups { IfSome quota.now (AreWritableQuota next) }
-    requires slots { AreEnough (5 * nodes_filled nodesize (quota_tree_bytes quota.now) + quota_trees quota.now) slots.now }
+    requires slots { AreEnough (5 * nodes_filled nodesize (quota_tree_bytes quota.now) + quota_trees quota.now)
+        slots.now }
     ensures tree { IfOk result (λ built. IsQuotaTreeOf nodesize next quota.now slots.now built) }
     ensures few { IfOk result (λ built. length (quota_nodes_laid built)
         ≤ quota_trees quota.now * most_nodes nodesize (quota_tree_bytes quota.now)) }

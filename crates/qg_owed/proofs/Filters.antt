@@ -1,5 +1,6 @@
 -- What a test keeps of a list, and the front that passes it where the list ascends by a number.
-use Rattle.std.proofs.Common.{◌≡◌, ℕ, suc, ◌+◌, ◌≤◌, Bool, true, false, List, [], ◌∷◌, take, drop, refl, sym, ap, subst, ◌∙◌, arith, inl, inr, cond}
+use Rattle.std.proofs.Common.{◌≡◌, ℕ, suc, ◌+◌, ◌≤◌, Bool, true, false, List, [], ◌∷◌, take, drop, refl, sym, ap, subst}
+use Rattle.std.proofs.Common.{◌∙◌, arith, inl, inr, cond}
 use Rattle.std.specs.Prelude.{Some, None, ◌&&◌, not}
 use Rattle.std.specs.List.{Contains, filter, find, prefix_len}
 use Rattle.std.specs.List.Sorted.{IsNonDecreasingBy}
@@ -24,32 +25,39 @@ module _ {X : Type 0} where
   pub all_pass : (p : X → Bool) (xs : List X) → ((x : X) → Contains xs x → p x ≡ true) → filter p xs ≡ xs
   all_pass p [] each = refl
   all_pass p (x ∷ xs) each =
-      cond-true (p x) _ _ (each x (contains_here x xs)) ∙ ap (λ ws. x ∷ ws) (all_pass p xs (λ y has. each y (contains_later x xs y has)))
+      cond-true (p x) _ _ (each x (contains_here x xs))
+      ∙ ap (λ ws. x ∷ ws) (all_pass p xs (λ y has. each y (contains_later x xs y has)))
 
   pub none_pass : (p : X → Bool) (xs : List X) → ((x : X) → Contains xs x → p x ≡ false) → filter p xs ≡ []
   none_pass p [] each = refl
-  none_pass p (x ∷ xs) each = cond-false (p x) _ _ (each x (contains_here x xs)) ∙ none_pass p xs (λ y has. each y (contains_later x xs y has))
+  none_pass p (x ∷ xs) each = cond-false (p x) _ _ (each x (contains_here x xs))
+      ∙ none_pass p xs (λ y has. each y (contains_later x xs y has))
 
   pub none_found : (p : X → Bool) (xs : List X) → ((x : X) → Contains xs x → p x ≡ false) → find p xs ≡ None
   none_found p [] each = refl
-  none_found p (x ∷ xs) each = cond-false (p x) _ _ (each x (contains_here x xs)) ∙ none_found p xs (λ y has. each y (contains_later x xs y has))
+  none_found p (x ∷ xs) each = cond-false (p x) _ _ (each x (contains_here x xs))
+      ∙ none_found p xs (λ y has. each y (contains_later x xs y has))
 
   -- a test after another one
-  pub filter_of_filter : (p q r : X → Bool) (xs : List X) → ((x : X) → (q x && p x) ≡ r x) → filter p (filter q xs) ≡ filter r xs
+  pub filter_of_filter : (p q r : X → Bool) (xs : List X) → ((x : X) → (q x && p x) ≡ r x)
+      → filter p (filter q xs) ≡ filter r xs
   filter_of_filter p q r [] both = refl
   filter_of_filter p q r (x ∷ xs) both =
       let later = filter_of_filter p q r xs both in
       elim (cases_Bool (q x)) [
         | inl holds ↦
             let one : p x ≡ r x = sym (ap (λ b. b && p x) holds) ∙ both x in
-            ap (filter p) (cond-true (q x) (x ∷ filter q xs) (filter q xs) holds) ∙ ap (λ ws. cond (p x) (x ∷ ws) ws) later
+            ap (filter p) (cond-true (q x) (x ∷ filter q xs) (filter q xs) holds)
+            ∙ ap (λ ws. cond (p x) (x ∷ ws) ws) later
             ∙ ap (λ b. cond b (x ∷ filter r xs) (filter r xs)) one
         | inr fails ↦
             let none : r x ≡ false = sym (both x) ∙ ap (λ b. b && p x) fails in
-            ap (filter p) (cond-false (q x) (x ∷ filter q xs) (filter q xs) fails) ∙ later ∙ sym (cond-false (r x) (x ∷ filter r xs) (filter r xs) none)
+            ap (filter p) (cond-false (q x) (x ∷ filter q xs) (filter q xs) fails) ∙ later
+            ∙ sym (cond-false (r x) (x ∷ filter r xs) (filter r xs) none)
       ]
 
-  pub find_of_filter : (p q r : X → Bool) (xs : List X) → ((x : X) → (q x && p x) ≡ r x) → find p (filter q xs) ≡ find r xs
+  pub find_of_filter : (p q r : X → Bool) (xs : List X) → ((x : X) → (q x && p x) ≡ r x)
+      → find p (filter q xs) ≡ find r xs
   find_of_filter p q r [] both = refl
   find_of_filter p q r (x ∷ xs) both =
       let later = find_of_filter p q r xs both in
@@ -60,7 +68,8 @@ module _ {X : Type 0} where
             ∙ ap (λ b. cond b (Some x) (find r xs)) one
         | inr fails ↦
             let none : r x ≡ false = sym (both x) ∙ ap (λ b. b && p x) fails in
-            ap (find p) (cond-false (q x) (x ∷ filter q xs) (filter q xs) fails) ∙ later ∙ sym (cond-false (r x) (Some x) (find r xs) none)
+            ap (find p) (cond-false (q x) (x ∷ filter q xs) (filter q xs) fails) ∙ later
+            ∙ sym (cond-false (r x) (Some x) (find r xs) none)
       ]
 
   -- what is kept
@@ -68,12 +77,14 @@ module _ {X : Type 0} where
   contains_kept p [] x has holds = has
   contains_kept p (z ∷ zs) x has holds = elim (contains_cases z zs x has) [
     | inl is ↦
-        subst (λ ws. Contains ws x) (sym (cond-true (p z) (z ∷ filter p zs) (filter p zs) (subst (λ w. p w ≡ true) (sym is) holds)))
+        subst (λ ws. Contains ws x)
+        (sym (cond-true (p z) (z ∷ filter p zs) (filter p zs) (subst (λ w. p w ≡ true) (sym is) holds)))
         (subst (λ w. Contains (z ∷ filter p zs) w) is (contains_here z (filter p zs)))
     | inr later ↦
         let there = contains_kept p zs x later holds in
         elim (cases_Bool (p z)) [
-          | inl first ↦ subst (λ ws. Contains ws x) (sym (cond-true (p z) (z ∷ filter p zs) (filter p zs) first)) (contains_later z (filter p zs) x there)
+          | inl first ↦ subst (λ ws. Contains ws x) (sym (cond-true (p z) (z ∷ filter p zs) (filter p zs) first))
+              (contains_later z (filter p zs) x there)
           | inr not' ↦ subst (λ ws. Contains ws x) (sym (cond-false (p z) (z ∷ filter p zs) (filter p zs) not')) there
         ]
   ]
@@ -81,12 +92,14 @@ module _ {X : Type 0} where
   pub kept_contains : (p : X → Bool) (xs : List X) (x : X) → Contains (filter p xs) x → Contains xs x × (p x ≡ true)
   kept_contains p [] x has = absurd (none_contained x has)
   kept_contains p (z ∷ zs) x has = elim (cases_Bool (p z)) [
-    | inl first ↦ elim (contains_cases z (filter p zs) x (subst (λ ws. Contains ws x) (cond-true (p z) (z ∷ filter p zs) (filter p zs) first) has)) [
-      | inl is ↦ (subst (λ w. Contains (z ∷ zs) w) is (contains_here z zs), subst (λ w. p w ≡ true) is first)
-      | inr later ↦ let found = kept_contains p zs x later in (contains_later z zs x found.0, found.1)
-    ]
+    | inl first ↦ elim (contains_cases z (filter p zs) x
+        (subst (λ ws. Contains ws x) (cond-true (p z) (z ∷ filter p zs) (filter p zs) first) has)) [
+          | inl is ↦ (subst (λ w. Contains (z ∷ zs) w) is (contains_here z zs), subst (λ w. p w ≡ true) is first)
+          | inr later ↦ let found = kept_contains p zs x later in (contains_later z zs x found.0, found.1)
+        ]
     | inr not' ↦
-        let found = kept_contains p zs x (subst (λ ws. Contains ws x) (cond-false (p z) (z ∷ filter p zs) (filter p zs) not') has) in
+        let found = kept_contains p zs x
+        (subst (λ ws. Contains ws x) (cond-false (p z) (z ∷ filter p zs) (filter p zs) not') has) in
         (contains_later z zs x found.0, found.1)
   ]
 
@@ -123,9 +136,12 @@ module _ {X : Type 0} (key : X → ℕ) (p : X → Bool) (falls : Falls key p) w
   take_front [] up = refl
   take_front (x ∷ xs) up = elim (cases_Bool (p x)) [
     | inl holds ↦
-        let more : prefix_len p (x ∷ xs) ≡ suc (prefix_len p xs) = cond-true {A = ℕ} (p x) (1 + prefix_len p xs) 0 holds ∙ omega arith in
-        ap (λ n. take n (x ∷ xs)) more ∙ ap (λ ws. x ∷ ws) (take_front xs up.1) ∙ sym (cond-true (p x) (x ∷ filter p xs) (filter p xs) holds)
-    | inr fails ↦ ap (λ n. take n (x ∷ xs)) (cond-false (p x) (1 + prefix_len p xs) 0 fails) ∙ sym (none_pass p (x ∷ xs) (none_later x xs up fails))
+        let more : prefix_len p (x ∷ xs) ≡ suc (prefix_len p xs) = cond-true {A = ℕ} (p x) (1 + prefix_len p xs) 0 holds
+        ∙ omega arith in
+        ap (λ n. take n (x ∷ xs)) more ∙ ap (λ ws. x ∷ ws) (take_front xs up.1)
+        ∙ sym (cond-true (p x) (x ∷ filter p xs) (filter p xs) holds)
+    | inr fails ↦ ap (λ n. take n (x ∷ xs)) (cond-false (p x) (1 + prefix_len p xs) 0 fails)
+        ∙ sym (none_pass p (x ∷ xs) (none_later x xs up fails))
   ]
 
   -- what stands behind it is all that fails
@@ -133,8 +149,10 @@ module _ {X : Type 0} (key : X → ℕ) (p : X → Bool) (falls : Falls key p) w
   drop_front [] up = refl
   drop_front (x ∷ xs) up = elim (cases_Bool (p x)) [
     | inl holds ↦
-        let more : prefix_len p (x ∷ xs) ≡ suc (prefix_len p xs) = cond-true {A = ℕ} (p x) (1 + prefix_len p xs) 0 holds ∙ omega arith in
-        ap (λ n. drop n (x ∷ xs)) more ∙ drop_front xs up.1 ∙ sym (cond-false (not (p x)) (x ∷ filter (λ x. not (p x)) xs) (filter (λ x. not (p x)) xs) (ap not holds))
+        let more : prefix_len p (x ∷ xs) ≡ suc (prefix_len p xs) = cond-true {A = ℕ} (p x) (1 + prefix_len p xs) 0 holds
+        ∙ omega arith in
+        ap (λ n. drop n (x ∷ xs)) more ∙ drop_front xs up.1
+        ∙ sym (cond-false (not (p x)) (x ∷ filter (λ x. not (p x)) xs) (filter (λ x. not (p x)) xs) (ap not holds))
     | inr fails ↦
         ap (λ n. drop n (x ∷ xs)) (cond-false (p x) (1 + prefix_len p xs) 0 fails)
         ∙ sym (all_pass (λ x. not (p x)) (x ∷ xs) (λ y has. ap not (none_later x xs up fails y has)))

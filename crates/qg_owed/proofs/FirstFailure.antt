@@ -28,19 +28,25 @@ home_last None (Some address) none = refl
 home_last (Some address) home none = absurd (true≢false none)
 
 -- where these are the addresses of the two rules, the first of them is the verdict's
-failure_is : (super : Super) (image : List ℕ) (layout : Layout) (parts : List ExtentPart) (refs home : Option ℕ) → parts ≡ extent_parts super image
-    → refs ≡ disagreement layout parts → home ≡ homeless layout → first_of refs home ≡ references_failure super image layout
+failure_is : (super : Super) (image : List ℕ) (layout : Layout) (parts : List ExtentPart) (refs home : Option ℕ)
+    → parts ≡ extent_parts super image
+    → refs ≡ disagreement layout parts → home ≡ homeless layout
+    → first_of refs home ≡ references_failure super image layout
 unfolding references_failure
 failure_is super image layout parts refs home is same last =
     ap (λ (found : Option ℕ). first_of found home) (same ∙ ap (λ (some : List ExtentPart). disagreement layout some) is)
     ∙ ap (λ (found : Option ℕ). first_of (disagreement layout (extent_parts super image)) found) last
 
-pub refs_told : (super : Super) (image : List ℕ) (layout : Layout) (parts : List ExtentPart) (refs : Option ℕ) → parts ≡ extent_parts super image
-    → refs ≡ disagreement layout parts → is_some refs ≡ true → option_map (Broken rule.Refs) refs ≡ references_failure super image layout
+pub refs_told : (super : Super) (image : List ℕ) (layout : Layout) (parts : List ExtentPart) (refs : Option ℕ)
+    → parts ≡ extent_parts super image
+    → refs ≡ disagreement layout parts → is_some refs ≡ true
+    → option_map (Broken rule.Refs) refs ≡ references_failure super image layout
 refs_told super image layout parts refs is same some =
     refs_first refs (homeless layout) some ∙ failure_is super image layout parts refs (homeless layout) is same refl
 
-pub home_told : (super : Super) (image : List ℕ) (layout : Layout) (parts : List ExtentPart) (refs home : Option ℕ) → parts ≡ extent_parts super image
-    → refs ≡ disagreement layout parts → home ≡ homeless layout → is_some refs ≡ false → option_map (Broken rule.Home) home ≡ references_failure super image layout
+pub home_told : (super : Super) (image : List ℕ) (layout : Layout) (parts : List ExtentPart) (refs home : Option ℕ)
+    → parts ≡ extent_parts super image
+    → refs ≡ disagreement layout parts → home ≡ homeless layout → is_some refs ≡ false
+    → option_map (Broken rule.Home) home ≡ references_failure super image layout
 home_told super image layout parts refs home is same last none =
     home_last refs home none ∙ failure_is super image layout parts refs home is same last

@@ -1,5 +1,6 @@
 -- The numbers of a list, ascending, each once.
-use Rattle.std.proofs.Common.{◌≡◌, ℕ, ◌<◌, List, [], ◌∷◌, refl, sym, subst, ◌∙◌, arith, ◌⊎◌, inl, inr, ltb, ltb-true, ltb-false}
+use Rattle.std.proofs.Common.{◌≡◌, ℕ, ◌<◌, List, [], ◌∷◌, refl, sym, subst, ◌∙◌, arith, ◌⊎◌, inl, inr, ltb, ltb-true}
+use Rattle.std.proofs.Common.{ltb-false}
 use Rattle.std.specs.List.{Contains}
 use Rattle.std.proofs.lemmas.Bool.{cases_Bool, cases_eq, cond-true, cond-false, eq-eqb, ne_eqb, lt-ltb, le-ltb}
 use Rattle.qg_image.specs.Table.{with_number, number_set}
@@ -51,12 +52,16 @@ with_same : (x o : ℕ) (os : List ℕ) → x ≡ o → with_number x (o ∷ os)
 with_same x o os h = cond-false _ _ _ (le-ltb x o (omega (arith, h))) ∙ cond-true _ _ _ (eq-eqb x o h)
 
 with_after : (x o : ℕ) (os : List ℕ) → o < x → with_number x (o ∷ os) ≡ o ∷ with_number x os
-with_after x o os h = cond-false _ _ _ (le-ltb x o (omega (arith, h))) ∙ cond-false _ _ _ (ne_eqb x o (λ is. omega (arith, h, is)))
+with_after x o os h = cond-false _ _ _ (le-ltb x o (omega (arith, h)))
+    ∙ cond-false _ _ _ (ne_eqb x o (λ is. omega (arith, h, is)))
 
 order_cases : (x o : ℕ) → (x < o) ⊎ ((x ≡ o) ⊎ (o < x))
 order_cases x o = elim (cases_Bool (ltb x o)) [
   | inl before ↦ inl (ltb-true x o before)
-  | inr not ↦ elim (cases_eq x o) [ inl is ↦ inr (inl is) | inr differ ↦ inr (inr (omega (arith, ltb-false x o not, differ))) ]
+  | inr not ↦ elim (cases_eq x o) [
+    | inl is ↦ inr (inl is)
+    | inr differ ↦ inr (inr (omega (arith, ltb-false x o not, differ)))
+  ]
 ]
 
 with_has : (x : ℕ) (set : List ℕ) → Contains (with_number x set) x
@@ -64,8 +69,10 @@ with_has x [] = contains_here x []
 with_has x (o ∷ os) = elim (order_cases x o) [
   | inl before ↦ subst (λ set. Contains set x) (sym (with_before x o os before)) (contains_here x (o ∷ os))
   | inr rest ↦ elim rest [
-    | inl is ↦ subst (λ set. Contains set x) (sym (with_same x o os is)) (subst (λ w. Contains (w ∷ os) x) is (contains_here x os))
-    | inr after ↦ subst (λ set. Contains set x) (sym (with_after x o os after)) (contains_later o (with_number x os) x (with_has x os))
+    | inl is ↦ subst (λ set. Contains set x) (sym (with_same x o os is))
+        (subst (λ w. Contains (w ∷ os) x) is (contains_here x os))
+    | inr after ↦ subst (λ set. Contains set x) (sym (with_after x o os after))
+        (contains_later o (with_number x os) x (with_has x os))
   ]
 ]
 
@@ -88,20 +95,23 @@ with_only x (o ∷ os) y has = elim (order_cases x o) [
   | inl before ↦ contains_cases x (o ∷ os) y (subst (λ set. Contains set y) (with_before x o os before) has)
   | inr rest ↦ elim rest [
     | inl is ↦ inr (subst (λ set. Contains set y) (with_same x o os is) has)
-    | inr after ↦ elim (contains_cases o (with_number x os) y (subst (λ set. Contains set y) (with_after x o os after) has)) [
-      | inl is ↦ inr (subst (λ w. Contains (o ∷ os) w) is (contains_here o os))
-      | inr later ↦ elim (with_only x os y later) [ inl is ↦ inl is | inr has' ↦ inr (contains_later o os y has') ]
-    ]
+    | inr after ↦ elim (contains_cases o (with_number x os) y
+        (subst (λ set. Contains set y) (with_after x o os after) has)) [
+          | inl is ↦ inr (subst (λ w. Contains (o ∷ os) w) is (contains_here o os))
+          | inr later ↦ elim (with_only x os y later) [ inl is ↦ inl is | inr has' ↦ inr (contains_later o os y has') ]
+        ]
   ]
 ]
 
 with_ascends : (x : ℕ) (set : List ℕ) → Ascends set → Ascends (with_number x set)
 with_ascends x [] up = (λ y has. absurd (none_contained y has), tt)
 with_ascends x (o ∷ os) up = elim (order_cases x o) [
-  | inl before ↦ subst Ascends (sym (with_before x o os before)) (λ y has. past before y (contains_cases o os y has), up)
+  | inl before ↦ subst Ascends (sym (with_before x o os before))
+      (λ y has. past before y (contains_cases o os y has), up)
   | inr rest ↦ elim rest [
     | inl is ↦ subst Ascends (sym (with_same x o os is)) up
-    | inr after ↦ subst Ascends (sym (with_after x o os after)) (λ y has. above after y (with_only x os y has), with_ascends x os up.1)
+    | inr after ↦ subst Ascends (sym (with_after x o os after))
+        (λ y has. above after y (with_only x os y has), with_ascends x os up.1)
   ]
 ] where
   past : x < o → (y : ℕ) → (o ≡ y) ⊎ Contains os y → x < y
@@ -137,16 +147,20 @@ number_set_same xs = record { into = set_into xs; back = set_back xs }
 
 -- it depends on which numbers there are, and not on their order or how often they stand there
 pub number_set_of_same : (xs ys : List ℕ) → HaveSame xs ys → number_set xs ≡ number_set ys
-number_set_of_same xs ys same = same_ascending (number_set xs) (number_set ys) (number_set_ascends xs) (number_set_ascends ys) (record {
-  into = λ y has. set_back ys y (same.into y (set_into xs y has));
-  back = λ y has. set_back xs y (same.back y (set_into ys y has));
-})
+number_set_of_same xs ys same = same_ascending (number_set xs) (number_set ys) (number_set_ascends xs)
+    (number_set_ascends ys) (record {
+      into = λ y has. set_back ys y (same.into y (set_into xs y has));
+      back = λ y has. set_back xs y (same.back y (set_into ys y has));
+    })
 
 -- the least number, and the set of those above it
-pub number_set_least : (n : ℕ) (xs above : List ℕ) → Contains xs n → ((y : ℕ) → Contains xs y → (n ≡ y) ⊎ Contains above y)
-    → ((y : ℕ) → Contains above y → Contains xs y) → ((y : ℕ) → Contains above y → n < y) → number_set xs ≡ n ∷ number_set above
+pub number_set_least : (n : ℕ) (xs above : List ℕ) → Contains xs n
+    → ((y : ℕ) → Contains xs y → (n ≡ y) ⊎ Contains above y)
+    → ((y : ℕ) → Contains above y → Contains xs y) → ((y : ℕ) → Contains above y → n < y)
+    → number_set xs ≡ n ∷ number_set above
 number_set_least n xs above has split whole higher =
-    same_ascending (number_set xs) (n ∷ number_set above) (number_set_ascends xs) (λ y later. higher y (set_into above y later), number_set_ascends above) (record { into = into; back = back })
+    same_ascending (number_set xs) (n ∷ number_set above) (number_set_ascends xs)
+    (λ y later. higher y (set_into above y later), number_set_ascends above) (record { into = into; back = back })
   where
     into : (y : ℕ) → Contains (number_set xs) y → Contains (n ∷ number_set above) y
     into y there = elim (split y (set_into xs y there)) [

@@ -1,5 +1,6 @@
 -- Tests over a list, by its elements.
-use Rattle.std.proofs.Common.{◌≡◌, ℕ, ◌+◌, ◌<◌, Bool, true, false, List, [], ◌∷◌, refl, sym, ap, subst, ◌∙◌, arith, inl, inr, cond}
+use Rattle.std.proofs.Common.{◌≡◌, ℕ, ◌+◌, ◌<◌, Bool, true, false, List, [], ◌∷◌, refl, sym, ap, subst, ◌∙◌, arith, inl}
+use Rattle.std.proofs.Common.{inr, cond}
 use Rattle.std.specs.Prelude.{◌&&◌, ◌||◌}
 use Rattle.std.specs.List.{Contains, list_any, list_all, count_by}
 use Rattle.std.proofs.lemmas.Bool.{cases_Bool, cond-true, cond-false, true≢false}
@@ -49,7 +50,8 @@ module _ {X : Type 0} (p : X → Bool) where
 
   pub all_by : (xs : List X) → ((x : X) → Contains xs x → p x ≡ true) → list_all p xs ≡ true
   all_by [] each = refl
-  all_by (z ∷ zs) each = and_both (p z) (list_all p zs) (each z (contains_here z zs)) (all_by zs (λ x has. each x (contains_later z zs x has)))
+  all_by (z ∷ zs) each = and_both (p z) (list_all p zs) (each z (contains_here z zs))
+      (all_by zs (λ x has. each x (contains_later z zs x has)))
 
   pub count_none : (xs : List X) → list_any p xs ≡ false → count_by p xs ≡ 0
   count_none [] h = refl

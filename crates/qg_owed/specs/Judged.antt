@@ -1,10 +1,12 @@
 -- The rule `refs` over lists (this project's own). Addresses are in bytes.
-use Rattle.std.specs.Prelude.{ℕ, ◌++◌, Bool, ◌&&◌, not, List, [], ◌∷◌, map, Option, Some, None, ◌==◌, nat_le, if◌then◌else◌}
+use Rattle.std.specs.Prelude.{ℕ, ◌++◌, Bool, ◌&&◌, not, List, [], ◌∷◌, map, Option, Some, None, ◌==◌, nat_le}
+use Rattle.std.specs.Prelude.{if◌then◌else◌}
 use Rattle.std.specs.List.{filter, filter_map, find, sum_by}
 use Rattle.qg_items.specs.declared.extent.Reference.{Reference}
 use Rattle.qg_image.specs.Table.{number_set}
 use Rattle.qg_image.specs.declared.part.ExtentPart.{ExtentPart}
-use Rattle.qg_image.specs.Owed.{What, Nothing, Data, Block, part_address, is_record, is_recorded_once, reference_told, are_references}
+use Rattle.qg_image.specs.Owed.{What, Nothing, Data, Block, part_address, is_record, is_recorded_once, reference_told}
+use Rattle.qg_image.specs.Owed.{are_references}
 use Rattle.qg_refs.specs.declared.counted.Counted.{Counted}
 use Rattle.qg_owed.specs.declared.owing.Owing.{Owing}
 use Rattle.qg_owed.specs.declared.thing.Thing.{Thing}

@@ -1,5 +1,5 @@
-//! Whether the extent tree records exactly what is owed: the rule `refs`, over lists of what is owed, of what there is and
-//! of what is recorded.
+//! Whether the extent tree records exactly what is owed: the rule `refs`, over lists of what is owed, of what there is
+//! and of what is recorded.
 #![tactic(auto)]
 
 mod collect;

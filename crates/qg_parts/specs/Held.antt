@@ -12,18 +12,22 @@ some_passed test None h = h
 some_passed test (Some x) h = refl
 
 -- and so an item that a tree may hold says something, in each of the four trees
-pub root_said : (generation : ℕ) (item : Item) → IsTrue (is_item_of Roots generation item) → IsTrue (is_some (root_part item))
+pub root_said : (generation : ℕ) (item : Item) → IsTrue (is_item_of Roots generation item)
+    → IsTrue (is_some (root_part item))
 unfolding is_item_of
 root_said generation item h = some_passed _ _ h
 
-pub extent_said : (generation : ℕ) (item : Item) → IsTrue (is_item_of Extents generation item) → IsTrue (is_some (extent_part item))
+pub extent_said : (generation : ℕ) (item : Item) → IsTrue (is_item_of Extents generation item)
+    → IsTrue (is_some (extent_part item))
 unfolding is_item_of
 extent_said generation item h = some_passed _ _ h
 
-pub quota_said : (generation : ℕ) (item : Item) → IsTrue (is_item_of Quotas generation item) → IsTrue (is_some (quota_part item))
+pub quota_said : (generation : ℕ) (item : Item) → IsTrue (is_item_of Quotas generation item)
+    → IsTrue (is_some (quota_part item))
 unfolding is_item_of
 quota_said generation item h = some_passed _ _ h
 
-pub file_said : (generation : ℕ) (item : Item) → IsTrue (is_item_of Files generation item) → IsTrue (is_some (file_part item))
+pub file_said : (generation : ℕ) (item : Item) → IsTrue (is_item_of Files generation item)
+    → IsTrue (is_some (file_part item))
 unfolding is_item_of is_file_item
 file_said generation item h = some_passed _ _ h

@@ -2,7 +2,8 @@
 use Rattle.std.specs.Prelude.{ℕ}
 use Rattle.qg_num.specs.declared.key.Key.{Key}
 use Rattle.qg_items.specs.declared.root.RootItem.{RootItem}
-use Rattle.qg_items.specs.declared.kind.TheConstants.{INODE_ITEM, EXTENT_DATA, ROOT_ITEM, QGROUP_STATUS, QGROUP_INFO, QGROUP_LIMIT, QGROUP_RELATION}
+use Rattle.qg_items.specs.declared.kind.TheConstants.{INODE_ITEM, EXTENT_DATA, ROOT_ITEM, QGROUP_STATUS, QGROUP_INFO}
+use Rattle.qg_items.specs.declared.kind.TheConstants.{QGROUP_LIMIT, QGROUP_RELATION}
 use Rattle.qg_image.specs.declared.part.FilePart.{FilePart}
 use Rattle.qg_image.specs.declared.part.FilePart.TheVariants.{Inode, PieceOf}
 use Rattle.qg_image.specs.declared.part.QuotaPart.{QuotaPart}
@@ -21,7 +22,8 @@ abbrev pub file_key : FilePart → Key
 file_key (Inode ino inode) = key_with ino INODE_ITEM 0
 file_key (PieceOf ino piece) = key_with ino EXTENT_DATA piece.position
 
--- of the state of quota: (0, QGROUP_STATUS, 0); of a group's counters or limits: (0, kind, group); of a relation: (group, QGROUP_RELATION, other)
+-- of the state of quota: (0, QGROUP_STATUS, 0); of a group's counters or limits: (0, kind, group); of a relation:
+-- (group, QGROUP_RELATION, other)
 abbrev pub quota_key : QuotaPart → Key
 quota_key (Status status) = key_with 0 QGROUP_STATUS 0
 quota_key (Info group info) = key_with 0 QGROUP_INFO group

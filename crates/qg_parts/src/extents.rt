@@ -127,7 +127,9 @@ fn block(item: &Item, reference: Reference) -> Option<ExtentPart>
 }
 
 fn keyed_data(item: &Item) -> Option<ExtentPart>
-    ensures { result ≡ option_map (λ keyed. Referenced item.now.key.objectid (KeyedData keyed.root keyed.objectid keyed.offset) keyed.count) (data_ref_read item.now.body) }
+    ensures { result ≡ option_map
+        (λ keyed. Referenced item.now.key.objectid (KeyedData keyed.root keyed.objectid keyed.offset) keyed.count)
+        (data_ref_read item.now.body) }
 {
     let keyed = read_data_ref(item.body.as_slice())?;
     Some(ExtentPart::Referenced {
@@ -142,7 +144,9 @@ fn keyed_data(item: &Item) -> Option<ExtentPart>
 }
 
 fn shared_data(item: &Item) -> Option<ExtentPart>
-    ensures { result ≡ option_map (λ shared. Referenced item.now.key.objectid (SharedData item.now.key.offset) shared.count) (shared_data_ref_read item.now.body) }
+    ensures { result ≡ option_map
+        (λ shared. Referenced item.now.key.objectid (SharedData item.now.key.offset) shared.count)
+        (shared_data_ref_read item.now.body) }
 {
     let shared = read_shared_data_ref(item.body.as_slice())?;
     Some(ExtentPart::Referenced {

@@ -47,7 +47,8 @@ fn file_part(item: &Item) -> Option<FilePart>
 }
 
 fn inode_part(item: &Item) -> Option<FilePart>
-    ensures { result ≡ when (is_keyed item.now.key.objectid INODE_ITEM 0 item.now) (option_map (Inode item.now.key.objectid) (inode_read item.now.body)) }
+    ensures { result ≡ when (is_keyed item.now.key.objectid INODE_ITEM 0 item.now)
+        (option_map (Inode item.now.key.objectid) (inode_read item.now.body)) }
 {
     if item.key.kind != INODE_ITEM || item.key.offset != 0 {
         return None;
@@ -60,7 +61,8 @@ fn inode_part(item: &Item) -> Option<FilePart>
 
 // The piece that a body tells; its extent's length stands in it twice.
 fn piece_part(item: &Item) -> Option<FilePart>
-    ensures { result ≡ option_map (PieceOf item.now.key.objectid) (option_and_then (piece_told item.now.key.offset) (extent_data_read item.now.body)) }
+    ensures { result ≡ option_map (PieceOf item.now.key.objectid)
+        (option_and_then (piece_told item.now.key.offset) (extent_data_read item.now.body)) }
 {
     let told = read_extent_data(item.body.as_slice())?;
     if told.ram_bytes != told.disk_num_bytes {

@@ -27,5 +27,6 @@ pub trait TreePart: Sized + Drop {
         ensures { result ≡ when (is_item_of tree generation item.now) (meaning item.now) };
 
     /// Each item that the tree may hold says something.
-    ghost said: { (generation : ℕ) (item : Item) → IsTrue (is_item_of tree generation item) → IsTrue (is_some (meaning item)) };
+    ghost said: { (generation : ℕ) (item : Item) → IsTrue (is_item_of tree generation item)
+        → IsTrue (is_some (meaning item)) };
 }

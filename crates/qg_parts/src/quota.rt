@@ -82,7 +82,8 @@ fn info_part(item: &Item) -> Option<QuotaPart>
 
 fn limits_part(item: &Item) -> Option<QuotaPart>
     ensures { result ≡ when (is_keyed 0 QGROUP_LIMIT item.now.key.offset item.now)
-        (option_and_then (λ limit. then_some (nat_le limit.flags 3) (Limits item.now.key.offset limit)) (limit_read item.now.body)) }
+        (option_and_then (λ limit. then_some (nat_le limit.flags 3) (Limits item.now.key.offset limit))
+        (limit_read item.now.body)) }
 {
     if item.key.objectid != 0 || item.key.kind != QGROUP_LIMIT {
         return None;

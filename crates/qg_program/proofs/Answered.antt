@@ -1,5 +1,6 @@
 -- What was answered so far, turn by turn, and what follows at the end.
-use Rattle.std.proofs.Common.{◌≡◌, ◌⊎◌, inl, inr, ℕ, ◌+◌, ◌-◌, ◌≤◌, List, [], ◌∷◌, ◌++◌, length, take, drop, true, false, Option, Some, None, refl, sym, ap, ◌∙◌, subst, arith, append_assoc}
+use Rattle.std.proofs.Common.{◌≡◌, ◌⊎◌, inl, inr, ℕ, ◌+◌, ◌-◌, ◌≤◌, List, [], ◌∷◌, ◌++◌, length, take, drop, true}
+use Rattle.std.proofs.Common.{false, Option, Some, None, refl, sym, ap, ◌∙◌, subst, arith, append_assoc}
 use Rattle.std.specs.Prelude.{⊤}
 use Rattle.std.specs.List.{concat}
 use Rattle.std.specs.Io.KnownBytes.{append_known, IsAtEnd}
@@ -43,9 +44,10 @@ IsScript None lines (Some left) = ⊥
 IsScript (Some input) lines None = ⊥
 IsScript (Some input) lines (Some left) = IsAhead input lines left
 
--- some lines of the input were answered and their replies put; so much of it is left. The store stands for the present state, and since it
--- was opened the disk was made to hold what was committed
-pub record HasAnswered (state : State) (input : Option (List ℕ)) (opened : List Event) (pend : Option (List ℕ)) (store : Stored) (history : Option (List Event)) (old new : Option (List ℕ)) : Type 0 where
+-- some lines of the input were answered and their replies put; so much of it is left. The store stands for the present
+-- state, and since it was opened the disk was made to hold what was committed
+pub record HasAnswered (state : State) (input : Option (List ℕ)) (opened : List Event) (pend : Option (List ℕ))
+    (store : Stored) (history : Option (List Event)) (old new : Option (List ℕ)) : Type 0 where
   pub lines : List (List ℕ)
   pub replies : List (List ℕ)
   pub commits : List State
@@ -62,10 +64,13 @@ pub record HasAnswered (state : State) (input : Option (List ℕ)) (opened : Lis
 -- at the beginning
 script-none : (input : Option (List ℕ)) → IsScript input [] input
 script-none None = tt
-script-none (Some input) = record { ahead = refl; limit = inl (record { front = []; parted = refl; ended = λ tail. refl }) }
+script-none (Some input) =
+    record { ahead = refl; limit = inl (record { front = []; parted = refl; ended = λ tail. refl }) }
 
-pub answered-none : (state : State) (input : Option (List ℕ)) (opened : List Event) (pend : Option (List ℕ)) (store : Stored) (history : Option (List Event)) (old : Option (List ℕ))
-    → pend ≡ input → IsStoreOf store state history → history ≡ Some opened → HasAnswered state input opened pend store history old old
+pub answered-none : (state : State) (input : Option (List ℕ)) (opened : List Event) (pend : Option (List ℕ))
+    (store : Stored) (history : Option (List Event)) (old : Option (List ℕ))
+    → pend ≡ input → IsStoreOf store state history → history ≡ Some opened
+    → HasAnswered state input opened pend store history old old
 answered-none state input opened pend store history old all stands known = record {
   lines = [];
   replies = [];
@@ -87,11 +92,13 @@ pending-none None = refl
 pending-none (Some left) = refl
 
 -- a line that ended is one more in front
-front-line : {input line after : List ℕ} {lines : List (List ℕ)} {before : List ℕ} → IsFront input lines before → LosesLine before after line
+front-line : {input line after : List ℕ} {lines : List (List ℕ)} {before : List ℕ} → IsFront input lines before
+    → LosesLine before after line
     → before ≡ line ++ 10 ∷ after → IsFront input (lines ++ line ∷ []) after
 front-line {input} {line} {after} {lines} {before} is loses parted =
     let turned : (tail : List ℕ) → (is.front ++ (line ++ 10 ∷ [])) ++ tail ≡ is.front ++ (line ++ 10 ∷ tail) =
-    λ tail. append_assoc is.front (line ++ 10 ∷ []) tail ∙ ap (λ (bytes : List ℕ). is.front ++ bytes) (append_assoc line (10 ∷ []) tail) in
+    λ tail. append_assoc is.front (line ++ 10 ∷ []) tail
+    ∙ ap (λ (bytes : List ℕ). is.front ++ bytes) (append_assoc line (10 ∷ []) tail) in
     record {
       front = is.front ++ (line ++ 10 ∷ []);
       parted = is.parted ∙ ap (λ (bytes : List ℕ). is.front ++ bytes) parted ∙ sym (turned after);
@@ -105,21 +112,26 @@ front-line {input} {line} {after} {lines} {before} is loses parted =
 nothing-lost : {after line : List ℕ} → LosesLine [] after line → ⊥
 nothing-lost {after} {line} loses = absurd cc
 
-limit-line : {input line before after : List ℕ} {lines : List (List ℕ)} → IsFront input lines before ⊎ (before ≡ []) → LosesLine before after line
+limit-line : {input line before after : List ℕ} {lines : List (List ℕ)} → IsFront input lines before ⊎ (before ≡ [])
+    → LosesLine before after line
     → IsFront input (lines ++ line ∷ []) after ⊎ (after ≡ [])
 limit-line {input} {line} {before} {after} (inl is) loses = elim loses.parted [
   | inl parted ↦ inl (front-line is loses parted)
   | inr all ↦ inr all.1
 ]
-limit-line {input} {line} {before} {after} (inr nothing) loses = absurd (nothing-lost (subst (λ (bytes : List ℕ). LosesLine bytes after line) nothing loses))
+limit-line {input} {line} {before} {after} (inr nothing) loses =
+    absurd (nothing-lost (subst (λ (bytes : List ℕ). LosesLine bytes after line) nothing loses))
 
 -- one line more
-ahead-line : (input : List ℕ) (lines : List (List ℕ)) {line before after : List ℕ} → script_lines input ≡ lines ++ script_lines before → LosesLine before after line
+ahead-line : (input : List ℕ) (lines : List (List ℕ)) {line before after : List ℕ}
+    → script_lines input ≡ lines ++ script_lines before → LosesLine before after line
     → script_lines input ≡ (lines ++ line ∷ []) ++ script_lines after
 ahead-line input lines {line} {before} {after} ahead loses =
-    ahead ∙ ap (λ (more : List (List ℕ)). lines ++ more) loses.first ∙ sym (append_assoc lines (line ∷ []) (script_lines after))
+    ahead ∙ ap (λ (more : List (List ℕ)). lines ++ more) loses.first
+    ∙ sym (append_assoc lines (line ∷ []) (script_lines after))
 
-pub script-line : (input before after : Option (List ℕ)) (lines : List (List ℕ)) (line : List ℕ) → IsScript input lines before → TakesLine before after line
+pub script-line : (input before after : Option (List ℕ)) (lines : List (List ℕ)) (line : List ℕ)
+    → IsScript input lines before → TakesLine before after line
     → IsScript input (lines ++ line ∷ []) after
 script-line None None None lines line script takes = tt
 script-line None None (Some after) lines line script takes = absurd takes
@@ -130,15 +142,20 @@ script-line (Some input) (Some before) (Some after) lines line script takes =
     record { ahead = ahead-line input lines script.ahead takes; limit = limit-line script.limit takes }
 
 -- commits of the present state behind those that led to it
-pub made-more : (state present : State) (first more : List State) (before mid after : List Event) → held_after state.held first ≡ present.held
-    → Makes state.held first before mid → Makes present.held more mid after → Makes state.held (first ++ more) before after
+pub made-more : (state present : State) (first more : List State) (before mid after : List Event)
+    → held_after state.held first ≡ present.held
+    → Makes state.held first before mid → Makes present.held more mid after
+    → Makes state.held (first ++ more) before after
 made-more state present first more before mid after held made later =
-    Makes-append state.held first more before mid after made (subst (λ (held : Committed). Makes held more mid after) (sym held) later)
+    Makes-append state.held first more before mid after made (subst (λ (held : Committed). Makes held more mid after)
+    (sym held) later)
 
 -- a turn that goes on
-pub answered-more : {state : State} {input : Option (List ℕ)} {opened : List Event} {pend : Option (List ℕ)} {before store : Stored} {history told : Option (List Event)} {old mid new : Option (List ℕ)}
+pub answered-more : {state : State} {input : Option (List ℕ)} {opened : List Event} {pend : Option (List ℕ)}
+    {before store : Stored} {history told : Option (List Event)} {old mid new : Option (List ℕ)}
     → (after : Option (List ℕ)) → (so_far : HasAnswered state input opened pend before history old mid)
-    → IsTurn true so_far.present so_far.events pend after store told mid new → HasAnswered state input opened after store told old new
+    → IsTurn true so_far.present so_far.events pend after store told mid new
+    → HasAnswered state input opened after store told old new
 answered-more {state} {input} {opened} {pend} {before} {store} {history} {told} {old} {mid} {new} after so_far turns =
     let line = turns.replies.line in
     let is = turns.replies.answered in
@@ -147,21 +164,26 @@ answered-more {state} {input} {opened} {pend} {before} {store} {history} {told} 
       replies = so_far.replies ++ turns.reply ∷ [];
       commits = so_far.commits ++ is.commits;
       present = is.new;
-      run = run-snoc state so_far.present is.new so_far.lines so_far.replies line turns.reply so_far.commits is.commits so_far.run is.turn;
-      put = turns.put ∙ ap (λ (told : Option (List ℕ)). append_known told turns.reply) so_far.put ∙ put-snoc old so_far.replies turns.reply;
+      run = run-snoc state so_far.present is.new so_far.lines so_far.replies line turns.reply so_far.commits is.commits
+          so_far.run is.turn;
+      put = turns.put ∙ ap (λ (told : Option (List ℕ)). append_known told turns.reply) so_far.put
+          ∙ put-snoc old so_far.replies turns.reply;
       script = script-line input pend after so_far.lines line so_far.script turns.replies.takes;
       stands = is.stands;
       events = is.made.after;
       known = is.made.told;
-      made = made-more state so_far.present so_far.commits is.commits opened so_far.events is.made.after so_far.held so_far.made is.made.made;
-      held = held_after-append state.held so_far.commits is.commits ∙ ap (λ (held : Committed). held_after held is.commits) so_far.held
+      made = made-more state so_far.present so_far.commits is.commits opened so_far.events is.made.after so_far.held
+          so_far.made is.made.made;
+      held = held_after-append state.held so_far.commits is.commits
+          ∙ ap (λ (held : Committed). held_after held is.commits) so_far.held
           ∙ turn-held so_far.present line turns.reply is.commits is.new is.turn;
     }
 
 -- ---- which lines were answered
 
 -- all of them, where nothing is left
-pub all-lines : (input : List ℕ) (lines : List (List ℕ)) (left : Option (List ℕ)) → IsScript (Some input) lines left → IsAtEnd left → lines ≡ script_lines input
+pub all-lines : (input : List ℕ) (lines : List (List ℕ)) (left : Option (List ℕ)) → IsScript (Some input) lines left
+    → IsAtEnd left → lines ≡ script_lines input
 all-lines input lines None script end = absurd script
 all-lines input lines (Some left) script end =
     sym (script.ahead ∙ ap (λ (bytes : List ℕ). lines ++ script_lines bytes) end ∙ append-nil lines)
@@ -170,14 +192,16 @@ all-lines input lines (Some left) script end =
 pub first-lines : (input : List ℕ) (lines : List (List ℕ)) (left : Option (List ℕ)) → IsScript (Some input) lines left
     → lines ≡ take (length lines) (script_lines input)
 first-lines input lines None script = absurd script
-first-lines input lines (Some left) script = sym (ap (take (length lines)) script.ahead ∙ take-append_seam lines (script_lines left))
+first-lines input lines (Some left) script =
+    sym (ap (take (length lines)) script.ahead ∙ take-append_seam lines (script_lines left))
 
 -- and the next one behind them
 pub record HasNext (input : List ℕ) (lines : List (List ℕ)) (line : List ℕ) : Type 0 where
   pub later : List (List ℕ)
   pub are : script_lines input ≡ lines ++ line ∷ later
 
-pub next-line : (input : List ℕ) (lines : List (List ℕ)) (left after : Option (List ℕ)) (line : List ℕ) → IsScript (Some input) lines left
+pub next-line : (input : List ℕ) (lines : List (List ℕ)) (left after : Option (List ℕ)) (line : List ℕ)
+    → IsScript (Some input) lines left
     → TakesLine left after line → HasNext input lines line
 next-line input lines None after line script takes = absurd script
 next-line input lines (Some left) None line script takes = absurd takes
@@ -187,8 +211,10 @@ next-line input lines (Some left) (Some after) line script takes = record {
 }
 
 -- what stops before the next line
-stops-script : (state : State) (input : List ℕ) (lines : List (List ℕ)) (left : Option (List ℕ)) (events : List Event) (history : Option (List Event))
-    → IsScript (Some input) lines left → StopsLine state left events history → StopsBefore state (drop (length lines) (script_lines input)) events history
+stops-script : (state : State) (input : List ℕ) (lines : List (List ℕ)) (left : Option (List ℕ)) (events : List Event)
+    (history : Option (List Event))
+    → IsScript (Some input) lines left → StopsLine state left events history
+    → StopsBefore state (drop (length lines) (script_lines input)) events history
 stops-script state input lines left events history script (inl none) = inl none
 stops-script state input lines left events history script (inr breaks) =
     let next = next-line input lines left breaks.after breaks.line script breaks.takes in
@@ -200,14 +226,18 @@ stops-script state input lines left events history script (inr breaks) =
     })
 
 -- where the source tells its input
-pub script-told : {state : State} {input : Option (List ℕ)} {opened : List Event} {pend : Option (List ℕ)} {before : Stored} {history : Option (List Event)} {old mid : Option (List ℕ)}
-    → (so_far : HasAnswered state input opened pend before history old mid) (bytes : List ℕ) → input ≡ Some bytes → IsScript (Some bytes) so_far.lines pend
-script-told {pend = pend} so_far bytes told = subst (λ (input : Option (List ℕ)). IsScript input so_far.lines pend) told so_far.script
+pub script-told : {state : State} {input : Option (List ℕ)} {opened : List Event} {pend : Option (List ℕ)}
+    {before : Stored} {history : Option (List Event)} {old mid : Option (List ℕ)}
+    → (so_far : HasAnswered state input opened pend before history old mid) (bytes : List ℕ) → input ≡ Some bytes
+    → IsScript (Some bytes) so_far.lines pend
+script-told {pend = pend} so_far bytes told =
+    subst (λ (input : Option (List ℕ)). IsScript input so_far.lines pend) told so_far.script
 
 -- ---- the end
 
 -- what was committed, and nothing else, was done to the disk
-pub made-all : {held : Committed} {commits : List State} {events opened after : List Event} {history : Option (List Event)} → IsOpened events (Some opened)
+pub made-all : {held : Committed} {commits : List State} {events opened after : List Event}
+    {history : Option (List Event)} → IsOpened events (Some opened)
     → history ≡ Some after → Makes held commits opened after → MakesAll held commits events history
 made-all {held} {commits} {events} {opened} {after} {history} opens told made = record {
   opened = opened;
@@ -217,24 +247,30 @@ made-all {held} {commits} {events} {opened} {after} {history} opens told made = 
 }
 
 -- the turn that finds nothing left
-pub answered-all : {state : State} {input : Option (List ℕ)} {events opened : List Event} {pend : Option (List ℕ)} {before : Stored} {history told : Option (List Event)} {old mid new : Option (List ℕ)}
-    → (bytes : List ℕ) (after : Option (List ℕ)) (store : Stored) → (so_far : HasAnswered state input opened pend before history old mid) → input ≡ Some bytes
+pub answered-all : {state : State} {input : Option (List ℕ)} {events opened : List Event} {pend : Option (List ℕ)}
+    {before : Stored} {history told : Option (List Event)} {old mid new : Option (List ℕ)}
+    → (bytes : List ℕ) (after : Option (List ℕ)) (store : Stored)
+    → (so_far : HasAnswered state input opened pend before history old mid) → input ≡ Some bytes
     → IsOpened events (Some opened) → IsTurn false so_far.present so_far.events pend after store told mid new
     → Follows status.Done state bytes events told old new
-answered-all {state} {input} {events} {opened} {pend} {before} {history} {told} {old} {mid} {new} bytes after store so_far is opens over =
+answered-all {state} {input} {events} {opened} {pend} {before} {history} {told} {old} {mid} {new} bytes after store
+    so_far is opens over =
     let all = all-lines bytes so_far.lines pend (script-told so_far bytes is) over.0 in
     record {
       replies = so_far.replies;
       commits = so_far.commits;
       after = so_far.present;
-      run = subst (λ (lines : List (List ℕ)). Run state lines so_far.replies so_far.commits so_far.present) all so_far.run;
+      run = subst (λ (lines : List (List ℕ)). Run state lines so_far.replies so_far.commits so_far.present) all
+          so_far.run;
       put = over.3 ∙ so_far.put;
       made = made-all opens over.2 so_far.made;
     }
 
 -- whole replies up to a fault
-answered-some : {state : State} {input : Option (List ℕ)} {events opened : List Event} {pend : Option (List ℕ)} {before : Stored} {history told : Option (List Event)} {old mid new : Option (List ℕ)}
-    → (bytes : List ℕ) (so_far : HasAnswered state input opened pend before history old mid) → input ≡ Some bytes → IsOpened events (Some opened)
+answered-some : {state : State} {input : Option (List ℕ)} {events opened : List Event} {pend : Option (List ℕ)}
+    {before : Stored} {history told : Option (List Event)} {old mid new : Option (List ℕ)}
+    → (bytes : List ℕ) (so_far : HasAnswered state input opened pend before history old mid) → input ≡ Some bytes
+    → IsOpened events (Some opened)
     → told ≡ Some so_far.events → new ≡ mid → FollowsSome state (script_lines bytes) events told old new
 answered-some {state = state} {pend = pend} bytes so_far is opens told same =
     let front = first-lines bytes so_far.lines pend (script-told so_far bytes is) in
@@ -244,16 +280,20 @@ answered-some {state = state} {pend = pend} bytes so_far is opens told same =
         replies = so_far.replies;
         commits = so_far.commits;
         after = so_far.present;
-        run = subst (λ (lines : List (List ℕ)). Run state lines so_far.replies so_far.commits so_far.present) front so_far.run;
+        run = subst (λ (lines : List (List ℕ)). Run state lines so_far.replies so_far.commits so_far.present) front
+            so_far.run;
         put = same ∙ so_far.put;
         made = made-all opens told so_far.made;
       };
     }
 
 -- and then perhaps calls of the next line's commits
-answered-until : {state : State} {input : Option (List ℕ)} {events opened : List Event} {pend : Option (List ℕ)} {before : Stored} {history told : Option (List Event)} {old mid new : Option (List ℕ)}
-    → (bytes : List ℕ) (so_far : HasAnswered state input opened pend before history old mid) → input ≡ Some bytes → IsOpened events (Some opened)
-    → StopsLine so_far.present pend so_far.events told × (new ≡ mid) → FollowsUntil state (script_lines bytes) events told old new
+answered-until : {state : State} {input : Option (List ℕ)} {events opened : List Event} {pend : Option (List ℕ)}
+    {before : Stored} {history told : Option (List Event)} {old mid new : Option (List ℕ)}
+    → (bytes : List ℕ) (so_far : HasAnswered state input opened pend before history old mid) → input ≡ Some bytes
+    → IsOpened events (Some opened)
+    → StopsLine so_far.present pend so_far.events told × (new ≡ mid)
+    → FollowsUntil state (script_lines bytes) events told old new
 answered-until {state} {input} {events} {opened} {pend} {before} {history} {told} bytes so_far is opens stops =
     let script = script-told so_far bytes is in
     let front = first-lines bytes so_far.lines pend script in
@@ -262,7 +302,8 @@ answered-until {state} {input} {events} {opened} {pend} {before} {history} {told
       replies = so_far.replies;
       commits = so_far.commits;
       after = so_far.present;
-      run = subst (λ (lines : List (List ℕ)). Run state lines so_far.replies so_far.commits so_far.present) front so_far.run;
+      run = subst (λ (lines : List (List ℕ)). Run state lines so_far.replies so_far.commits so_far.present) front
+          so_far.run;
       put = stops.1 ∙ so_far.put;
       mid = so_far.events;
       made = made-all opens refl so_far.made;
@@ -270,25 +311,34 @@ answered-until {state} {input} {events} {opened} {pend} {before} {history} {told
     }
 
 -- the sink failed: a front of the last reply
-failed-sink : {state : State} {input : Option (List ℕ)} {events opened : List Event} {pend : Option (List ℕ)} {before store : Stored} {history told : Option (List Event)} {old mid new : Option (List ℕ)}
-    → (bytes : List ℕ) (so_far : HasAnswered state input opened pend before history old mid) → input ≡ Some bytes → IsOpened events (Some opened)
-    → TurnsPart so_far.present so_far.events pend store told mid new → Follows status.Sink state bytes events told old new
-failed-sink {state} {input} {events} {opened} {pend} {before} {store} {history} {told} {old} {mid} {new} bytes so_far told-as opens turns =
+failed-sink : {state : State} {input : Option (List ℕ)} {events opened : List Event} {pend : Option (List ℕ)}
+    {before store : Stored} {history told : Option (List Event)} {old mid new : Option (List ℕ)}
+    → (bytes : List ℕ) (so_far : HasAnswered state input opened pend before history old mid) → input ≡ Some bytes
+    → IsOpened events (Some opened)
+    → TurnsPart so_far.present so_far.events pend store told mid new
+    → Follows status.Sink state bytes events told old new
+failed-sink {state} {input} {events} {opened} {pend} {before} {store} {history} {told} {old} {mid} {new} bytes so_far
+    told-as opens turns =
     let line = turns.replies.line in
     let is = turns.replies.answered in
     let lines = so_far.lines ++ line ∷ [] in
-    let script = script-line (Some bytes) pend turns.after so_far.lines line (script-told so_far bytes told-as) turns.replies.takes in
+    let script = script-line (Some bytes) pend turns.after so_far.lines line (script-told so_far bytes told-as)
+    turns.replies.takes in
     let front = first-lines bytes lines turns.after script in
-    let run = run-snoc state so_far.present is.new so_far.lines so_far.replies line turns.reply so_far.commits is.commits so_far.run is.turn in
+    let run = run-snoc state so_far.present is.new so_far.lines so_far.replies line turns.reply so_far.commits
+    is.commits so_far.run is.turn in
     record {
       count = length lines;
       replies = so_far.replies;
       last = turns.reply;
       commits = so_far.commits ++ is.commits;
       after = is.new;
-      run = subst (λ (answered : List (List ℕ)). Run state answered (so_far.replies ++ turns.reply ∷ []) (so_far.commits ++ is.commits) is.new) front run;
+      run = subst (λ (answered : List (List ℕ)). Run state answered (so_far.replies ++ turns.reply ∷ [])
+          (so_far.commits ++ is.commits) is.new) front run;
       put = subst (λ (held : Option (List ℕ)). AppendsFront held new turns.reply) so_far.put turns.put;
-      made = made-all opens is.made.told (made-more state so_far.present so_far.commits is.commits opened so_far.events is.made.after so_far.held so_far.made is.made.made);
+      made = made-all opens is.made.told
+          (made-more state so_far.present so_far.commits is.commits opened so_far.events is.made.after so_far.held
+          so_far.made is.made.made);
     }
 
 -- ---- a script that is too long
@@ -298,27 +348,33 @@ pub record HasFed (input : List ℕ) (feeding : Feeding) (left : Option (List �
   pub counted : CountsTaken (Some input) left 0 feeding.taken
   pub within : IsWithinLimit feeding
 
-pub ended-at_limit : {input rest : List ℕ} (left : List ℕ) {lines : List (List ℕ)} {taken : ℕ} → IsFront input lines (rest ++ left)
-    → length input + 0 ≡ length left + taken → IsTooLong (record { taken = taken; rest = rest }) → taken ≤ longest_script + length rest
+pub ended-at_limit : {input rest : List ℕ} (left : List ℕ) {lines : List (List ℕ)} {taken : ℕ}
+    → IsFront input lines (rest ++ left)
+    → length input + 0 ≡ length left + taken → IsTooLong (record { taken = taken; rest = rest })
+    → taken ≤ longest_script + length rest
     → ended_lines (take longest_script input) ≡ lines
 ended-at_limit {input} {rest} left {lines} {taken} is counted too_long held =
     let parts : length input ≡ length is.front + (length rest + length left) =
-    ap length is.parted ∙ length-append is.front (rest ++ left) ∙ ap (λ (n : ℕ). length is.front + n) (length-append rest left) in
+    ap length is.parted ∙ length-append is.front (rest ++ left)
+    ∙ ap (λ (n : ℕ). length is.front + n) (length-append rest left) in
     let handed : taken ≡ length is.front + length rest = omega (arith, parts, counted) in
-    let limit : longest_script ≡ length is.front + (longest_script - (taken - length rest)) = omega (arith, handed, held) in
+    let limit : longest_script ≡ length is.front + (longest_script - (taken - length rest)) =
+    omega (arith, handed, held) in
     let room : longest_script - (taken - length rest) ≤ length rest = omega (arith, handed, held, too_long.taken) in
     let window = take (longest_script - (taken - length rest)) rest in
     let cut : take longest_script input ≡ is.front ++ window =
     ap (take longest_script) is.parted
     ∙ ap (λ (n : ℕ). take n (is.front ++ (rest ++ left))) limit
     ∙ take-append-add is.front (rest ++ left) (longest_script - (taken - length rest))
-    ∙ ap (λ (bytes : List ℕ). is.front ++ bytes) (take-append-le (longest_script - (taken - length rest)) rest left room) in
+    ∙ ap (λ (bytes : List ℕ). is.front ++ bytes)
+    (take-append-le (longest_script - (taken - length rest)) rest left room) in
     ap ended_lines cut ∙ is.ended window
     ∙ ap (λ (more : List (List ℕ)). lines ++ more) (ended_lines-none window too_long.no_newline)
     ∙ append-nil lines
 
 -- the lines within the limit, where the input is too long
-pub limit-lines : (input : List ℕ) (lines : List (List ℕ)) (feeding : Feeding) (left : Option (List ℕ)) → IsScript (Some input) lines (pending feeding left)
+pub limit-lines : (input : List ℕ) (lines : List (List ℕ)) (feeding : Feeding) (left : Option (List ℕ))
+    → IsScript (Some input) lines (pending feeding left)
     → HasFed input feeding left → IsTooLong feeding → lines ≡ ended_lines (take longest_script input)
 limit-lines input lines feeding None script fed too_long = absurd fed.counted
 limit-lines input lines feeding (Some left) script fed too_long = elim script.limit [
@@ -328,30 +384,42 @@ limit-lines input lines feeding (Some left) script fed too_long = elim script.li
       absurd (omega (arith, none, fed.within.handed_out, too_long.taken))
 ]
 
-pub answered-limit : {state : State} {input : Option (List ℕ)} {opened : List Event} {pend : Option (List ℕ)} {before : Stored} {history : Option (List Event)} {old mid : Option (List ℕ)}
-    → (bytes : List ℕ) (feeding : Feeding) (left : Option (List ℕ)) (so_far : HasAnswered state input opened pend before history old mid) → input ≡ Some bytes
-    → pending feeding left ≡ pend → HasFed bytes feeding left → IsTooLong feeding → so_far.lines ≡ ended_lines (take longest_script bytes)
+pub answered-limit : {state : State} {input : Option (List ℕ)} {opened : List Event} {pend : Option (List ℕ)}
+    {before : Stored} {history : Option (List Event)} {old mid : Option (List ℕ)}
+    → (bytes : List ℕ) (feeding : Feeding) (left : Option (List ℕ))
+    (so_far : HasAnswered state input opened pend before history old mid) → input ≡ Some bytes
+    → pending feeding left ≡ pend → HasFed bytes feeding left → IsTooLong feeding
+    → so_far.lines ≡ ended_lines (take longest_script bytes)
 answered-limit bytes feeding left so_far is same fed too_long =
     limit-lines bytes so_far.lines feeding left
-    (subst (λ (told : Option (List ℕ)). IsScript (Some bytes) so_far.lines told) (sym same) (script-told so_far bytes is)) fed too_long
+    (subst (λ (told : Option (List ℕ)). IsScript (Some bytes) so_far.lines told) (sym same)
+    (script-told so_far bytes is)) fed too_long
 
 -- a turn that fails
-pub answered-failed : {state : State} {input : Option (List ℕ)} {events opened : List Event} {pend : Option (List ℕ)} {before : Stored} {history : Option (List Event)} {old mid : Option (List ℕ)}
-    → (end : Status) (bytes : List ℕ) (feeding : Feeding) (left : Option (List ℕ)) (store : Stored) (told : Option (List Event)) (new : Option (List ℕ))
+pub answered-failed : {state : State} {input : Option (List ℕ)} {events opened : List Event} {pend : Option (List ℕ)}
+    {before : Stored} {history : Option (List Event)} {old mid : Option (List ℕ)}
+    → (end : Status) (bytes : List ℕ) (feeding : Feeding) (left : Option (List ℕ)) (store : Stored)
+    (told : Option (List Event)) (new : Option (List ℕ))
     → (so_far : HasAnswered state input opened pend before history old mid) → input ≡ Some bytes
     → IsOpened events (Some opened) → HasFed bytes feeding left → (end ≡ status.TooLong → IsTooLong feeding)
-    → FailsToTurn end so_far.present so_far.events pend (pending feeding left) store told mid new → Follows end state bytes events told old new
-answered-failed status.Sink bytes feeding left store told new so_far is opens fed too_long fails = failed-sink bytes so_far is opens fails
-answered-failed status.Source bytes feeding left store told new so_far is opens fed too_long fails = answered-some bytes so_far is opens fails.0 fails.1
-answered-failed status.NoMemory bytes feeding left store told new so_far is opens fed too_long fails = inr (answered-until bytes so_far is opens fails)
-answered-failed status.Disk bytes feeding left store told new so_far is opens fed too_long fails = inr (answered-until bytes so_far is opens fails)
+    → FailsToTurn end so_far.present so_far.events pend (pending feeding left) store told mid new
+    → Follows end state bytes events told old new
+answered-failed status.Sink bytes feeding left store told new so_far is opens fed too_long fails =
+    failed-sink bytes so_far is opens fails
+answered-failed status.Source bytes feeding left store told new so_far is opens fed too_long fails =
+    answered-some bytes so_far is opens fails.0 fails.1
+answered-failed status.NoMemory bytes feeding left store told new so_far is opens fed too_long fails =
+    inr (answered-until bytes so_far is opens fails)
+answered-failed status.Disk bytes feeding left store told new so_far is opens fed too_long fails =
+    inr (answered-until bytes so_far is opens fails)
 answered-failed {state} status.TooLong bytes feeding left store told new so_far is opens fed too_long fails =
     let lines = answered-limit bytes feeding left so_far is fails.0 fed (too_long refl) in
     record {
       replies = so_far.replies;
       commits = so_far.commits;
       after = so_far.present;
-      run = subst (λ (lines : List (List ℕ)). Run state lines so_far.replies so_far.commits so_far.present) lines so_far.run;
+      run = subst (λ (lines : List (List ℕ)). Run state lines so_far.replies so_far.commits so_far.present) lines
+          so_far.run;
       put = fails.2 ∙ so_far.put;
       made = made-all opens fails.1 so_far.made;
     }
@@ -364,7 +432,8 @@ answered-failed status.Sizes bytes feeding left store told new so_far is opens f
 -- ---- how many bytes were taken
 
 -- the count of what was taken, from the beginning on
-pub counted-on : (input mid left : Option (List ℕ)) (taken now : ℕ) → CountsTaken input mid 0 taken → CountsTaken mid left taken now → CountsTaken input left 0 now
+pub counted-on : (input mid left : Option (List ℕ)) (taken now : ℕ) → CountsTaken input mid 0 taken
+    → CountsTaken mid left taken now → CountsTaken input left 0 now
 counted-on None None None taken now first then = tt
 counted-on None None (Some left) taken now first then = absurd then
 counted-on None (Some mid) left taken now first then = absurd first
@@ -377,7 +446,8 @@ counted-none None = tt
 counted-none (Some input) = refl
 
 -- a run that ends otherwise than at its input's end
-pub taken-by : (end : Status) (feeding : Feeding) (input left : Option (List ℕ)) → CountsTaken input left 0 feeding.taken → IsWithinLimit feeding
+pub taken-by : (end : Status) (feeding : Feeding) (input left : Option (List ℕ))
+    → CountsTaken input left 0 feeding.taken → IsWithinLimit feeding
     → (end ≡ status.TooLong → IsTooLong feeding) → (end ≡ status.Done → ⊥) → IsTaken end input left
 taken-by end feeding None None counted within too_long not_done = tt
 taken-by end feeding None (Some left) counted within too_long not_done = absurd counted
@@ -391,7 +461,8 @@ taken-by end feeding (Some input) (Some left) counted within too_long not_done =
 }
 
 -- a run that reads its input to the end
-pub taken-whole : (feeding : Feeding) (input left : Option (List ℕ)) → CountsTaken input left 0 feeding.taken → IsWithinLimit feeding
+pub taken-whole : (feeding : Feeding) (input left : Option (List ℕ)) → CountsTaken input left 0 feeding.taken
+    → IsWithinLimit feeding
     → feeding.rest ≡ [] → IsAtEnd left → IsTaken status.Done input left
 taken-whole feeding None None counted within nothing end = tt
 taken-whole feeding None (Some left) counted within nothing end = absurd counted

@@ -18,14 +18,17 @@ is_end_of Check end = is_checkers end
 is_end_of (Generate seed count) end = is_generators end
 
 -- words that ask for one may end as it does
-pub ends-by : (words : List (String Global)) (form : Form) (end : Status) → AskFor (texts words) form → IsTrue (is_end_of form end)
+pub ends-by : (words : List (String Global)) (form : Form) (end : Status) → AskFor (texts words) form
+    → IsTrue (is_end_of form end)
     → ((end ≡ status.Sizes) ↔ AskUnserved words) → EndsByForm end words
 ends-by words form end ask is sizes = record {
   sizes = sizes;
-  makers = λ sizes asks. subst (λ (f : Form). IsTrue (is_end_of f end)) (one_form (texts words) form (Mkfs sizes) ask asks) is;
+  makers = λ sizes asks. subst (λ (f : Form). IsTrue (is_end_of f end))
+      (one_form (texts words) form (Mkfs sizes) ask asks) is;
   runners = λ asks. subst (λ (f : Form). IsTrue (is_end_of f end)) (one_form (texts words) form Run ask asks) is;
   checkers = λ asks. subst (λ (f : Form). IsTrue (is_end_of f end)) (one_form (texts words) form Check ask asks) is;
-  generators = λ seed count asks. subst (λ (f : Form). IsTrue (is_end_of f end)) (one_form (texts words) form (Generate seed count) ask asks) is;
+  generators = λ seed count asks. subst (λ (f : Form). IsTrue (is_end_of f end))
+      (one_form (texts words) form (Generate seed count) ask asks) is;
 }
 
 -- forms by number

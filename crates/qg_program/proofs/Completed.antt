@@ -1,5 +1,6 @@
 -- How what was asked ends where nothing fails.
-use Rattle.std.proofs.Common.{◌≡◌, inl, inr, ℕ, ◌≤◌, List, length, Option, Some, None, IsTrue, refl, sym, ◌∙◌, arith, String, Global}
+use Rattle.std.proofs.Common.{◌≡◌, inl, inr, ℕ, ◌≤◌, List, length, Option, Some, None, IsTrue, refl, sym, ◌∙◌, arith}
+use Rattle.std.proofs.Common.{String, Global}
 use Rattle.qg_device.specs.History.{Event, content}
 use Rattle.qg_grammar.specs.ScriptText.{longest_script}
 use Rattle.qg_image.specs.State.{State}
@@ -19,9 +20,11 @@ use Rattle.qg_program.specs.Putting.{Refuses}
 use Rattle.qg_program.specs.Running.{IsTaken}
 
 -- what ends for a cause, and is done where there is none
-pub for-cause : {words : List (String Global)} {end : Status} {before : Option (List Event)} {left : Option (List ℕ)} {S K D : Type 0}
+pub for-cause : {words : List (String Global)} {end : Status} {before : Option (List Event)} {left : Option (List ℕ)}
+    {S K D : Type 0}
     → HasCauses end S K D
-    → (HasCauses end S K D → (events : List Event) → before ≡ Some events → NothingFails S K D → IsComplete words end (content events) left)
+    → (HasCauses end S K D → (events : List Event) → before ≡ Some events → NothingFails S K D
+    → IsComplete words end (content events) left)
     → EndsForCause words end before left S K D
 for-cause causes complete = record { causes = causes; complete = complete causes }
 
@@ -34,46 +37,58 @@ pub failure-found : (image : List ℕ) → (IsSound image → ⊥) → (failure 
 failure-found image unsound = found (verdict image) unsound
 
 -- an input that is a script is never too long
-script-taken : (input : List ℕ) (after : Option (List ℕ)) → IsTaken status.TooLong (Some input) after → length input ≤ longest_script → ⊥
+script-taken : (input : List ℕ) (after : Option (List ℕ)) → IsTaken status.TooLong (Some input) after
+    → length input ≤ longest_script → ⊥
 script-taken input None taken within = absurd taken
 script-taken input (Some left) taken within =
     let count = taken.too_long refl in
     absurd (omega (arith, taken.taken, count, within))
 
 -- no failure is told of a sound image
-none-found : (image : List ℕ) (report : Report) → IsSound image → IsReportOn image report → report_end report ≡ status.Found → ⊥
+none-found : (image : List ℕ) (report : Report) → IsSound image → IsReportOn image report
+    → report_end report ≡ status.Found → ⊥
 none-found image (Sound generation) sound is ends = absurd cc
 none-found image (Broken rule address) sound is ends = let same = sym sound ∙ is in absurd cc
 none-found image (Differs group which stored counted) sound is ends = let same = sym sound ∙ is in absurd cc
 
 -- nor of another that it is sound
-none-done : (image : List ℕ) (report : Report) → (IsSound image → ⊥) → IsReportOn image report → report_end report ≡ status.Done → ⊥
+none-done : (image : List ℕ) (report : Report) → (IsSound image → ⊥) → IsReportOn image report
+    → report_end report ≡ status.Done → ⊥
 none-done image (Sound generation) unsound is ends = unsound is.sound
 none-done image (Broken rule address) unsound is ends = absurd cc
 none-done image (Differs group which stored counted) unsound is ends = absurd cc
 
 module _ {S K D : Type 0} (nothing : NothingFails S K D) where
   -- a run over a sound image
-  pub follows-ends : (end : Status) (state : State) (input : List ℕ) (events : List Event) (history : Option (List Event)) (old new after : Option (List ℕ))
-      → HasCauses end S K D → Follows end state input events history old new → IsTaken end (Some input) after → length input ≤ longest_script → EndsIn status.Done end
+  pub follows-ends : (end : Status) (state : State) (input : List ℕ) (events : List Event)
+      (history : Option (List Event)) (old new after : Option (List ℕ))
+      → HasCauses end S K D → Follows end state input events history old new → IsTaken end (Some input) after
+      → length input ≤ longest_script → EndsIn status.Done end
   follows-ends status.Done state input events history old new after causes follows taken within = inl refl
   follows-ends status.NoMemory state input events history old new after causes follows taken within = inr refl
-  follows-ends status.TooLong state input events history old new after causes follows taken within = absurd (script-taken input after taken within)
-  follows-ends status.Source state input events history old new after causes follows taken within = absurd (nothing.source (causes.source refl))
-  follows-ends status.Sink state input events history old new after causes follows taken within = absurd (nothing.sink (causes.sink refl))
-  follows-ends status.Disk state input events history old new after causes follows taken within = absurd (nothing.disk (causes.disk refl))
+  follows-ends status.TooLong state input events history old new after causes follows taken within =
+      absurd (script-taken input after taken within)
+  follows-ends status.Source state input events history old new after causes follows taken within =
+      absurd (nothing.source (causes.source refl))
+  follows-ends status.Sink state input events history old new after causes follows taken within =
+      absurd (nothing.sink (causes.sink refl))
+  follows-ends status.Disk state input events history old new after causes follows taken within =
+      absurd (nothing.disk (causes.disk refl))
   follows-ends status.Words state input events history old new after causes follows taken within = absurd follows
   follows-ends status.Image state input events history old new after causes follows taken within = absurd follows
   follows-ends status.Found state input events history old new after causes follows taken within = absurd follows
   follows-ends status.Sizes state input events history old new after causes follows taken within = absurd follows
 
   -- one of the generator's lines
-  pub generates-ends : (end : Status) (state : State) (seed count : ℕ) (events : List Event) (history : Option (List Event)) (old new : Option (List ℕ))
+  pub generates-ends : (end : Status) (state : State) (seed count : ℕ) (events : List Event)
+      (history : Option (List Event)) (old new : Option (List ℕ))
       → HasCauses end S K D → Generates end state seed count events history old new → EndsIn status.Done end
   generates-ends status.Done state seed count events history old new causes generates = inl refl
   generates-ends status.NoMemory state seed count events history old new causes generates = inr refl
-  generates-ends status.Sink state seed count events history old new causes generates = absurd (nothing.sink (causes.sink refl))
-  generates-ends status.Disk state seed count events history old new causes generates = absurd (nothing.disk (causes.disk refl))
+  generates-ends status.Sink state seed count events history old new causes generates =
+      absurd (nothing.sink (causes.sink refl))
+  generates-ends status.Disk state seed count events history old new causes generates =
+      absurd (nothing.disk (causes.disk refl))
   generates-ends status.Source state seed count events history old new causes generates = absurd generates
   generates-ends status.TooLong state seed count events history old new causes generates = absurd generates
   generates-ends status.Words state seed count events history old new causes generates = absurd generates
@@ -82,7 +97,8 @@ module _ {S K D : Type 0} (nothing : NothingFails S K D) where
   generates-ends status.Sizes state seed count events history old new causes generates = absurd generates
 
   -- either over another image
-  pub refuses-ends : (end : Status) (text : List ℕ) (old new : Option (List ℕ)) → HasCauses end S K D → Refuses end text old new → EndsIn status.Image end
+  pub refuses-ends : (end : Status) (text : List ℕ) (old new : Option (List ℕ)) → HasCauses end S K D
+      → Refuses end text old new → EndsIn status.Image end
   refuses-ends status.Image text old new causes refuses = inl refl
   refuses-ends status.NoMemory text old new causes refuses = inr refl
   refuses-ends status.Sink text old new causes refuses = absurd (nothing.sink (causes.sink refl))
@@ -95,11 +111,13 @@ module _ {S K D : Type 0} (nothing : NothingFails S K D) where
   refuses-ends status.Sizes text old new causes refuses = absurd refuses
 
   -- a check
-  pub checks-done : (end : Status) (events : List Event) (history : Option (List Event)) (old new : Option (List ℕ)) → HasCauses end S K D
+  pub checks-done : (end : Status) (events : List Event) (history : Option (List Event)) (old new : Option (List ℕ))
+      → HasCauses end S K D
       → history ≡ Some events → Checks end history old new → IsSound (content events) → EndsIn status.Done end
   checks-done status.Done events history old new causes told checks sound = inl refl
   checks-done status.NoMemory events history old new causes told checks sound = inr refl
-  checks-done status.Found events history old new causes told checks sound = absurd (none-found (content events) checks.report sound (checks.right events told) checks.ends)
+  checks-done status.Found events history old new causes told checks sound =
+      absurd (none-found (content events) checks.report sound (checks.right events told) checks.ends)
   checks-done status.Sink events history old new causes told checks sound = absurd (nothing.sink (causes.sink refl))
   checks-done status.Disk events history old new causes told checks sound = absurd (nothing.disk (causes.disk refl))
   checks-done status.Source events history old new causes told checks sound = absurd checks
@@ -108,11 +126,13 @@ module _ {S K D : Type 0} (nothing : NothingFails S K D) where
   checks-done status.Image events history old new causes told checks sound = absurd checks
   checks-done status.Sizes events history old new causes told checks sound = absurd checks
 
-  pub checks-found : (end : Status) (events : List Event) (history : Option (List Event)) (old new : Option (List ℕ)) → HasCauses end S K D
+  pub checks-found : (end : Status) (events : List Event) (history : Option (List Event)) (old new : Option (List ℕ))
+      → HasCauses end S K D
       → history ≡ Some events → Checks end history old new → (IsSound (content events) → ⊥) → EndsIn status.Found end
   checks-found status.Found events history old new causes told checks unsound = inl refl
   checks-found status.NoMemory events history old new causes told checks unsound = inr refl
-  checks-found status.Done events history old new causes told checks unsound = absurd (none-done (content events) checks.report unsound (checks.right events told) checks.ends)
+  checks-found status.Done events history old new causes told checks unsound =
+      absurd (none-done (content events) checks.report unsound (checks.right events told) checks.ends)
   checks-found status.Sink events history old new causes told checks unsound = absurd (nothing.sink (causes.sink refl))
   checks-found status.Disk events history old new causes told checks unsound = absurd (nothing.disk (causes.disk refl))
   checks-found status.Source events history old new causes told checks unsound = absurd checks
@@ -122,7 +142,8 @@ module _ {S K D : Type 0} (nothing : NothingFails S K D) where
   checks-found status.Sizes events history old new causes told checks unsound = absurd checks
 
   -- an image is made
-  pub makes-done : (end : Status) → HasCauses end S K D → IsTrue (is_makers end) → (end ≡ status.Sizes → ⊥) → EndsIn status.Done end
+  pub makes-done : (end : Status) → HasCauses end S K D → IsTrue (is_makers end) → (end ≡ status.Sizes → ⊥)
+      → EndsIn status.Done end
   makes-done status.Done causes is served = inl refl
   makes-done status.NoMemory causes is served = inr refl
   makes-done status.Sink causes is served = absurd (nothing.sink (causes.sink refl))

@@ -1,5 +1,6 @@
 -- What a run of the generator's lines leaves behind, by how it ended.
-use Rattle.std.proofs.Common.{◌≡◌, ◌≢◌, ◌⊎◌, ◌∙◌, inl, inr, ℕ, ◌+◌, ◌≤◌, List, [], ◌∷◌, ◌++◌, length, map, take, drop, Option, Some, IsTrue, refl, sym, ap, subst}
+use Rattle.std.proofs.Common.{◌≡◌, ◌≢◌, ◌⊎◌, ◌∙◌, inl, inr, ℕ, ◌+◌, ◌≤◌, List, [], ◌∷◌, ◌++◌, length, map, take, drop}
+use Rattle.std.proofs.Common.{Option, Some, IsTrue, refl, sym, ap, subst}
 use Rattle.std.specs.Io.KnownBytes.{append_known}
 use Rattle.std.proofs.lemmas.List.{length-take-le, take-append-drop}
 use Rattle.std.proofs.lemmas.Option.{same_Some}
@@ -57,7 +58,8 @@ module _ (state : State) (seed count : ℕ) (opened after : List Event) (text : 
   }
 
   -- and it ends so
-  ended-loaded : (end : Status) (old new : Option (List ℕ)) → AreDrawn end (asked_lines seed count) (asked_lines seed count)
+  ended-loaded : (end : Status) (old new : Option (List ℕ))
+      → AreDrawn end (asked_lines seed count) (asked_lines seed count)
       → IsTold end count replies old new → Begins end loaded.tells.after (Drawn seed count) (asked_lines seed count) []
       → HasEnded end state (Drawn seed count) opened after old new
   ended-loaded end old new answered put begins = record {
@@ -78,20 +80,24 @@ module _ (state : State) (seed count : ℕ) (opened after : List Event) (text : 
   -- the text was put, or a front of it
   ended-put : (old new : Option (List ℕ)) → new ≡ append_known old text
       → HasEnded status.Done state (Drawn seed count) opened after old new
-  ended-put old new put = ended-loaded status.Done old new refl (record { text = text; made = text-made; put = put }) refl
+  ended-put old new put = ended-loaded status.Done old new refl (record { text = text; made = text-made; put = put })
+      refl
 
   ended-front : (old new : Option (List ℕ)) → AppendsFront old new text
       → HasEnded status.Sink state (Drawn seed count) opened after old new
-  ended-front old new put = ended-loaded status.Sink old new refl (record { text = text; made = text-made; put = put }) refl
+  ended-front old new put = ended-loaded status.Sink old new refl (record { text = text; made = text-made; put = put })
+      refl
 
 -- ---- it stopped before some line
 
 -- the first of some lines, as many as were taken of them
-taken-again : (count : ℕ) (lines : List (List ℕ)) → count ≤ length lines → take count lines ≡ take (length (take count lines)) lines
+taken-again : (count : ℕ) (lines : List (List ℕ)) → count ≤ length lines
+    → take count lines ≡ take (length (take count lines)) lines
 taken-again count lines within = ap (λ (n : ℕ). take n lines) (sym (length-take-le count lines within))
 
 -- and the next one behind them
-next-taken : (count : ℕ) (lines : List (List ℕ)) (line : List ℕ) (later : List (List ℕ)) → drop count lines ≡ line ∷ later
+next-taken : (count : ℕ) (lines : List (List ℕ)) (line : List ℕ) (later : List (List ℕ))
+    → drop count lines ≡ line ∷ later
     → IsNext lines (take count lines) line
 next-taken count lines line later first =
     (later, sym (take-append-drop count lines) ∙ ap (λ (more : List (List ℕ)). take count lines ++ more) first)
@@ -102,7 +108,8 @@ module _ (state : State) (seed count : ℕ) (opened after : List Event)
   lines = take stops.count (asked_lines seed count)
 
   -- the next line had begun these commits
-  ended-begun : (end : Status) (old new : Option (List ℕ)) (begun : List State) → AreDrawn end (asked_lines seed count) lines
+  ended-begun : (end : Status) (old new : Option (List ℕ)) (begun : List State)
+      → AreDrawn end (asked_lines seed count) lines
       → IsTold end count stops.replies old new → Begins end stops.after (Drawn seed count) lines begun
       → AreBehind stops.after begun stops.made.after after → HasEnded end state (Drawn seed count) opened after old new
   ended-begun end old new begun answered put begins next = record {
@@ -136,7 +143,8 @@ module _ (state : State) (seed count : ℕ) (opened after : List Event)
   ended-by end old new answered put begins (inr breaks) =
       let given = breaks.starts.command in
       let done : IsDoneSoFar stops.after given stops.made.after (Some after) = inr breaks.starts.starts in
-      let begun = begun-so-far stops.after given stops.after stops.made.after (Some after) (last-itself stops.after) done in
+      let begun = begun-so-far stops.after given stops.after stops.made.after (Some after)
+      (last-itself stops.after) done in
       let same : begun.after ≡ after = sym (same_Some after begun.after begun.told) in
       ended-begun end old new begun.commits answered put
       (begins begun.commits (inr (record {
@@ -155,7 +163,8 @@ module _ (state : State) (seed count : ℕ) (opened after : List Event)
 
   stopped-there : StopsBefore stops.after (drop stops.count (asked_lines seed count)) stops.made.after (Some after)
   stopped-there =
-      subst (λ (mid : List Event). StopsBefore stops.after (drop stops.count (asked_lines seed count)) mid (Some after)) mid-made
+      subst (λ (mid : List Event). StopsBefore stops.after (drop stops.count (asked_lines seed count)) mid (Some after))
+      mid-made
       stops.stops
 
   again : lines ≡ take (length lines) (asked_lines seed count)
@@ -178,19 +187,22 @@ module _ (state : State) (seed count : ℕ) (opened after : List Event)
 
 -- ---- the end
 
-module _ (state : State) (seed count : ℕ) (events opened after : List Event) (opening : HasOpened state events opened) where
+module _ (state : State) (seed count : ℕ) (events opened after : List Event)
+    (opening : HasOpened state events opened) where
   leaves-by : (end : Status) (old new : Option (List ℕ)) → HasEnded end state (Drawn seed count) opened after old new
       → LeavesBehind end state (Drawn seed count) events after old new
   leaves-by end old new ended = leaves-ended end state (Drawn seed count) events opened after old new ended opening
 
   -- the text was not put whole
-  leaves-unput : (end : Status) (text : List ℕ) (old new : Option (List ℕ)) → IsLoaded state seed count text opened (Some after)
+  leaves-unput : (end : Status) (text : List ℕ) (old new : Option (List ℕ))
+      → IsLoaded state seed count text opened (Some after)
       → FailsToPut end text old new → LeavesBehind end state (Drawn seed count) events after old new
   leaves-unput status.Sink text old new loaded fails =
       leaves-by status.Sink old new (ended-front state seed count opened after text loaded old new fails)
   leaves-unput status.NoMemory text old new loaded fails =
       leaves-by status.NoMemory old new
-      (ended-stopped state seed count opened after (stopped-told state seed count text loaded) status.NoMemory old new fails refl
+      (ended-stopped state seed count opened after (stopped-told state seed count text loaded) status.NoMemory old new
+      fails refl
       (λ is. absurd cc))
   leaves-unput status.Done text old new loaded fails = absurd fails
   leaves-unput status.Words text old new loaded fails = absurd fails
@@ -202,7 +214,8 @@ module _ (state : State) (seed count : ℕ) (events opened after : List Event) (
   leaves-unput status.TooLong text old new loaded fails = absurd fails
 
   -- it was to be put
-  leaves-put : (end : Status) (text : List ℕ) (old new : Option (List ℕ)) → IsLoaded state seed count text opened (Some after)
+  leaves-put : (end : Status) (text : List ℕ) (old new : Option (List ℕ))
+      → IsLoaded state seed count text opened (Some after)
       → PutsAndEnds status.Done end text old new → LeavesBehind end state (Drawn seed count) events after old new
   leaves-put end text old new loaded (inl put) =
       subst (λ (end : Status). LeavesBehind end state (Drawn seed count) events after old new) (sym put.0)
@@ -214,9 +227,11 @@ module _ (state : State) (seed count : ℕ) (events opened after : List Event) (
       → history ≡ Some after → IsLoaded state seed count text opened history → PutsAndEnds status.Done end text old new
       → LeavesBehind end state (Drawn seed count) events after old new
   lines-loaded history end text old new now loaded puts =
-      leaves-put end text old new (subst (λ (h : Option (List Event)). IsLoaded state seed count text opened h) now loaded) puts
+      leaves-put end text old new
+      (subst (λ (h : Option (List Event)). IsLoaded state seed count text opened h) now loaded) puts
 
-  pub lines-stopped : (history : Option (List Event)) (end result : Status) (old new : Option (List ℕ)) → history ≡ Some after
+  pub lines-stopped : (history : Option (List Event)) (end result : Status) (old new : Option (List ℕ))
+      → history ≡ Some after
       → StopsWithin state (asked_lines seed count) opened history → result ≡ end → new ≡ old → IsTrue (is_stop end)
       → end ≢ status.Image → LeavesBehind result state (Drawn seed count) events after old new
   lines-stopped history end result old new now stops same silent is sound =

@@ -30,7 +30,8 @@ newlines-line line tail none =
     omega (arith, sum_by-append one line (10 ∷ tail), newlines-none line none, sum_by-cons one 10 tail)
 
 -- a line in front of others
-pub ended_lines-line : (line tail : List ℕ) → HasNoNewline line → ended_lines (line ++ 10 ∷ tail) ≡ line ∷ ended_lines tail
+pub ended_lines-line : (line tail : List ℕ) → HasNoNewline line
+    → ended_lines (line ++ 10 ∷ tail) ≡ line ∷ ended_lines tail
 ended_lines-line line tail none =
     ap (λ (n : ℕ). take n (script_lines (line ++ 10 ∷ tail))) (newlines-line line tail none)
     ∙ ap (λ (lines : List (List ℕ)). take (suc (newlines tail)) lines) (script_lines-newline line tail none)

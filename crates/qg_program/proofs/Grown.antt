@@ -1,5 +1,6 @@
 -- What was done to a disk stays in front of what is done later, by a moment.
-use Rattle.std.proofs.Common.{◌≡◌, ◌∙◌, inl, inr, ℕ, ◌+◌, ◌-◌, ◌≤◌, List, [], ◌∷◌, ◌++◌, length, suc, take, drop, refl, sym, ap, subst, arith, append_assoc}
+use Rattle.std.proofs.Common.{◌≡◌, ◌∙◌, inl, inr, ℕ, ◌+◌, ◌-◌, ◌≤◌, List, [], ◌∷◌, ◌++◌, length, suc, take, drop, refl}
+use Rattle.std.proofs.Common.{sym, ap, subst, arith, append_assoc}
 use Rattle.std.proofs.Math.Seq.{drop-append_seam}
 use Rattle.std.proofs.lemmas.List.{length-append, length-map, take-append-drop}
 use Rattle.qg_device.specs.History.{Event, Wrote, Tore, Cut, CutShort, Synced}
@@ -13,7 +14,8 @@ use Rattle.qg_image.specs.State.{State}
 use Rattle.qg_crashes.specs.Committing.{FailsAfter, IsFront}
 use Rattle.qg_crashes.specs.Outcomes.{Chain, Commit, behind}
 use Rattle.qg_crashes.specs.Slots.{events_of_commit}
-use Rattle.qg_commit.specs.Calls.{Call, WriteAt, Sync, IsFront as IsFrontOfCalls, commit_calls, node_calls, superblock_calls, with_calls, with_commit, with_nodes}
+use Rattle.qg_commit.specs.Calls.{Call, WriteAt, Sync, IsFront as IsFrontOfCalls, commit_calls, node_calls}
+use Rattle.qg_commit.specs.Calls.{superblock_calls, with_calls, with_commit, with_nodes}
 
 -- these events came behind those
 pub record Grown (before after : List Event) : Type 0 where
@@ -30,7 +32,8 @@ grown-more event before after grown =
 pub grown-then : (before mid after : List Event) → Grown before mid → Grown mid after → Grown before after
 grown-then before mid after first second = record {
   newer = second.newer ++ first.newer;
-  is = second.is ∙ ap (λ (older : List Event). second.newer ++ older) first.is ∙ sym (append_assoc second.newer first.newer before);
+  is = second.is ∙ ap (λ (older : List Event). second.newer ++ older) first.is
+      ∙ sym (append_assoc second.newer first.newer before);
 }
 
 -- ---- commits
@@ -50,7 +53,8 @@ front-grown (step ∷ steps) before after (inr (inr front)) =
     grown-more step before after (front-grown steps (step ∷ before) after front)
 
 -- those of a chain came behind the sync in front of it
-pub chain-grown : (old : State) (chain : List Commit) (before after : List Event) → Chain old chain before after → Grown (Synced ∷ before) after
+pub chain-grown : (old : State) (chain : List Commit) (before after : List Event) → Chain old chain before after
+    → Grown (Synced ∷ before) after
 chain-grown old [] before after chain = grown-none (Synced ∷ before) after chain.1
 chain-grown old (last ∷ []) before after chain =
     front-grown (events_of_commit last.nodes last.super) (Synced ∷ before) after chain.writes.so_far
@@ -65,17 +69,20 @@ chain-grown old (first ∷ next ∷ later) before after chain =
 pub calls-grown : (calls : List Call) (events : List Event) → Grown events (with_calls calls events)
 calls-grown [] events = grown-none events events refl
 calls-grown (WriteAt at bytes ∷ calls) events =
-    grown-more (Wrote at bytes) events (with_calls calls (Wrote at bytes ∷ events)) (calls-grown calls (Wrote at bytes ∷ events))
+    grown-more (Wrote at bytes) events (with_calls calls (Wrote at bytes ∷ events))
+    (calls-grown calls (Wrote at bytes ∷ events))
 calls-grown (Sync ∷ calls) events =
     grown-more Synced events (with_calls calls (Synced ∷ events)) (calls-grown calls (Synced ∷ events))
 
-pub commit-grown : (super : Super) (nodes : List Node) (events : List Event) → Grown events (with_commit super nodes events)
+pub commit-grown : (super : Super) (nodes : List Node) (events : List Event)
+    → Grown events (with_commit super nodes events)
 commit-grown super nodes events =
     let mid = with_nodes super.nodesize nodes events in
     grown-then events mid (with_commit super nodes events) (calls-grown (node_calls super.nodesize nodes) events)
     (calls-grown (superblock_calls super) mid)
 
-pub front-of-calls-grown : (calls : List Call) (events after : List Event) → IsFrontOfCalls calls events after → Grown events after
+pub front-of-calls-grown : (calls : List Call) (events after : List Event) → IsFrontOfCalls calls events after
+    → Grown events after
 front-of-calls-grown [] events after is = grown-none events after is
 front-of-calls-grown (call ∷ calls) events after (inl is) = grown-none events after is
 front-of-calls-grown (WriteAt at bytes ∷ calls) events after (inr (inl fails)) =
@@ -87,17 +94,20 @@ front-of-calls-grown (Sync ∷ calls) events after (inr (inr front)) =
     grown-more Synced events after (front-of-calls-grown calls (Synced ∷ events) after front)
 
 -- how many they are
-length-with_calls : (calls : List Call) (events : List Event) → length (with_calls calls events) ≡ length events + length calls
+length-with_calls : (calls : List Call) (events : List Event)
+    → length (with_calls calls events) ≡ length events + length calls
 length-with_calls [] events = let none : length events ≡ length events + 0 = omega arith in none
 length-with_calls (WriteAt at bytes ∷ calls) events =
     let others : length (with_calls calls (Wrote at bytes ∷ events)) ≡ suc (length events) + length calls =
     length-with_calls calls (Wrote at bytes ∷ events) in
-    let all : length (with_calls calls (Wrote at bytes ∷ events)) ≡ length events + suc (length calls) = omega (arith, others) in
+    let all : length (with_calls calls (Wrote at bytes ∷ events)) ≡ length events + suc (length calls) =
+    omega (arith, others) in
     all
 length-with_calls (Sync ∷ calls) events =
     let others : length (with_calls calls (Synced ∷ events)) ≡ suc (length events) + length calls =
     length-with_calls calls (Synced ∷ events) in
-    let all : length (with_calls calls (Synced ∷ events)) ≡ length events + suc (length calls) = omega (arith, others) in
+    let all : length (with_calls calls (Synced ∷ events)) ≡ length events + suc (length calls) =
+    omega (arith, others) in
     all
 
 pub length-with_commit : (super : Super) (nodes : List Node) (events : List Event)
@@ -108,7 +118,8 @@ length-with_commit super nodes events =
     length-with_calls (node_calls super.nodesize nodes) events in
     let many : length (node_calls super.nodesize nodes) ≡ length nodes =
     length-map nodes (λ (node : Node). WriteAt (header_of node).address (node_text super.nodesize node)) in
-    let whole : length (with_commit super nodes events) ≡ length mid + 5 = length-with_calls (superblock_calls super) mid in
+    let whole : length (with_commit super nodes events) ≡ length mid + 5 =
+    length-with_calls (superblock_calls super) mid in
     omega (arith, written, many, whole)
 
 pub front-of-calls-short : (calls : List Call) (events after : List Event) → IsFrontOfCalls calls events after
@@ -137,7 +148,8 @@ front-of-commit-short super nodes events after front =
 -- by the moment at which these were all, there were these
 pub grown-by : (before after : List Event) → Grown before after → events_by (length before) after ≡ before
 grown-by before after grown =
-    let many : length (grown.newer ++ before) - length before ≡ length grown.newer = omega (arith, length-append grown.newer before) in
+    let many : length (grown.newer ++ before) - length before ≡ length grown.newer =
+    omega (arith, length-append grown.newer before) in
     ap (events_by (length before)) grown.is
     ∙ ap (λ (count : ℕ). drop count (grown.newer ++ before)) many
     ∙ drop-append_seam grown.newer before
@@ -158,7 +170,8 @@ pub grown-same : (before after : List Event) → Grown before after → length a
 grown-same before after grown short = none-newer grown.newer before after grown.is short
 
 -- and two that are as many are the same
-pub same-grown : (first second after : List Event) → Grown first after → Grown second after → length first ≡ length second → first ≡ second
+pub same-grown : (first second after : List Event) → Grown first after → Grown second after
+    → length first ≡ length second → first ≡ second
 same-grown first second after one other same =
     sym (grown-by first after one) ∙ ap (λ (moment : ℕ). events_by moment after) same ∙ grown-by second after other
 
@@ -167,7 +180,8 @@ pub grown-longer : (before after : List Event) → Grown before after → length
 grown-longer before after grown = omega (arith, ap length grown.is, length-append grown.newer before)
 
 -- what a crash left at that moment is what it could leave then
-pub leaves-then : (before after : List Event) (image : List ℕ) → Grown before after → LeavesSince (length before) after image (length before)
+pub leaves-then : (before after : List Event) (image : List ℕ) → Grown before after
+    → LeavesSince (length before) after image (length before)
     → Leaves before image
 leaves-then before after image grown leaves =
     subst (λ (events : List Event). Leaves events image) (grown-by before after grown) leaves.leaves

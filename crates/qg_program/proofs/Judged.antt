@@ -17,15 +17,18 @@ use Rattle.qg_program.specs.declared.status.Status.TheVariants as status
 use Rattle.qg_program.specs.Following.{Follows}
 
 -- a sound image stands for a state
-state-found : (bytes : List ℕ) (found : Option Super) → super_of bytes ≡ found → IsSound bytes → (state : State) × StateOf bytes state
+state-found : (bytes : List ℕ) (found : Option Super) → super_of bytes ≡ found → IsSound bytes
+    → (state : State) × StateOf bytes state
 state-found bytes None is sound = let broken = verdict_none bytes is in absurd cc
-state-found bytes (Some super) is sound = (state_in super bytes, record { sound = sound; super = super; chosen = is; stands = refl })
+state-found bytes (Some super) is sound =
+    (state_in super bytes, record { sound = sound; super = super; chosen = is; stands = refl })
 
 pub state-sound : (bytes : List ℕ) → IsSound bytes → (state : State) × StateOf bytes state
 state-sound bytes sound = state-found bytes (super_of bytes) refl sound
 
 -- an image that was judged was not written
-pub untouched-judged : (fault : OpenFault) {history : Option (List Event)} {events : List Event} → IsUntouched fault history events
+pub untouched-judged : (fault : OpenFault) {history : Option (List Event)} {events : List Event}
+    → IsUntouched fault history events
     → (fault ≡ opening.Disk → ⊥) → (fault ≡ opening.NoMemory → ⊥) → history ≡ Some events
 untouched-judged (opening.Broken rule address) same disk memory = same
 untouched-judged (opening.Differs group which stored counted) same disk memory = same
@@ -33,15 +36,21 @@ untouched-judged opening.Disk same disk memory = absurd (disk refl)
 untouched-judged opening.NoMemory same disk memory = absurd (memory refl)
 
 -- nor was any that is not sound
-pub looked-unsound : (events : List Event) (failure : Failure) (history : Option (List Event)) → verdict (content events) ≡ Some failure → IsOpening events history
+pub looked-unsound : (events : List Event) (failure : Failure) (history : Option (List Event))
+    → verdict (content events) ≡ Some failure → IsOpening events history
     → IsLookedAt events history
 looked-unsound events failure history unsound (inl looked) = looked
-looked-unsound events failure history unsound (inr repairing) = let sound : verdict (content events) ≡ None = repairing.sound in absurd cc
+looked-unsound events failure history unsound (inr repairing) = let sound : verdict (content events) ≡ None =
+    repairing.sound in absurd cc
 
 -- a sound image that was not opened: no line was answered, and nothing was committed
-pub follows-unopened : (end : Status) (state : State) (input : List ℕ) {events : List Event} {history : Option (List Event)} {old new : Option (List ℕ)}
-    → (end ≡ status.Disk) ⊎ (end ≡ status.NoMemory) → IsOpening events history → new ≡ old → Follows end state input events history old new
+pub follows-unopened : (end : Status) (state : State) (input : List ℕ) {events : List Event}
+    {history : Option (List Event)} {old new : Option (List ℕ)}
+    → (end ≡ status.Disk) ⊎ (end ≡ status.NoMemory) → IsOpening events history → new ≡ old
+    → Follows end state input events history old new
 follows-unopened end state input {events} {history} {old} {new} (inl is) touched same =
-    subst (λ (end : Status). Follows end state input events history old new) (sym is) (inl (record { touched = touched; silent = same }))
+    subst (λ (end : Status). Follows end state input events history old new) (sym is)
+    (inl (record { touched = touched; silent = same }))
 follows-unopened end state input {events} {history} {old} {new} (inr is) touched same =
-    subst (λ (end : Status). Follows end state input events history old new) (sym is) (inl (record { touched = touched; silent = same }))
+    subst (λ (end : Status). Follows end state input events history old new) (sym is)
+    (inl (record { touched = touched; silent = same }))

@@ -1,5 +1,6 @@
 -- What a run leaves behind, by how it ended; of the generator's lines `Drawn` says the rest.
-use Rattle.std.proofs.Common.{◌≡◌, ◌∙◌, ◌⊎◌, inl, inr, ℕ, ◌+◌, List, [], ◌∷◌, ◌++◌, length, take, false, Option, Some, refl, sym, subst, arith}
+use Rattle.std.proofs.Common.{◌≡◌, ◌∙◌, ◌⊎◌, inl, inr, ℕ, ◌+◌, List, [], ◌∷◌, ◌++◌, length, take, false, Option, Some}
+use Rattle.std.proofs.Common.{refl, sym, subst, arith}
 use Rattle.std.specs.Prelude.{IfSome}
 use Rattle.std.proofs.lemmas.Option.{same_Some}
 use Rattle.qg_device.specs.History.{Event}
@@ -20,10 +21,12 @@ use Rattle.qg_store.proofs.LastCommits.{last-itself}
 use Rattle.qg_store.proofs.Outlived.{begun-so-far}
 use Rattle.qg_program.specs.declared.status.Status.{Status}
 use Rattle.qg_program.specs.declared.status.Status.TheVariants as status
-use Rattle.qg_program.specs.Leaving.{AreAnswered, AreOfAsked, ArePut, ArePutAsAsked, Asked, Begins, BeginsNext, Input, LeavesBehind}
+use Rattle.qg_program.specs.Leaving.{AreAnswered, AreOfAsked, ArePut, ArePutAsAsked, Asked, Begins, BeginsNext, Input}
+use Rattle.qg_program.specs.Leaving.{LeavesBehind}
 use Rattle.qg_program.specs.Turning.{FailsToTurn, IsTurn, StopsLine, TurnsPart}
 use Rattle.qg_program.proofs.Acknowledged.{acknowledged-stay}
-use Rattle.qg_program.proofs.Answered.{HasAnswered, all-lines, answered-limit, first-lines, made-more, next-line, script-line, script-told}
+use Rattle.qg_program.proofs.Answered.{HasAnswered, all-lines, answered-limit, first-lines, made-more, next-line}
+use Rattle.qg_program.proofs.Answered.{script-line, script-told}
 use Rattle.qg_program.proofs.Grown.{leaves-then}
 use Rattle.qg_program.proofs.Outlived.{AreBehind, HasOpened, lines-kept, opened-grown, opened-leaves, run-behind}
 use Rattle.qg_program.proofs.Steps.{append_known-nil, run-snoc}
@@ -94,7 +97,8 @@ pub leaves-ended : (end : Status) (state : State) (asked : Asked) (events opened
     → LeavesBehind end state asked events after old new
 leaves-ended end state asked events opened after old new is opening =
     let all =
-    run-behind state state is.final is.lines is.replies is.commits is.begun opened is.now after (last-itself state) is.run
+    run-behind state state is.final is.lines is.replies is.commits is.begun opened is.now after
+    (last-itself state) is.run
     is.made is.next in
     record {
       lines = is.lines;
@@ -109,7 +113,8 @@ leaves-ended end state asked events opened after old new is opening =
       leaves = inr (opened-leaves state events opened after (is.commits ++ is.begun) opening all);
       acknowledged = acknowledged-stay state events opened after (is.commits ++ is.begun) opening all;
       early = λ image leaves.
-          leaves-then events after image (opened-grown state events opened after (is.commits ++ is.begun) opening all) leaves;
+          leaves-then events after image (opened-grown state events opened after (is.commits ++ is.begun) opening all)
+          leaves;
       tied = λ count below.
           lines-kept state is.final is.lines is.replies is.commits is.begun events opened is.now after opening is.run
           is.made is.next (count + 1);
@@ -141,7 +146,8 @@ module _ (state : State) (input : Option (List ℕ)) (opened : List Event) (pend
   }
 
   -- the first lines
-  first-answered : (bytes : List ℕ) → input ≡ Some bytes → so_far.lines ≡ take (length so_far.lines) (script_lines bytes)
+  first-answered : (bytes : List ℕ) → input ≡ Some bytes
+      → so_far.lines ≡ take (length so_far.lines) (script_lines bytes)
   first-answered bytes told = first-lines bytes so_far.lines pend (script-told so_far bytes told)
 
   -- and perhaps calls of the next one's commits
@@ -155,7 +161,8 @@ module _ (state : State) (input : Option (List ℕ)) (opened : List Event) (pend
   ended-before end new (inr breaks) answered put begins =
       let given = breaks.starts.command in
       let done : IsDoneSoFar so_far.present given so_far.events (Some after) = inr breaks.starts.starts in
-      let begun = begun-so-far so_far.present given so_far.present so_far.events (Some after) (last-itself so_far.present) done in
+      let begun = begun-so-far so_far.present given so_far.present so_far.events (Some after)
+      (last-itself so_far.present) done in
       let same : begun.after ≡ after = sym (same_Some after begun.after begun.told) in
       record {
         lines = so_far.lines;
@@ -187,7 +194,8 @@ module _ (state : State) (input : Option (List ℕ)) (opened : List Event) (pend
       }
 
   -- the sink failed: one line more, and a front of its reply
-  ended-sink : (next : Stored) (new : Option (List ℕ)) → TurnsPart so_far.present so_far.events pend next (Some after) mid new
+  ended-sink : (next : Stored) (new : Option (List ℕ))
+      → TurnsPart so_far.present so_far.events pend next (Some after) mid new
       → HasEnded status.Sink state (Input input) opened after old new
   ended-sink next new turns =
       let line = turns.replies.line in
@@ -256,14 +264,16 @@ pub leaves-all : {state : State} {input : Option (List ℕ)} {events opened afte
     → HasOpened state events opened → told ≡ Some after
     → IsTurn false so_far.present so_far.events pend left store told mid new
     → LeavesBehind status.Done state (Input input) events after old new
-leaves-all {state} {input} {events} {opened} {after} {pend} {before} {history} {told} {old} {mid} {new} left store so_far opening now over =
+leaves-all {state} {input} {events} {opened} {after} {pend} {before} {history} {told} {old} {mid} {new} left store
+    so_far opening now over =
     let same : after ≡ so_far.events = same_Some after so_far.events (sym now ∙ over.2) in
     let ended = ended-there state input opened pend before history old mid so_far after status.Done new same
     (λ bytes is. all-lines bytes so_far.lines pend (script-told so_far bytes is) over.0) (over.3 ∙ so_far.put) refl in
     leaves-ended status.Done state (Input input) events opened after old new ended opening
 
 -- a turn that fails
-pub leaves-failed : {state : State} {input : Option (List ℕ)} {events opened after : List Event} {pend : Option (List ℕ)}
+pub leaves-failed : {state : State} {input : Option (List ℕ)} {events opened after : List Event}
+    {pend : Option (List ℕ)}
     {before : Stored} {history told : Option (List Event)} {old mid new : Option (List ℕ)}
     → (end : Status) (feeding : Feeding) (left : Option (List ℕ)) (store : Stored)
     → (so_far : HasAnswered state input opened pend before history old mid)
@@ -271,11 +281,14 @@ pub leaves-failed : {state : State} {input : Option (List ℕ)} {events opened a
     → (end ≡ status.TooLong → IsTooLong feeding)
     → FailsToTurn end so_far.present so_far.events pend (pending feeding left) store told mid new
     → LeavesBehind end state (Input input) events after old new
-leaves-failed {state} {input} {events} {opened} {after} {pend} {before} {history} {told} {old} {mid} {new} end feeding left
+leaves-failed {state} {input} {events} {opened} {after} {pend} {before} {history} {told} {old} {mid} {new} end feeding
+    left
     store so_far opening now counted within too_long fails =
     let known =
     subst
-    (λ (h : Option (List Event)). FailsToTurn end so_far.present so_far.events pend (pending feeding left) store h mid new)
+    (λ (h : Option (List Event)). FailsToTurn end so_far.present so_far.events pend (pending feeding left) store h mid
+    new)
     now fails in
     leaves-ended end state (Input input) events opened after old new
-    (ended-failed state input opened pend before history old mid so_far after end feeding left store new counted within too_long known) opening
+    (ended-failed state input opened pend before history old mid so_far after end feeding left store new counted within
+    too_long known) opening

@@ -1,5 +1,6 @@
 -- What a crash leaves of the commits of a run, from opening on and from each of its lines on.
-use Rattle.std.proofs.Common.{◌≡◌, ◌∙◌, inl, inr, ℕ, zero, suc, ◌+◌, ◌<◌, List, [], ◌∷◌, ◌++◌, length, map, take, drop, Option, Some, None, refl, sym, ap, subst, arith, append_assoc}
+use Rattle.std.proofs.Common.{◌≡◌, ◌∙◌, inl, inr, ℕ, zero, suc, ◌+◌, ◌<◌, List, [], ◌∷◌, ◌++◌, length, map, take, drop}
+use Rattle.std.proofs.Common.{Option, Some, None, refl, sym, ap, subst, arith, append_assoc}
 use Rattle.std.proofs.lemmas.List.{append-nil}
 use Rattle.std.proofs.lemmas.Option.{same_Some}
 use Rattle.qg_device.specs.History.{Event, Wrote, Synced, content}
@@ -38,7 +39,8 @@ pub record IsParted (old new : State) (lines replies : List (List ℕ)) (commits
   pub rest : Run mid (drop count lines) (drop count replies) more new
   pub whole : commits ≡ earlier ++ more
 
-run-parted : (old new : State) (lines replies : List (List ℕ)) (commits : List State) (count : ℕ) → Run old lines replies commits new
+run-parted : (old new : State) (lines replies : List (List ℕ)) (commits : List State) (count : ℕ)
+    → Run old lines replies commits new
     → IsParted old new lines replies commits count
 run-parted old new lines replies commits zero run =
     record { mid = old; earlier = []; more = commits; run = (refl, refl); rest = run; whole = refl }
@@ -54,7 +56,8 @@ run-parted old new (line ∷ lines) (reply ∷ replies) commits (suc count) run 
       more = part.more;
       run = (run.0, run.1, part.earlier, run.3, part.run, refl);
       rest = part.rest;
-      whole = run.5 ∙ ap (λ (states : List State). run.1 ++ states) part.whole ∙ sym (append_assoc run.1 part.earlier part.more);
+      whole = run.5 ∙ ap (λ (states : List State). run.1 ++ states) part.whole
+          ∙ sym (append_assoc run.1 part.earlier part.more);
     }
 
 pub record AreHalves (held : Committed) (first more : List State) (before after : List Event) : Type 0 where
@@ -62,7 +65,8 @@ pub record AreHalves (held : Committed) (first more : List State) (before after 
   pub made : Makes held first before middle
   pub rest : Makes (held_after held first) more middle after
 
-makes-parted : (held : Committed) (first more : List State) (before after : List Event) → Makes held (first ++ more) before after
+makes-parted : (held : Committed) (first more : List State) (before after : List Event)
+    → Makes held (first ++ more) before after
     → AreHalves held first more before after
 makes-parted held [] more before after made = record { middle = before; made = refl; rest = made }
 makes-parted held (state ∷ first) more before after made =
@@ -70,17 +74,23 @@ makes-parted held (state ∷ first) more before after made =
     record { middle = halves.middle; made = (made.0, made.1, made.2, halves.made); rest = halves.rest }
 
 -- what the last of some commits holds
-pub last-held : (committed : State) (commits : List State) → held_after committed.held commits ≡ (last_commit committed commits).held
+pub last-held : (committed : State) (commits : List State)
+    → held_after committed.held commits ≡ (last_commit committed commits).held
 last-held committed [] = refl
 last-held committed (state ∷ states) = last-held state states
 
 -- ---- one chain of all commits from one on
 
 -- commits are later than one where they are later than a state that is as late
-later-from : (old new : State) (commits : List State) → IsLastCommit old new → AreLater new commits → AreLater old commits
+later-from : (old new : State) (commits : List State) → IsLastCommit old new → AreLater new commits
+    → AreLater old commits
 later-from old new [] last later = tt
-later-from old new (state ∷ states) last later =
-    (subst (λ (generation : ℕ). generation < state.generation) (sym last.generation) later.0, later.1 ∙ sym last.sizes, later.2)
+later-from old new (state ∷ states) last later = (
+  subst (λ (generation : ℕ). generation < state.generation) (sym last.generation) later.0,
+  later.1
+      ∙ sym last.sizes,
+  later.2,
+)
 
 -- commits that are later, and were made so far
 pub record AreBehind (base : State) (commits : List State) (before after : List Event) : Type 0 where
@@ -88,21 +98,25 @@ pub record AreBehind (base : State) (commits : List State) (before after : List 
   pub made : MakesSoFar base.held commits before after
 
 -- those of a run, and behind them those that the next line began
-pub run-behind : (base old final : State) (lines replies : List (List ℕ)) (commits begun : List State) (before now after : List Event)
-    → IsLastCommit base old → Run old lines replies commits final → Makes base.held commits before now → AreBehind final begun now after
+pub run-behind : (base old final : State) (lines replies : List (List ℕ)) (commits begun : List State)
+    (before now after : List Event)
+    → IsLastCommit base old → Run old lines replies commits final → Makes base.held commits before now
+    → AreBehind final begun now after
     → AreBehind base (commits ++ begun) before after
 run-behind base old final lines replies commits begun before now after last run made next =
     let lead = run-leads base old final lines replies commits last run in
     let reached = last_commit base commits in
     let begin = later-from reached final begun lead.last next.later in
-    let then : LeadTo reached begun (last_commit reached begun) = record { later = begin; last = last-itself (last_commit reached begun) } in
+    let then : LeadTo reached begun (last_commit reached begun) =
+    record { later = begin; last = last-itself (last_commit reached begun) } in
     let both = lead-then base commits begun (last_commit reached begun) lead.later then in
     let held = last-held base commits ∙ lead.last.held in
     let rest = subst (λ (h : Committed). MakesSoFar h begun now after) (sym held) next.made in
     record { later = both.later; made = makes-then base.held commits begun before now after made rest }
 
 -- one of some commits is no older than the one before them
-no-older : (base : State) (dated : List Dated) (image : List ℕ) (at : ℕ) → AreLater base (map (λ (commit : Dated). commit.state) dated)
+no-older : (base : State) (dated : List Dated) (image : List ℕ) (at : ℕ)
+    → AreLater base (map (λ (commit : Dated). commit.state) dated)
     → IsOneOf base dated image at → IsNoOlder base.generation image
 no-older base [] image at later one = record { state = base; stands = one; no_older = omega arith }
 no-older base (next ∷ dated) image at later (inl is) = record { state = base; stands = is.0; no_older = omega arith }
@@ -126,7 +140,8 @@ module _ (base : State) (commits : List State) (before after : List Event) (rest
   behind-leaves : LeavesOneOf (length before) base commits after
   behind-leaves =
       let began : begin_of rests.before ≡ length before = omega (arith, ap length rests.synced) in
-      subst (λ (since : ℕ). LeavesOneOf since base commits after) began (chain-leaves base commits rests.before after chain-behind)
+      subst (λ (since : ℕ). LeavesOneOf since base commits after) began
+      (chain-leaves base commits rests.before after chain-behind)
 
   -- and nothing older than that is left
   pub none-older : LeavesNoOlder (length before) base.generation after
@@ -152,11 +167,15 @@ behind-event event a b events first second = cc
 -- a repair of one of the places that was whole is one of this place
 whole-repair : (place : ℕ) (super : Super) (at : ℕ) (other : Super) (events opened : List Event)
     → opened ≡ Synced ∷ Wrote at (super_text at other) ∷ Synced ∷ events
-    → IsFront (Wrote place (super_text place super) ∷ Synced ∷ []) (Synced ∷ events) opened → opened ≡ with_place place super events
+    → IsFront (Wrote place (super_text place super) ∷ Synced ∷ []) (Synced ∷ events) opened
+    → opened ≡ with_place place super events
 whole-repair place super at other events opened shape (inl is) = absurd (omega (arith, ap length is, ap length shape))
-whole-repair place super at other events opened shape (inr (inl fails)) = absurd (omega (arith, ap length fails.2, ap length shape))
-whole-repair place super at other events opened shape (inr (inr (inl is))) = absurd (omega (arith, ap length is, ap length shape))
-whole-repair place super at other events opened shape (inr (inr (inr (inl is)))) = absurd (omega (arith, ap length is, ap length shape))
+whole-repair place super at other events opened shape (inr (inl fails)) =
+    absurd (omega (arith, ap length fails.2, ap length shape))
+whole-repair place super at other events opened shape (inr (inr (inl is))) =
+    absurd (omega (arith, ap length is, ap length shape))
+whole-repair place super at other events opened shape (inr (inr (inr (inl is)))) =
+    absurd (omega (arith, ap length is, ap length shape))
 whole-repair place super at other events opened shape (inr (inr (inr (inr is)))) = is
 
 module _ (state : State) (events opened after : List Event) (commits : List State) (is : HasOpened state events opened)
@@ -178,7 +197,8 @@ module _ (state : State) (events opened after : List Event) (commits : List Stat
       let here = behind-event Synced is.rests.before (with_write place super events) opened is.rests.synced whole in
       subst (λ (before : List Event). Chain state chain-opened.chain before after) here chain-opened.is
 
-  leaves-first : (super : Super) → Repairing events first_place second_place super opened → opened ≡ with_place first_place super events
+  leaves-first : (super : Super) → Repairing events first_place second_place super opened
+      → opened ≡ with_place first_place super events
       → LeavesOneOf (length events + 1) state commits after
   leaves-first super repairs whole =
       let all = subst (λ (done : List Event). Repairing events first_place second_place super done) whole repairs in
@@ -191,7 +211,8 @@ module _ (state : State) (events opened after : List Event) (commits : List Stat
         survives = survives.0 all (chain-at first_place super whole);
       }
 
-  leaves-second : (super : Super) → Repairing events second_place first_place super opened → opened ≡ with_place second_place super events
+  leaves-second : (super : Super) → Repairing events second_place first_place super opened
+      → opened ≡ with_place second_place super events
       → LeavesOneOf (length events + 1) state commits after
   leaves-second super repairs whole =
       let all = subst (λ (done : List Event). Repairing events second_place first_place super done) whole repairs in
@@ -205,23 +226,35 @@ module _ (state : State) (events opened after : List Event) (commits : List Stat
       }
 
   leaves-repaired : (place : ℕ) → stale_of (content events) ≡ Some place
-      → opened ≡ Synced ∷ Wrote place (super_text place is.opens.super) ∷ Synced ∷ events → LeavesOneOf (length events + 1) state commits after
+      → opened ≡ Synced ∷ Wrote place (super_text place is.opens.super) ∷ Synced ∷ events
+      → LeavesOneOf (length events + 1) state commits after
   leaves-repaired place stale shape =
       let super = is.opens.super in
       let repairing : IsRepairing events (Some opened) =
-      record { sound = is.stands.sound; super = super; chosen = is.opens.chosen; place = place; stale = stale; written = inr (inr (ap Some shape)) } in
+      record {
+        sound = is.stands.sound;
+        super = super;
+        chosen = is.opens.chosen;
+        place = place;
+        stale = stale;
+        written = inr (inr (ap Some shape));
+      } in
       let long = (sound_places (content events) super is.opens.chosen is.stands.sound).long in
       elim (opening_repairs events opened repairing long) [
-        | inl first ↦ leaves-first super first (whole-repair first_place super place super events opened shape first.so_far)
-        | inr second ↦ leaves-second super second (whole-repair second_place super place super events opened shape second.so_far)
+        | inl first ↦ leaves-first super first
+            (whole-repair first_place super place super events opened shape first.so_far)
+        | inr second ↦ leaves-second super second
+            (whole-repair second_place super place super events opened shape second.so_far)
       ]
 
-  opened-by : (place : Option ℕ) → stale_of (content events) ≡ place → opened ≡ with_repair is.opens.super place (Synced ∷ events)
+  opened-by : (place : Option ℕ) → stale_of (content events) ≡ place
+      → opened ≡ with_repair is.opens.super place (Synced ∷ events)
   opened-by place stale =
       same_Some opened (with_repair is.opens.super (stale_of (content events)) (Synced ∷ events)) is.opens.repaired
       ∙ ap (λ (found : Option ℕ). with_repair is.opens.super found (Synced ∷ events)) stale
 
-  leaves-by : (place : Option ℕ) → stale_of (content events) ≡ place → LeavesOneOf (length events + 1) state commits after
+  leaves-by : (place : Option ℕ) → stale_of (content events) ≡ place
+      → LeavesOneOf (length events + 1) state commits after
   leaves-by None stale = leaves-as-it-was (opened-by None stale)
   leaves-by (Some place) stale = leaves-repaired place stale (opened-by (Some place) stale)
 
@@ -231,34 +264,44 @@ module _ (state : State) (events opened after : List Event) (commits : List Stat
   grown-by-opening : (place : Option ℕ) → stale_of (content events) ≡ place → Grown events opened
   grown-by-opening None stale = record { newer = Synced ∷ []; is = opened-by None stale }
   grown-by-opening (Some place) stale =
-      record { newer = Synced ∷ Wrote place (super_text place is.opens.super) ∷ Synced ∷ []; is = opened-by (Some place) stale }
+      record {
+        newer = Synced ∷ Wrote place (super_text place is.opens.super) ∷ Synced ∷ [];
+        is = opened-by (Some place) stale;
+      }
 
   pub opened-grown : Grown events after
   opened-grown =
-      grown-then events opened after (grown-by-opening (stale_of (content events)) refl) (behind-grown state commits opened after is.rests behind)
+      grown-then events opened after (grown-by-opening (stale_of (content events)) refl)
+      (behind-grown state commits opened after is.rests behind)
 
 -- ---- from a line on
 
-module _ (state final : State) (lines replies : List (List ℕ)) (commits begun : List State) (events opened now after : List Event)
-    (is : HasOpened state events opened) (run : Run state lines replies commits final) (made : Makes state.held commits opened now)
+module _ (state final : State) (lines replies : List (List ℕ)) (commits begun : List State)
+    (events opened now after : List Event)
+    (is : HasOpened state events opened) (run : Run state lines replies commits final)
+    (made : Makes state.held commits opened now)
     (next : AreBehind final begun now after) where
   -- behind its first lines the disk rests in their last commit, and the others go on from there
   module _ (count : ℕ) (parts : IsParted state final lines replies commits count)
       (halves : AreHalves state.held parts.earlier parts.more opened now) where
     lead : LeadTo state parts.earlier parts.mid
-    lead = run-leads state state parts.mid (take count lines) (take count replies) parts.earlier (last-itself state) parts.run
+    lead = run-leads state state parts.mid (take count lines) (take count replies) parts.earlier
+        (last-itself state) parts.run
 
     rests : Rests (last_commit state parts.earlier) halves.middle
     rests =
         rests-behind state parts.earlier is.rests.before halves.middle is.rests.stands lead.later
-        (subst (λ (before : List Event). Makes state.held parts.earlier before halves.middle) is.rests.synced halves.made)
+        (subst (λ (before : List Event). Makes state.held parts.earlier before halves.middle) is.rests.synced
+        halves.made)
 
     rest-made : Makes (last_commit state parts.earlier).held parts.more halves.middle now
-    rest-made = subst (λ (held : Committed). Makes held parts.more halves.middle now) (last-held state parts.earlier) halves.rest
+    rest-made = subst (λ (held : Committed). Makes held parts.more halves.middle now) (last-held state parts.earlier)
+        halves.rest
 
     others : AreBehind (last_commit state parts.earlier) (parts.more ++ begun) halves.middle after
     others =
-        run-behind (last_commit state parts.earlier) parts.mid final (drop count lines) (drop count replies) parts.more begun halves.middle now after
+        run-behind (last_commit state parts.earlier) parts.mid final (drop count lines) (drop count replies) parts.more
+        begun halves.middle now after
         lead.last parts.rest rest-made next
 
     grown : Grown halves.middle after

@@ -14,7 +14,8 @@ pub replies-none : (held : Option (List ℕ)) → PutsReplies held held
 replies-none held = record { replies = []; told = All-nil IsReplyText; put = append_known-nil held }
 
 -- one reply
-pub replies-one : (old new : Option (List ℕ)) (reply : List ℕ) → IsReplyText reply → new ≡ append_known old reply → PutsReplies old new
+pub replies-one : (old new : Option (List ℕ)) (reply : List ℕ) → IsReplyText reply → new ≡ append_known old reply
+    → PutsReplies old new
 replies-one old new reply is put = record {
   replies = reply ∷ [];
   told = All-cons IsReplyText reply [] is (All-nil IsReplyText);
@@ -32,7 +33,8 @@ replies-more old mid new first then = record {
 }
 
 -- the line of a failure alone
-pub failure-alone : (old new : Option (List ℕ)) (text : List ℕ) → TellsFailure text → new ≡ append_known old text → PutsFailure old new
+pub failure-alone : (old new : Option (List ℕ)) (text : List ℕ) → TellsFailure text → new ≡ append_known old text
+    → PutsFailure old new
 failure-alone old new text tells put = record {
   mid = old;
   replied = replies-none old;
@@ -50,12 +52,14 @@ failure-behind old mid new replied fails = record {
 }
 
 -- the line of a failure, by itself
-pub failure-said : (old new : Option (List ℕ)) (failure : Failure) → new ≡ append_known old (failure_text failure) → SaysFailure old new
+pub failure-said : (old new : Option (List ℕ)) (failure : Failure) → new ≡ append_known old (failure_text failure)
+    → SaysFailure old new
 failure-said old new failure put = record { failure = failure; put = put }
 
 pub failure-put : (old new : Option (List ℕ)) → SaysFailure old new → PutsFailure old new
 failure-put old new says = record { mid = old; replied = replies-none old; failure = says.failure; put = says.put }
 
 -- and as it stands in a text
-pub failure-told : (old new : Option (List ℕ)) (text : List ℕ) → TellsFailure text → new ≡ append_known old text → SaysFailure old new
+pub failure-told : (old new : Option (List ℕ)) (text : List ℕ) → TellsFailure text → new ≡ append_known old text
+    → SaysFailure old new
 failure-told old new text tells put = record { failure = tells.failure; put = put ∙ ap (append_known old) tells.told }

@@ -28,14 +28,16 @@ other-end : (end : Status) (report : Report) → goes_with end ≡ false → rep
 other-end end report other is = true≢false (sym (report-goes report) ∙ ap goes_with is ∙ other)
 
 -- its line was put
-pub says-put : (report : Report) (old new : Option (List ℕ)) (text : List ℕ) → text ≡ report_text report → new ≡ append_known old text
+pub says-put : (report : Report) (old new : Option (List ℕ)) (text : List ℕ) → text ≡ report_text report
+    → new ≡ append_known old text
     → Says (report_end report) report old new
 says-put (Sound generation) old new text is put = (refl, put ∙ ap (append_known old) is)
 says-put (Broken rule address) old new text is put = (refl, put ∙ ap (append_known old) is)
 says-put (Differs group which stored counted) old new text is put = (refl, put ∙ ap (append_known old) is)
 
 -- it was not put whole
-pub says-unput : (end : Status) (report : Report) (old new : Option (List ℕ)) (text : List ℕ) → text ≡ report_text report → FailsToPut end text old new
+pub says-unput : (end : Status) (report : Report) (old new : Option (List ℕ)) (text : List ℕ)
+    → text ≡ report_text report → FailsToPut end text old new
     → Says end report old new
 says-unput status.Sink report old new text is fails = subst (AppendsFront old new) is fails
 says-unput status.NoMemory report old new text is fails = fails
@@ -49,7 +51,8 @@ says-unput status.Sizes report old new text is fails = absurd fails
 says-unput status.TooLong report old new text is fails = absurd fails
 
 -- its line was to be put
-pub says-ended : (report : Report) (end result : Status) (old new : Option (List ℕ)) (text : List ℕ) → text ≡ report_text report → end ≡ report_end report
+pub says-ended : (report : Report) (end result : Status) (old new : Option (List ℕ)) (text : List ℕ)
+    → text ≡ report_text report → end ≡ report_end report
     → PutsAndEnds end result text old new → Says result report old new
 says-ended report end result old new text is ends (inl put) =
     subst (λ (s : Status). Says s report old new) (sym (put.0 ∙ ends)) (says-put report old new text is put.1)
@@ -59,17 +62,30 @@ says-ended report end result old new text is ends (inr fails) = says-unput resul
 says-at-disk : (report : Report) (old new : Option (List ℕ)) → Says status.Disk report old new → ⊥
 says-at-disk report old new says = other-end status.Disk report refl says.0
 
-pub says-no-disk : (end : Status) (report : Report) (old new : Option (List ℕ)) → Says end report old new → end ≢ status.Disk
-says-no-disk end report old new says is = says-at-disk report old new (subst (λ (s : Status). Says s report old new) is says)
+pub says-no-disk : (end : Status) (report : Report) (old new : Option (List ℕ)) → Says end report old new
+    → end ≢ status.Disk
+says-no-disk end report old new says is =
+    says-at-disk report old new (subst (λ (s : Status). Says s report old new) is says)
 
 pub says-no-sink : (report : Report) (end : Status) → end ≡ report_end report → end ≢ status.Sink
 says-no-sink report end ends = λ is. other-end status.Sink report refl (sym ends ∙ is)
 
 -- a right report was said
-pub checks-said : (end : Status) (report : Report) (history : Option (List Event)) (old new : Option (List ℕ)) → IsRightOver history report
+pub checks-said : (end : Status) (report : Report) (history : Option (List Event)) (old new : Option (List ℕ))
+    → IsRightOver history report
     → Says end report old new → Checks end history old new
-checks-said status.Done report history old new right says = record { report = report; right = right; ends = says.0; put = says.1 }
-checks-said status.Found report history old new right says = record { report = report; right = right; ends = says.0; put = says.1 }
+checks-said status.Done report history old new right says = record {
+  report = report;
+  right = right;
+  ends = says.0;
+  put = says.1;
+}
+checks-said status.Found report history old new right says = record {
+  report = report;
+  right = right;
+  ends = says.0;
+  put = says.1;
+}
 checks-said status.Sink report history old new right says = record { report = report; right = right; put = says }
 checks-said status.NoMemory report history old new right says = says
 checks-said status.Disk report history old new right says = absurd (other-end status.Disk report refl says.0)
@@ -80,7 +96,8 @@ checks-said status.Sizes report history old new right says = absurd (other-end s
 checks-said status.TooLong report history old new right says = absurd (other-end status.TooLong report refl says.0)
 
 -- and so it ends
-pub checks-ends : (end : Status) (history : Option (List Event)) (old new : Option (List ℕ)) → Checks end history old new → IsTrue (is_checkers end)
+pub checks-ends : (end : Status) (history : Option (List Event)) (old new : Option (List ℕ))
+    → Checks end history old new → IsTrue (is_checkers end)
 checks-ends status.Done history old new checks = refl
 checks-ends status.Found history old new checks = refl
 checks-ends status.Sink history old new checks = refl

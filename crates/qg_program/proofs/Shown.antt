@@ -18,7 +18,8 @@ use Rattle.qg_program.specs.Turning.{IsReply}
 use Rattle.qg_program.proofs.Generated.{commit-line, load-whole, show-line, stopped-show, stopped-told}
 use Rattle.qg_program.proofs.Turned.{reply-command, so_far-command}
 
--- whatever state a store stands for over a disk, the machine answers a command from there, and another store has what it comes to
+-- whatever state a store stands for over a disk, the machine answers a command from there, and another store has what
+-- it comes to
 abbrev pub Answers : Stored → Option (List Event) → Command → Answer → Stored → Option (List Event) → Type 0
 Answers old before command answer new after =
     (state : State) (events : List Event) → IsStoreOf old state before → before ≡ Some events
@@ -31,11 +32,13 @@ Begins old before command after =
     → IsDoneSoFar state command events after
 
 module _ (state : State) (seed count : ℕ) (events : List Event) (tally : Tally) (committed : Answer) (one two : Stored)
-    (before mid : Option (List Event)) (so_far : AreRun state (lines_of (generated_script seed count)) tally one events before)
+    (before mid : Option (List Event))
+    (so_far : AreRun state (lines_of (generated_script seed count)) tally one events before)
     (commits : Answers one before Commit committed two mid) (running : two.stopped ≡ None) where
   first : IsReply so_far.after so_far.made.after (codes "commit") (reply_text committed) two mid
   first =
-      reply-command so_far.after so_far.made.after (codes "commit") (reply_text committed) two mid Commit committed commit-line
+      reply-command so_far.after so_far.made.after (codes "commit") (reply_text committed) two mid Commit committed
+      commit-line
       (commits so_far.after so_far.made.after so_far.stands so_far.made.told) running refl
 
   -- what holds whatever state the store stands for
@@ -50,7 +53,8 @@ module _ (state : State) (seed count : ℕ) (events : List Event) (tally : Tally
       (so_far-command first.new first.made.after (codes "show") history Show show-line
       (begins first.new first.made.after first.stands first.made.told))
 
-  module _ (shown : Answer) (three : Stored) (history : Option (List Event)) (shows : Answers two mid Show shown three history)
+  module _ (shown : Answer) (three : Stored) (history : Option (List Event))
+      (shows : Answers two mid Show shown three history)
       (running_then : three.stopped ≡ None) where
     second : IsReply first.new first.made.after (codes "show") (reply_text shown) three history
     second =

@@ -11,7 +11,8 @@ pub append_known-nil : (told : Option (List ℕ)) → told ≡ append_known told
 append_known-nil None = refl
 append_known-nil (Some bytes) = ap Some (sym (append-nil bytes))
 
-pub append_known-more : (told : Option (List ℕ)) (bytes more : List ℕ) → append_known (append_known told bytes) more ≡ append_known told (bytes ++ more)
+pub append_known-more : (told : Option (List ℕ)) (bytes more : List ℕ)
+    → append_known (append_known told bytes) more ≡ append_known told (bytes ++ more)
 append_known-more None bytes more = refl
 append_known-more (Some old) bytes more = ap Some (append_assoc old bytes more)
 
@@ -27,7 +28,8 @@ put-snoc told replies reply =
 
 -- one line more
 pub run-snoc : (old mid new : State) (lines replies : List (List ℕ)) (line reply : List ℕ) (commits last : List State)
-    → Run old lines replies commits mid → Turn mid line reply last new → Run old (lines ++ line ∷ []) (replies ++ reply ∷ []) (commits ++ last) new
+    → Run old lines replies commits mid → Turn mid line reply last new
+    → Run old (lines ++ line ∷ []) (replies ++ reply ∷ []) (commits ++ last) new
 run-snoc old mid new [] [] line reply commits last run turn =
     let begun : Turn old line reply last new = subst (λ (state : State). Turn state line reply last new) run.0 turn in
     (new, last, [], begun, (refl, refl), ap (λ (states : List State). states ++ last) run.1 ∙ sym (append-nil last))

@@ -18,8 +18,10 @@ use Rattle.qg_program.specs.Putting.{FailsToPut}
 use Rattle.qg_program.specs.Turning.{FailsToTurn, IsLineSoFar, IsReply, IsTurn, StopsLine}
 
 -- a command was done or refused
-pub reply-command : (old : State) (events : List Event) (line reply : List ℕ) (store : Stored) (history : Option (List Event)) (command : Command) (answer : Answer)
-    → IsLineOf line command → AnswersOn old command answer store.kept events history → store.stopped ≡ None → reply ≡ reply_text answer
+pub reply-command : (old : State) (events : List Event) (line reply : List ℕ) (store : Stored)
+    (history : Option (List Event)) (command : Command) (answer : Answer)
+    → IsLineOf line command → AnswersOn old command answer store.kept events history → store.stopped ≡ None
+    → reply ≡ reply_text answer
     → IsReply old events line reply store history
 reply-command old events line reply store history command answer asked does running told = record {
   new = does.1.new;
@@ -36,8 +38,10 @@ reply-command old events line reply store history command answer asked does runn
 }
 
 -- the line is no command's
-pub reply-no_line : (old : State) (events : List Event) (line reply : List ℕ) (store : Stored) (history : Option (List Event))
-    → ((command : Command) → IsLineOf line command → ⊥) → IsStoreOf store old history → history ≡ Some events → reply ≡ no_line
+pub reply-no_line : (old : State) (events : List Event) (line reply : List ℕ) (store : Stored)
+    (history : Option (List Event))
+    → ((command : Command) → IsLineOf line command → ⊥) → IsStoreOf store old history → history ≡ Some events
+    → reply ≡ no_line
     → IsReply old events line reply store history
 reply-no_line old events line reply store history none stands known told = record {
   new = old;
@@ -52,27 +56,33 @@ reply-no_line old events line reply store history none stands known told = recor
 }
 
 -- what the command of a line has done
-pub so_far-command : (old : State) (events : List Event) (line : List ℕ) (history : Option (List Event)) (command : Command)
+pub so_far-command : (old : State) (events : List Event) (line : List ℕ) (history : Option (List Event))
+    (command : Command)
     → IsLineOf line command → IsDoneSoFar old command events history → IsLineSoFar old line events history
 so_far-command old events line history command asked (inl none) = inl none
 so_far-command old events line history command asked (inr starts) =
     inr (record { command = command; asked = asked; starts = starts })
 
 -- a line that was taken is the one that is not answered
-stops-line : (old : State) (events : List Event) (before taken : Option (List ℕ)) (line : List ℕ) (history : Option (List Event)) → TakesLine before taken line
+stops-line : (old : State) (events : List Event) (before taken : Option (List ℕ)) (line : List ℕ)
+    (history : Option (List Event)) → TakesLine before taken line
     → IsLineSoFar old line events history → StopsLine old before events history
 stops-line old events before taken line history takes (inl none) = inl none
-stops-line old events before taken line history takes (inr starts) = inr (record { line = line; after = taken; takes = takes; starts = starts })
+stops-line old events before taken line history takes (inr starts) =
+    inr (record { line = line; after = taken; takes = takes; starts = starts })
 
 -- where it was not answered
-pub fails-answer : (end : Status) (old : State) (events : List Event) (before taken after : Option (List ℕ)) (line : List ℕ) (store : Stored)
-    (history : Option (List Event)) (held : Option (List ℕ)) → TakesLine before taken line → IsLineSoFar old line events history
+pub fails-answer : (end : Status) (old : State) (events : List Event) (before taken after : Option (List ℕ))
+    (line : List ℕ) (store : Stored)
+    (history : Option (List Event)) (held : Option (List ℕ)) → TakesLine before taken line
+    → IsLineSoFar old line events history
     → IsTrue (is_stop end) → end ≢ status.Image → FailsToTurn end old events before after store history held held
 fails-answer status.NoMemory old events before taken after line store history held takes so_far stops sound =
     (stops-line old events before taken line history takes so_far, refl)
 fails-answer status.Disk old events before taken after line store history held takes so_far stops sound =
     (stops-line old events before taken line history takes so_far, refl)
-fails-answer status.Image old events before taken after line store history held takes so_far stops sound = absurd (sound refl)
+fails-answer status.Image old events before taken after line store history held takes so_far stops sound =
+    absurd (sound refl)
 fails-answer status.Done old events before taken after line store history held takes so_far stops sound = absurd cc
 fails-answer status.Words old events before taken after line store history held takes so_far stops sound = absurd cc
 fails-answer status.Source old events before taken after line store history held takes so_far stops sound = absurd cc
@@ -87,12 +97,16 @@ pub fails-handed : (end : Status) (result : Result Bool Status) (old : State) (e
     → result ≡ Err end → now ≡ held → FailsToTurn end old events before after store history held held
     → IfErr result (λ status. FailsToTurn status old events before after store history held now)
 fails-handed end result old events before after store history held now handed same fails =
-    subst (λ (r : Result Bool Status). IfErr r (λ status. FailsToTurn status old events before after store history held now)) (sym handed)
-    (subst (λ (told : Option (List ℕ)). FailsToTurn end old events before after store history held told) (sym same) fails)
+    subst (λ (r : Result Bool Status).
+    IfErr r (λ status. FailsToTurn status old events before after store history held now)) (sym handed)
+    (subst (λ (told : Option (List ℕ)). FailsToTurn end old events before after store history held told)
+    (sym same) fails)
 
 -- where the reply was put
-pub turns-reply : (old : State) (events : List Event) (before taken : Option (List ℕ)) (line reply : List ℕ) (store : Stored)
-    (history : Option (List Event)) (held now : Option (List ℕ)) → TakesLine before taken line → IsReply old events line reply store history
+pub turns-reply : (old : State) (events : List Event) (before taken : Option (List ℕ)) (line reply : List ℕ)
+    (store : Stored)
+    (history : Option (List Event)) (held now : Option (List ℕ)) → TakesLine before taken line
+    → IsReply old events line reply store history
     → now ≡ append_known held reply → IsTurn true old events before taken store history held now
 turns-reply old events before taken line reply store history held now takes is put = record {
   reply = reply;
@@ -101,9 +115,12 @@ turns-reply old events before taken line reply store history held now takes is p
 }
 
 -- where the reply was not put whole
-pub fails-reply : (end : Status) (old : State) (events : List Event) (before taken after : Option (List ℕ)) (line reply : List ℕ) (store : Stored)
-    (history : Option (List Event)) (held now : Option (List ℕ)) → TakesLine before taken line → IsReply old events line reply store history
-    → IsLineSoFar old line events history → FailsToPut end reply held now → FailsToTurn end old events before after store history held now
+pub fails-reply : (end : Status) (old : State) (events : List Event) (before taken after : Option (List ℕ))
+    (line reply : List ℕ) (store : Stored)
+    (history : Option (List Event)) (held now : Option (List ℕ)) → TakesLine before taken line
+    → IsReply old events line reply store history
+    → IsLineSoFar old line events history → FailsToPut end reply held now
+    → FailsToTurn end old events before after store history held now
 fails-reply status.Sink old events before taken after line reply store history held now takes is later fails = record {
   after = taken;
   reply = reply;
@@ -112,11 +129,19 @@ fails-reply status.Sink old events before taken after line reply store history h
 }
 fails-reply status.NoMemory old events before taken after line reply store history held now takes is later fails =
     (stops-line old events before taken line history takes later, fails)
-fails-reply status.Done old events before taken after line reply store history held now takes is later fails = absurd fails
-fails-reply status.Words old events before taken after line reply store history held now takes is later fails = absurd fails
-fails-reply status.Image old events before taken after line reply store history held now takes is later fails = absurd fails
-fails-reply status.Source old events before taken after line reply store history held now takes is later fails = absurd fails
-fails-reply status.Disk old events before taken after line reply store history held now takes is later fails = absurd fails
-fails-reply status.Found old events before taken after line reply store history held now takes is later fails = absurd fails
-fails-reply status.Sizes old events before taken after line reply store history held now takes is later fails = absurd fails
-fails-reply status.TooLong old events before taken after line reply store history held now takes is later fails = absurd fails
+fails-reply status.Done old events before taken after line reply store history held now takes is later fails =
+    absurd fails
+fails-reply status.Words old events before taken after line reply store history held now takes is later fails =
+    absurd fails
+fails-reply status.Image old events before taken after line reply store history held now takes is later fails =
+    absurd fails
+fails-reply status.Source old events before taken after line reply store history held now takes is later fails =
+    absurd fails
+fails-reply status.Disk old events before taken after line reply store history held now takes is later fails =
+    absurd fails
+fails-reply status.Found old events before taken after line reply store history held now takes is later fails =
+    absurd fails
+fails-reply status.Sizes old events before taken after line reply store history held now takes is later fails =
+    absurd fails
+fails-reply status.TooLong old events before taken after line reply store history held now takes is later fails =
+    absurd fails

@@ -46,8 +46,9 @@ pub record ReportsPart (history : Option (List Event)) (old new : Option (List �
   pub right : IsRightOver history report
   pub put : AppendsFront old new (report_text report)
 
--- An image is judged, by how that ended: the line that says what it is was put, at Done where it is sound, at Found where it is not; a front
--- of it where the sink failed; nothing where memory was refused or the disk failed. It ends in no other way.
+-- An image is judged, by how that ended: the line that says what it is was put, at Done where it is sound, at Found
+-- where it is not; a front of it where the sink failed; nothing where memory was refused or the disk failed. It ends in
+-- no other way.
 abbrev pub Checks : Status → Option (List Event) → Option (List ℕ) → Option (List ℕ) → Type 0
 Checks status.Done history old new = Reports status.Done history old new
 Checks status.Found history old new = Reports status.Found history old new

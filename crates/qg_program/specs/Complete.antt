@@ -26,9 +26,11 @@ pub record HasScript (left : Option (List ℕ)) : Type 0 where
   pub told : left ≡ Some input
   pub within : length input ≤ longest_script
 
--- Where nothing fails, what was asked is done, or memory is refused: over a sound image a run whose input is a script, the generator's lines, and
--- a check; over any other a run and the generator's lines say why it is not sound, and so does a check. An image of sizes that are served is made
-pub record IsComplete (words : List (String Global)) (end : Status) (image : List ℕ) (left : Option (List ℕ)) : Type 0 where
+-- Where nothing fails, what was asked is done, or memory is refused: over a sound image a run whose input is a script,
+-- the generator's lines, and a check; over any other a run and the generator's lines say why it is not sound, and so
+-- does a check. An image of sizes that are served is made
+pub record IsComplete (words : List (String Global)) (end : Status) (image : List ℕ) (left : Option (List ℕ)) : Type
+    0 where
   pub runs : AskToRun words → IsSound image → HasScript left → EndsIn Done end
   pub generates : (seed count : ℕ) → AskToGenerate words seed count → IsSound image → EndsIn Done end
   pub checks : AskToCheck words → IsSound image → EndsIn Done end
@@ -36,9 +38,10 @@ pub record IsComplete (words : List (String Global)) (end : Status) (image : Lis
   pub finds : AskToCheck words → (IsSound image → ⊥) → EndsIn Found end
   pub makes : (sizes : Sizes) → AskServed words sizes → EndsIn Done end
 
--- a fault of source, sink or disk is told only where its count rose; and over a disk that tells, where none rose, what was
--- asked is done
-pub record EndsForCause (words : List (String Global)) (end : Status) (before : Option (List Event)) (left : Option (List ℕ))
+-- a fault of source, sink or disk is told only where its count rose; and over a disk that tells, where none rose, what
+-- was asked is done
+pub record EndsForCause (words : List (String Global)) (end : Status) (before : Option (List Event))
+    (left : Option (List ℕ))
     (SourceFails SinkFails DiskFails : Type 0) : Type 0 where
   pub causes : HasCauses end SourceFails SinkFails DiskFails
   pub complete : (events : List Event) → before ≡ Some events → NothingFails SourceFails SinkFails DiskFails

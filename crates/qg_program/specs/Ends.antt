@@ -3,7 +3,8 @@ use Rattle.std.specs.Prelude.{◌≡◌, ℕ, Bool, true, false}
 use Rattle.qg_script.specs.declared.fault.LineFault.{LineFault}
 use Rattle.qg_script.specs.declared.fault.LineFault.TheVariants as fault
 use Rattle.qg_program.specs.declared.status.Status.{Status}
-use Rattle.qg_program.specs.declared.status.Status.TheVariants.{Done, NoMemory, Words, Image, Source, Sink, Disk, Found, Sizes, TooLong}
+use Rattle.qg_program.specs.declared.status.Status.TheVariants.{Done, NoMemory, Words, Image, Source, Sink, Disk, Found}
+use Rattle.qg_program.specs.declared.status.Status.TheVariants.{Sizes, TooLong}
 
 -- the image was made: all that can still fail is to say so
 abbrev pub is_made : Status → Bool

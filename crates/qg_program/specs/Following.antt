@@ -1,5 +1,5 @@
--- What a run does to the disk and to the sink, side by side (this project's own): the commits and the replies of a run of the machine over
--- the script's lines.
+-- What a run does to the disk and to the sink, side by side (this project's own): the commits and the replies of a run
+-- of the machine over the script's lines.
 use Rattle.std.specs.Prelude.{◌≡◌, ◌⊎◌, ℕ, List, [], ◌∷◌, ◌++◌, take, drop, Option, Some}
 use Rattle.std.specs.List.{concat}
 use Rattle.std.specs.Io.KnownBytes.{append_known}
@@ -18,9 +18,10 @@ use Rattle.qg_program.specs.Running.{ended_lines}
 
 -- ---- the disk
 
--- The calls of opening, and then those of these commits, where so much was held before them, and no others. Each commit made sure of what the
--- disk holds three times, and the third time that is the state committed.
-pub record MakesAll (held : Committed) (commits : List State) (events : List Event) (history : Option (List Event)) : Type 0 where
+-- The calls of opening, and then those of these commits, where so much was held before them, and no others. Each commit
+-- made sure of what the disk holds three times, and the third time that is the state committed.
+pub record MakesAll (held : Committed) (commits : List State) (events : List Event)
+    (history : Option (List Event)) : Type 0 where
   pub opened : List Event
   pub opens : IsOpened events (Some opened)
   pub made : MadeCommits held commits opened history
@@ -33,20 +34,23 @@ pub record StartsLine (old : State) (line : List ℕ) (events : List Event) (his
   pub starts : StartsCommits old command events history
 
 -- the first of some lines is broken off in the midst of its commits
-pub record BreaksOff (old : State) (lines : List (List ℕ)) (events : List Event) (history : Option (List Event)) : Type 0 where
+pub record BreaksOff (old : State) (lines : List (List ℕ)) (events : List Event) (history : Option (List Event)) : Type
+    0 where
   pub line : List ℕ
   pub later : List (List ℕ)
   pub first : lines ≡ line ∷ later
   pub starts : StartsLine old line events history
 
--- before some lines, which are not answered any more, nothing else was done to the disk, or calls of the commits that the first of them makes
+-- before some lines, which are not answered any more, nothing else was done to the disk, or calls of the commits that
+-- the first of them makes
 abbrev pub StopsBefore : State → List (List ℕ) → List Event → Option (List Event) → Type 0
 StopsBefore old lines events history = (history ≡ Some events) ⊎ BreaksOff old lines events history
 
 -- ---- the lines
 
 -- these lines are answered from this state on; all replies were put, and the disk was made to hold what was committed
-pub record FollowsAll (state : State) (lines : List (List ℕ)) (events : List Event) (history : Option (List Event)) (old new : Option (List ℕ)) : Type 0 where
+pub record FollowsAll (state : State) (lines : List (List ℕ)) (events : List Event) (history : Option (List Event))
+    (old new : Option (List ℕ)) : Type 0 where
   pub replies : List (List ℕ)
   pub commits : List State
   pub after : State
@@ -55,12 +59,14 @@ pub record FollowsAll (state : State) (lines : List (List ℕ)) (events : List E
   pub made : MakesAll state.held commits events history
 
 -- so are some of these lines, from the first on
-pub record FollowsSome (state : State) (lines : List (List ℕ)) (events : List Event) (history : Option (List Event)) (old new : Option (List ℕ)) : Type 0 where
+pub record FollowsSome (state : State) (lines : List (List ℕ)) (events : List Event) (history : Option (List Event))
+    (old new : Option (List ℕ)) : Type 0 where
   pub count : ℕ
   pub follows : FollowsAll state (take count lines) events history old new
 
 -- some of these lines are answered, from the first on; all replies but the last were put, and a front of that one
-pub record FollowsPart (state : State) (lines : List (List ℕ)) (events : List Event) (history : Option (List Event)) (old new : Option (List ℕ)) : Type 0 where
+pub record FollowsPart (state : State) (lines : List (List ℕ)) (events : List Event) (history : Option (List Event))
+    (old new : Option (List ℕ)) : Type 0 where
   pub count : ℕ
   pub replies : List (List ℕ)
   pub last : List ℕ
@@ -71,7 +77,8 @@ pub record FollowsPart (state : State) (lines : List (List ℕ)) (events : List 
   pub made : MakesAll state.held commits events history
 
 -- some of these lines are answered, from the first on, and all their replies were put; the run stops before the others
-pub record FollowsUntil (state : State) (lines : List (List ℕ)) (events : List Event) (history : Option (List Event)) (old new : Option (List ℕ)) : Type 0 where
+pub record FollowsUntil (state : State) (lines : List (List ℕ)) (events : List Event) (history : Option (List Event))
+    (old new : Option (List ℕ)) : Type 0 where
   pub count : ℕ
   pub replies : List (List ℕ)
   pub commits : List State
@@ -83,21 +90,27 @@ pub record FollowsUntil (state : State) (lines : List (List ℕ)) (events : List
   pub stops : StopsBefore after (drop count lines) mid history
 
 -- the image was not opened: at most what opening does was done by then, and nothing was put
-pub record StaysUnopened (events : List Event) (history : Option (List Event)) (old new : Option (List ℕ)) : Type 0 where
+pub record StaysUnopened (events : List Event) (history : Option (List Event)) (old new : Option (List ℕ)) : Type
+    0 where
   pub touched : IsOpening events history
   pub silent : new ≡ old
 
 -- ---- the run
 
--- A run follows the machine from this state on over this input, by how it ended: over all lines where the input was read to its end; over those
--- that end within the most bytes that a script may have, where it has more; over some lines up to a fault of the source; where the sink failed,
--- with a front of the last reply. Where memory was refused or the disk failed, the image was not opened, or the run stops before some line.
--- No run over a sound image ends in another way.
-abbrev pub Follows : Status → State → List ℕ → List Event → Option (List Event) → Option (List ℕ) → Option (List ℕ) → Type 0
+-- A run follows the machine from this state on over this input, by how it ended: over all lines where the input was
+-- read to its end; over those that end within the most bytes that a script may have, where it has more; over some lines
+-- up to a fault of the source; where the sink failed, with a front of the last reply. Where memory was refused or the
+-- disk failed, the image was not opened, or the run stops before some line. No run over a sound image ends in another
+-- way.
+abbrev pub Follows : Status → State → List ℕ → List Event → Option (List Event) → Option (List ℕ) → Option (List ℕ)
+    → Type 0
 Follows Done state input events history old new = FollowsAll state (script_lines input) events history old new
-Follows TooLong state input events history old new = FollowsAll state (ended_lines (take longest_script input)) events history old new
+Follows TooLong state input events history old new =
+    FollowsAll state (ended_lines (take longest_script input)) events history old new
 Follows Source state input events history old new = FollowsSome state (script_lines input) events history old new
 Follows Sink state input events history old new = FollowsPart state (script_lines input) events history old new
-Follows NoMemory state input events history old new = StaysUnopened events history old new ⊎ FollowsUntil state (script_lines input) events history old new
-Follows Disk state input events history old new = StaysUnopened events history old new ⊎ FollowsUntil state (script_lines input) events history old new
+Follows NoMemory state input events history old new = StaysUnopened events history old new
+    ⊎ FollowsUntil state (script_lines input) events history old new
+Follows Disk state input events history old new = StaysUnopened events history old new
+    ⊎ FollowsUntil state (script_lines input) events history old new
 Follows _ state input events history old new = ⊥

@@ -1,6 +1,7 @@
--- What a run of the generator's lines does to the disk and to the sink (this project's own): it is a run of the machine over these lines, a
--- last `commit`, and `show`.
-use Rattle.std.specs.Prelude.{◌≡◌, ◌⊎◌, ℕ, Bool, true, false, List, [], ◌∷◌, ◌++◌, codes, drop, map, not, take, Option, Some, String}
+-- What a run of the generator's lines does to the disk and to the sink (this project's own): it is a run of the machine
+-- over these lines, a last `commit`, and `show`.
+use Rattle.std.specs.Prelude.{◌≡◌, ◌⊎◌, ℕ, Bool, true, false, List, [], ◌∷◌, ◌++◌, codes, drop, map, not, take, Option}
+use Rattle.std.specs.Prelude.{Some, String}
 use Rattle.std.specs.declared.alloc.Global.{Global}
 use Rattle.std.specs.List.{count_by}
 use Rattle.std.specs.Io.KnownBytes.{append_known}
@@ -33,7 +34,8 @@ abbrev pub is_refused : Answer → Bool
 is_refused (Refused why) = true
 is_refused _ = false
 
--- The text that is put: COUNT, of the generator's lines how many were done and how many refused, and the reply to `show`.
+-- The text that is put: COUNT, of the generator's lines how many were done and how many refused, and the reply to
+-- `show`.
 abbrev pub generated_text : ℕ → List Answer → List ℕ → List ℕ
 generated_text count answers shown =
     summary_text count (count_by (λ answer. not (is_refused answer)) answers) (count_by is_refused answers) ++ shown
@@ -48,24 +50,28 @@ pub record TellsRun (state : State) (seed count : ℕ) (commits : List State) (t
   pub told : text ≡ generated_text count answers shown
 
 -- so they are, and the disk was made to hold what was committed
-pub record GeneratesAll (state : State) (seed count : ℕ) (events : List Event) (history : Option (List Event)) (text : List ℕ) : Type 0 where
+pub record GeneratesAll (state : State) (seed count : ℕ) (events : List Event) (history : Option (List Event))
+    (text : List ℕ) : Type 0 where
   pub commits : List State
   pub tells : TellsRun state seed count commits text
   pub made : MakesAll state.held commits events history
 
 -- that text was put, or a front of it
-pub record PutsGenerated (state : State) (seed count : ℕ) (events : List Event) (history : Option (List Event)) (old new : Option (List ℕ)) : Type 0 where
+pub record PutsGenerated (state : State) (seed count : ℕ) (events : List Event) (history : Option (List Event))
+    (old new : Option (List ℕ)) : Type 0 where
   pub text : List ℕ
   pub generates : GeneratesAll state seed count events history text
   pub put : new ≡ append_known old text
 
-pub record PutsFrontOfGenerated (state : State) (seed count : ℕ) (events : List Event) (history : Option (List Event)) (old new : Option (List ℕ)) : Type 0 where
+pub record PutsFrontOfGenerated (state : State) (seed count : ℕ) (events : List Event) (history : Option (List Event))
+    (old new : Option (List ℕ)) : Type 0 where
   pub text : List ℕ
   pub generates : GeneratesAll state seed count events history text
   pub put : AppendsFront old new text
 
 -- some of these lines are answered, from the first on; the run stops before the others, and nothing was put
-pub record GeneratesUntil (state : State) (lines : List (List ℕ)) (events : List Event) (history : Option (List Event)) (old new : Option (List ℕ)) : Type 0 where
+pub record GeneratesUntil (state : State) (lines : List (List ℕ)) (events : List Event) (history : Option (List Event))
+    (old new : Option (List ℕ)) : Type 0 where
   pub count : ℕ
   pub replies : List (List ℕ)
   pub commits : List State
@@ -76,10 +82,11 @@ pub record GeneratesUntil (state : State) (lines : List (List ℕ)) (events : Li
   pub made : MakesAll state.held commits events (Some mid)
   pub stops : StopsBefore after (drop count lines) mid history
 
--- The generator's lines are run from this state on, by how that ended: over all lines, with the text put, where it was done; with a front of
--- it where the sink failed. Where memory was refused or the disk failed, the image was not opened, or the run stops before some line. No run
--- over a sound image ends in another way.
-abbrev pub Generates : Status → State → ℕ → ℕ → List Event → Option (List Event) → Option (List ℕ) → Option (List ℕ) → Type 0
+-- The generator's lines are run from this state on, by how that ended: over all lines, with the text put, where it was
+-- done; with a front of it where the sink failed. Where memory was refused or the disk failed, the image was not
+-- opened, or the run stops before some line. No run over a sound image ends in another way.
+abbrev pub Generates : Status → State → ℕ → ℕ → List Event → Option (List Event) → Option (List ℕ) → Option (List ℕ)
+    → Type 0
 Generates Done state seed count events history old new = PutsGenerated state seed count events history old new
 Generates Sink state seed count events history old new = PutsFrontOfGenerated state seed count events history old new
 Generates NoMemory state seed count events history old new =
@@ -90,7 +97,9 @@ Generates _ state seed count events history old new = ⊥
 
 -- ---- what was asked over a sound image
 
--- the lines of the input are answered where a run was asked for, where the source tells them; and the generator's where those were
-pub record FollowsAsAsked (words : List (String Global)) (end : Status) (state : State) (left : Option (List ℕ)) (events : List Event) (history : Option (List Event)) (old new : Option (List ℕ)) : Type 0 where
+-- the lines of the input are answered where a run was asked for, where the source tells them; and the generator's where
+-- those were
+pub record FollowsAsAsked (words : List (String Global)) (end : Status) (state : State) (left : Option (List ℕ))
+    (events : List Event) (history : Option (List Event)) (old new : Option (List ℕ)) : Type 0 where
   pub run : AskToRun words → (input : List ℕ) → left ≡ Some input → Follows end state input events history old new
   pub lines : (seed count : ℕ) → AskToGenerate words seed count → Generates end state seed count events history old new

@@ -1,5 +1,6 @@
--- What a run leaves behind at any moment of it, and a run of the generator's lines (this project's own): for which state an
--- image stands that a crash left then, and how the replies are tied to that. A moment is a number of events on the disk.
+-- What a run leaves behind at any moment of it, and a run of the generator's lines (this project's own): for which
+-- state an image stands that a crash left then, and how the replies are tied to that. A moment is a number of events on
+-- the disk.
 use Rattle.std.specs.Prelude.{◌≡◌, ◌⊎◌, ℕ, ◌+◌, ◌<◌, ◌≤◌, List, [], ◌∷◌, ◌++◌, length, map, take, Option, Some, String}
 use Rattle.std.specs.declared.alloc.Global.{Global}
 use Rattle.std.specs.List.{concat}
@@ -27,8 +28,8 @@ use Rattle.qg_program.specs.Words.{AskToGenerate, AskToRun}
 
 -- ---- the lines
 
--- which lines are asked: those of an input, where it is told; or the generator's for a seed and a count, with a commit and
--- `show` behind them
+-- which lines are asked: those of an input, where it is told; or the generator's for a seed and a count, with a commit
+-- and `show` behind them
 pub data Asked : Type 0 where
   Input : (input : Option (List ℕ)) → Asked
   Drawn : (seed count : ℕ) → Asked
@@ -40,8 +41,8 @@ AreAnswered Done input lines = lines ≡ script_lines input
 AreAnswered TooLong input lines = lines ≡ ended_lines (take longest_script input)
 AreAnswered _ input lines = lines ≡ take (length lines) (script_lines input)
 
--- It answered these of the lines that were drawn: all where their text was put, or a front of it; else some, from the first
--- on
+-- It answered these of the lines that were drawn: all where their text was put, or a front of it; else some, from the
+-- first on
 abbrev pub AreDrawn : Status → List (List ℕ) → List (List ℕ) → Type 0
 AreDrawn Done drawn lines = lines ≡ drawn
 AreDrawn Sink drawn lines = lines ≡ drawn
@@ -83,8 +84,8 @@ pub record IsTextPutInPart (count : ℕ) (replies : List (List ℕ)) (old new : 
   pub made : MakeText count replies text
   pub put : AppendsFront old new text
 
--- the text that these replies make was put, or a front of it where the sink failed; nothing where the run stopped before
--- that, or memory was refused
+-- the text that these replies make was put, or a front of it where the sink failed; nothing where the run stopped
+-- before that, or memory was refused
 abbrev pub IsTold : Status → ℕ → List (List ℕ) → Option (List ℕ) → Option (List ℕ) → Type 0
 IsTold Done count replies old new = IsTextPut count replies old new
 IsTold Sink count replies old new = IsTextPutInPart count replies old new
@@ -104,8 +105,8 @@ abbrev pub IsNextOf : Asked → List (List ℕ) → List ℕ → Type 0
 IsNextOf (Input input) lines line = (bytes : List ℕ) → input ≡ Some bytes → IsNext (script_lines bytes) lines line
 IsNextOf (Drawn seed count) lines line = IsNext (asked_lines seed count) lines line
 
--- the line behind those that were answered, the next of those that were asked, asks for a command, and these are commits of
--- that
+-- the line behind those that were answered, the next of those that were asked, asks for a command, and these are
+-- commits of that
 pub record BeginsNext (state : State) (asked : Asked) (lines : List (List ℕ)) (begun : List State) : Type 0 where
   pub line : List ℕ
   pub next : IsNextOf asked lines line
@@ -133,8 +134,8 @@ LeavesNoOlder since generation after =
     (image : List ℕ) (moment : ℕ) → LeavesSince since after image moment → NoChanceSince since after image moment
     → IsNoOlder generation image
 
--- Whatever a crash leaves since a moment stands for one of these commits or for the state before them; where no commit was
--- begun, so that the image was perhaps not opened, for that state
+-- Whatever a crash leaves since a moment stands for one of these commits or for the state before them; where no commit
+-- was begun, so that the image was perhaps not opened, for that state
 abbrev pub LeavesACommit : ℕ → State → List State → List Event → Type 0
 LeavesACommit since state commits after =
     ((commits ≡ []) × Survives since state [] after) ⊎ LeavesOneOf since state commits after
@@ -161,10 +162,10 @@ pub record AreKept (state : State) (lines replies : List (List ℕ)) (events aft
 
 -- ---- the run
 
--- A run over an image that stands for this state answered these lines of those that were asked by these replies, with these
--- commits, and perhaps began more. Whatever a crash at a moment since opening's first sync leaves stands for that state or
--- for one of these commits, and for none that is older than one that was acknowledged by then; before that sync it leaves
--- what it could as the run began. And each reply is kept, with all before it.
+-- A run over an image that stands for this state answered these lines of those that were asked by these replies, with
+-- these commits, and perhaps began more. Whatever a crash at a moment since opening's first sync leaves stands for that
+-- state or for one of these commits, and for none that is older than one that was acknowledged by then; before that
+-- sync it leaves what it could as the run began. And each reply is kept, with all before it.
 pub record LeavesBehind (end : Status) (state : State) (asked : Asked) (events after : List Event)
     (old new : Option (List ℕ)) : Type 0 where
   pub lines : List (List ℕ)

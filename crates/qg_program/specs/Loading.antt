@@ -13,9 +13,10 @@ use Rattle.qg_program.specs.Following.{StopsBefore}
 use Rattle.qg_program.specs.Generating.{TellsRun, is_refused}
 use Rattle.qg_program.specs.Turning.{IsReply}
 
--- the machine answers a line, whose command so is done or refused; the store stands for the state that it comes to, and the disk was made to
--- hold what it commits
-pub record IsAnswered (old : State) (events : List Event) (line : List ℕ) (done : Bool) (store : Stored) (history : Option (List Event)) : Type 0 where
+-- the machine answers a line, whose command so is done or refused; the store stands for the state that it comes to, and
+-- the disk was made to hold what it commits
+pub record IsAnswered (old : State) (events : List Event) (line : List ℕ) (done : Bool) (store : Stored)
+    (history : Option (List Event)) : Type 0 where
   pub answer : Answer
   pub answered : IsReply old events line (reply_text answer) store history
   pub judged : is_refused answer ≡ not done
@@ -25,9 +26,10 @@ abbrev pub counted : Bool → Tally → Tally
 counted true tally = record tally { done = tally.done + 1 }
 counted false tally = record tally { refused = tally.refused + 1 }
 
--- these lines are answered from this state on, so many done and so many refused; the store stands for the state that this comes to, and the
--- disk was made to hold what was committed
-pub record AreRun (state : State) (lines : List (List ℕ)) (tally : Tally) (store : Stored) (events : List Event) (history : Option (List Event)) : Type 0 where
+-- these lines are answered from this state on, so many done and so many refused; the store stands for the state that
+-- this comes to, and the disk was made to hold what was committed
+pub record AreRun (state : State) (lines : List (List ℕ)) (tally : Tally) (store : Stored) (events : List Event)
+    (history : Option (List Event)) : Type 0 where
   pub answers : List Answer
   pub commits : List State
   pub after : State
@@ -37,14 +39,17 @@ pub record AreRun (state : State) (lines : List (List ℕ)) (tally : Tally) (sto
   pub stands : IsStoreOf store after history
   pub made : MadeCommits state.held commits events history
 
--- all lines that `gen` asks are answered from this state on, this text tells it, and the disk was made to hold what was committed
-pub record IsLoaded (state : State) (seed count : ℕ) (text : List ℕ) (events : List Event) (history : Option (List Event)) : Type 0 where
+-- all lines that `gen` asks are answered from this state on, this text tells it, and the disk was made to hold what was
+-- committed
+pub record IsLoaded (state : State) (seed count : ℕ) (text : List ℕ) (events : List Event)
+    (history : Option (List Event)) : Type 0 where
   pub commits : List State
   pub tells : TellsRun state seed count commits text
   pub made : MadeCommits state.held commits events history
 
 -- some of these lines are answered, from the first on, and then it stops before the others
-pub record StopsWithin (state : State) (lines : List (List ℕ)) (events : List Event) (history : Option (List Event)) : Type 0 where
+pub record StopsWithin (state : State) (lines : List (List ℕ)) (events : List Event)
+    (history : Option (List Event)) : Type 0 where
   pub count : ℕ
   pub within : count ≤ length lines
   pub replies : List (List ℕ)

@@ -1,4 +1,5 @@
--- What a call puts (this project's own): what is put where a line could not be put whole, and what one says that puts one line alone.
+-- What a call puts (this project's own): what is put where a line could not be put whole, and what one says that puts
+-- one line alone.
 use Rattle.std.specs.Prelude.{◌≡◌, ◌⊎◌, ℕ, All, List, ◌∷◌, Option, Some, IsTrue, String, codes}
 use Rattle.std.specs.List.{concat}
 use Rattle.std.specs.Option.{option_map}
@@ -35,13 +36,15 @@ IsPutFault end = (end ≡ Sink) ⊎ (end ≡ NoMemory)
 
 -- some bytes were put, and so it ends; or they were not put whole
 abbrev pub PutsAndEnds : Status → Status → List ℕ → Option (List ℕ) → Option (List ℕ) → Type 0
-PutsAndEnds end result bytes old new = ((result ≡ end) × (new ≡ append_known old bytes)) ⊎ FailsToPut result bytes old new
+PutsAndEnds end result bytes old new = ((result ≡ end) × (new ≡ append_known old bytes))
+    ⊎ FailsToPut result bytes old new
 
 -- the line that says that an image was made
 abbrev pub made_text : List ℕ
 made_text = line (codes "ok mkfs")
 
--- what is put where an image is asked for: the line that says so where it was made, and a front of it where the sink failed
+-- what is put where an image is asked for: the line that says so where it was made, and a front of it where the sink
+-- failed
 abbrev pub SaysMade : Status → Option (List ℕ) → Option (List ℕ) → Type 0
 SaysMade Done old new = new ≡ append_known old made_text
 SaysMade Sink old new = AppendsFront old new made_text
@@ -52,8 +55,8 @@ abbrev pub failure_text : Failure → List ℕ
 failure_text (Broken rule address) = broken_text rule address
 failure_text (Differs group which stored counted) = differs_text group which stored counted
 
--- a run refuses an image: it puts the line that says why, or a front of it where the sink failed; another end comes only by want of memory
--- or a fault of the disk
+-- a run refuses an image: it puts the line that says why, or a front of it where the sink failed; another end comes
+-- only by want of memory or a fault of the disk
 abbrev pub Refuses : Status → List ℕ → Option (List ℕ) → Option (List ℕ) → Type 0
 Refuses Image text old new = new ≡ append_known old text
 Refuses Sink text old new = AppendsFront old new text
@@ -88,19 +91,23 @@ pub record PutsFailure (old new : Option (List ℕ)) : Type 0 where
   pub failure : Failure
   pub put : new ≡ append_known mid (failure_text failure)
 
--- what was asked ended with the line of some failure: a run's may stand behind replies, that of the generator's lines stands alone
+-- what was asked ended with the line of some failure: a run's may stand behind replies, that of the generator's lines
+-- stands alone
 abbrev pub EndsByFailure : List (String Global) → Option (List ℕ) → Option (List ℕ) → Type 0
 EndsByFailure words old new =
-    (AskToRun words × PutsFailure old new) ⊎ ((seed : ℕ) × (count : ℕ) × AskToGenerate words seed count × SaysFailure old new)
+    (AskToRun words × PutsFailure old new) ⊎ ((seed : ℕ) × (count : ℕ) × AskToGenerate words seed count
+    × SaysFailure old new)
 
--- A run refuses an image by its first failure: it says so, and at most a sync was asked of the disk, just one where the line was to be put.
-pub record RefusesImage (status : Status) (failure : Failure) (events : List Event) (history : Option (List Event)) (old new : Option (List ℕ)) : Type 0 where
+-- A run refuses an image by its first failure: it says so, and at most a sync was asked of the disk, just one where the
+-- line was to be put.
+pub record RefusesImage (status : Status) (failure : Failure) (events : List Event) (history : Option (List Event))
+    (old new : Option (List ℕ)) : Type 0 where
   pub put : Refuses status (failure_text failure) old new
   pub looked_at : IsLookedAt events history
   pub unwritten : IsTrue (is_judged status) → history ≡ Some (Synced ∷ events)
 
--- Where a run or the generator's lines were asked for, an image that is not sound is refused by its first failure, and the
--- source stays as it is. And what ends so has put the line of some failure, and opened no image that is sound.
+-- Where a run or the generator's lines were asked for, an image that is not sound is refused by its first failure, and
+-- the source stays as it is. And what ends so has put the line of some failure, and opened no image that is sound.
 pub record RefusesAsAsked (words : List (String Global)) (end : Status) (before after : Option (List Event))
     (old new : Option (List ℕ)) (SourceStays : Type 0) : Type 0 where
   pub refuses : (events : List Event) (failure : Failure) → AskToOpen words → before ≡ Some events
@@ -108,9 +115,11 @@ pub record RefusesAsAsked (words : List (String Global)) (end : Status) (before 
   pub told : end ≡ Image → EndsByFailure words old new
   pub unsound : (events : List Event) → end ≡ Image → before ≡ Some events → IsSound (content events) → ⊥
 
--- An image of these sizes was asked for, and they are served: the calls where it was made; what the disk holds then, where it tells it; and
--- what was put.
-pub record MakesImage (status : Status) (sizes : Sizes) (before after : Option (List Event)) (old new : Option (List ℕ)) : Type 0 where
-  pub calls : IsTrue (is_made status) → after ≡ option_map (with_image (fresh_super sizes (slot_at sizes 0)) (fresh_nodes sizes)) before
+-- An image of these sizes was asked for, and they are served: the calls where it was made; what the disk holds then,
+-- where it tells it; and what was put.
+pub record MakesImage (status : Status) (sizes : Sizes) (before after : Option (List Event))
+    (old new : Option (List ℕ)) : Type 0 where
+  pub calls : IsTrue (is_made status)
+      → after ≡ option_map (with_image (fresh_super sizes (slot_at sizes 0)) (fresh_nodes sizes)) before
   pub fresh : (events : List Event) → before ≡ Some events → IsTrue (is_made status) → HoldsFreshImage sizes after
   pub said : SaysMade status old new

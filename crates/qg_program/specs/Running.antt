@@ -9,8 +9,8 @@ use Rattle.qg_program.specs.declared.status.Status.TheVariants.{Done, TooLong}
 abbrev pub ended_lines : List ℕ → List (List ℕ)
 ended_lines bytes = take (count_by (λ byte. byte == 10) bytes) (script_lines bytes)
 
--- how many bytes of the input were taken: at most one more than a script may have; so many where the run ends by that, and no more than a
--- script may have where all was read
+-- how many bytes of the input were taken: at most one more than a script may have; so many where the run ends by that,
+-- and no more than a script may have where all was read
 pub record Takes (status : Status) (input left : List ℕ) : Type 0 where
   pub count : ℕ
   pub taken : length input ≡ count + length left

@@ -28,8 +28,10 @@ pub record StandsOver (store : Stored) (history : Option (List Event)) : Type 0 
   pub told : history ≡ Some events
   pub stands : IsStoreOf store state history
 
--- the machine answers a line by this reply; the store stands for the state that it comes to, and the disk was made to hold what it commits
-pub record IsReply (old : State) (events : List Event) (line reply : List ℕ) (store : Stored) (history : Option (List Event)) : Type 0 where
+-- the machine answers a line by this reply; the store stands for the state that it comes to, and the disk was made to
+-- hold what it commits
+pub record IsReply (old : State) (events : List Event) (line reply : List ℕ) (store : Stored)
+    (history : Option (List Event)) : Type 0 where
   pub new : State
   pub commits : List State
   pub turn : Turn old line reply commits new
@@ -37,35 +39,41 @@ pub record IsReply (old : State) (events : List Event) (line reply : List ℕ) (
   pub made : MadeCommits old.held commits events history
 
 -- the first line of what was pending, where that is told, has this reply
-pub record Replies (old : State) (events : List Event) (before after : Option (List ℕ)) (reply : List ℕ) (store : Stored) (history : Option (List Event)) : Type 0 where
+pub record Replies (old : State) (events : List Event) (before after : Option (List ℕ)) (reply : List ℕ)
+    (store : Stored) (history : Option (List Event)) : Type 0 where
   pub line : List ℕ
   pub takes : TakesLine before after line
   pub answered : IsReply old events line reply store history
 
 -- and the reply was put
-pub record Turns (old : State) (events : List Event) (before after : Option (List ℕ)) (store : Stored) (history : Option (List Event)) (held now : Option (List ℕ)) : Type 0 where
+pub record Turns (old : State) (events : List Event) (before after : Option (List ℕ)) (store : Stored)
+    (history : Option (List Event)) (held now : Option (List ℕ)) : Type 0 where
   pub reply : List ℕ
   pub replies : Replies old events before after reply store history
   pub put : now ≡ append_known held reply
 
 -- and a front of it was put
-pub record TurnsPart (old : State) (events : List Event) (before : Option (List ℕ)) (store : Stored) (history : Option (List Event)) (held now : Option (List ℕ)) : Type 0 where
+pub record TurnsPart (old : State) (events : List Event) (before : Option (List ℕ)) (store : Stored)
+    (history : Option (List Event)) (held now : Option (List ℕ)) : Type 0 where
   pub after : Option (List ℕ)
   pub reply : List ℕ
   pub replies : Replies old events before after reply store history
   pub put : AppendsFront held now reply
 
 -- a line was answered; where there was none, nothing was put and nothing was done to the disk
-abbrev pub IsTurn : Bool → State → List Event → Option (List ℕ) → Option (List ℕ) → Stored → Option (List Event) → Option (List ℕ) → Option (List ℕ) → Type 0
+abbrev pub IsTurn : Bool → State → List Event → Option (List ℕ) → Option (List ℕ) → Stored → Option (List Event)
+    → Option (List ℕ) → Option (List ℕ) → Type 0
 IsTurn true old events before after store history held now = Turns old events before after store history held now
-IsTurn false old events before after store history held now = IsAtEnd before × (after ≡ before) × (history ≡ Some events) × (now ≡ held)
+IsTurn false old events before after store history held now = IsAtEnd before × (after ≡ before)
+    × (history ≡ Some events) × (now ≡ held)
 
 -- what a line that is not answered to its end has done to the disk: nothing, or calls of the commits that it makes
 abbrev pub IsLineSoFar : State → List ℕ → List Event → Option (List Event) → Type 0
 IsLineSoFar old line events history = (history ≡ Some events) ⊎ StartsLine old line events history
 
 -- the first line of what was pending, where that is told, is broken off in the midst of its commits
-pub record BreaksLine (old : State) (before : Option (List ℕ)) (events : List Event) (history : Option (List Event)) : Type 0 where
+pub record BreaksLine (old : State) (before : Option (List ℕ)) (events : List Event)
+    (history : Option (List Event)) : Type 0 where
   pub line : List ℕ
   pub after : Option (List ℕ)
   pub takes : TakesLine before after line
@@ -75,12 +83,14 @@ pub record BreaksLine (old : State) (before : Option (List ℕ)) (events : List 
 abbrev pub StopsLine : State → Option (List ℕ) → List Event → Option (List Event) → Type 0
 StopsLine old before events history = (history ≡ Some events) ⊎ BreaksLine old before events history
 
--- A turn that fails. Where the sink failed, the line was answered but for its reply. Where no line was read, nothing was done; else perhaps
--- calls of the commits that the line makes.
-abbrev pub FailsToTurn : Status → State → List Event → Option (List ℕ) → Option (List ℕ) → Stored → Option (List Event) → Option (List ℕ) → Option (List ℕ) → Type 0
+-- A turn that fails. Where the sink failed, the line was answered but for its reply. Where no line was read, nothing
+-- was done; else perhaps calls of the commits that the line makes.
+abbrev pub FailsToTurn : Status → State → List Event → Option (List ℕ) → Option (List ℕ) → Stored → Option (List Event)
+    → Option (List ℕ) → Option (List ℕ) → Type 0
 FailsToTurn Sink old events before after store history held now = TurnsPart old events before store history held now
 FailsToTurn Source old events before after store history held now = (history ≡ Some events) × (now ≡ held)
-FailsToTurn TooLong old events before after store history held now = (after ≡ before) × (history ≡ Some events) × (now ≡ held)
+FailsToTurn TooLong old events before after store history held now = (after ≡ before) × (history ≡ Some events)
+    × (now ≡ held)
 FailsToTurn NoMemory old events before after store history held now = StopsLine old before events history × (now ≡ held)
 FailsToTurn Disk old events before after store history held now = StopsLine old before events history × (now ≡ held)
 FailsToTurn _ old events before after store history held now = ⊥
@@ -92,8 +102,8 @@ pub record PutsLine (result : Result Bool Status) (held now : Option (List ℕ))
   pub replied : OnOk result (PutsReplies held now)
   pub told : result ≡ Err Image → PutsFailure held now
 
--- How many bytes a turn takes, and hands out: those that it takes are counted, and are no more than a script may have, and
--- one. Where there was no line nothing is left, and where the input is too long the feed is so
+-- How many bytes a turn takes, and hands out: those that it takes are counted, and are no more than a script may have,
+-- and one. Where there was no line nothing is left, and where the input is too long the feed is so
 pub record TakesTurn (result : Result Bool Status) (old new : Feeding) (before after : Option (List ℕ)) : Type 0 where
   pub over : result ≡ Ok false → (new.rest ≡ []) × IsAtEnd after
   pub too_long : result ≡ Err TooLong → IsTooLong new
@@ -101,7 +111,8 @@ pub record TakesTurn (result : Result Bool Status) (old new : Feeding) (before a
   pub within : IsWithinLimit new
 
 -- a fault of source, sink or disk is told only where the count of its faults rose
-pub record HaveCauses (result : Result Bool Status) (source_before source_after sink_before sink_after disk_before disk_after : ℕ)
+pub record HaveCauses (result : Result Bool Status)
+    (source_before source_after sink_before sink_after disk_before disk_after : ℕ)
     : Type 0 where
   pub source : HasCause Source source_before source_after result
   pub sink : HasCause Sink sink_before sink_after result

@@ -55,8 +55,8 @@ pub record AskToGenerate (words : List (String Global)) (seed count : ℕ) : Typ
 abbrev pub AskToOpen : List (String Global) → Type 0
 AskToOpen words = AskToRun words ⊎ ((seed : ℕ) × (count : ℕ) × AskToGenerate words seed count)
 
--- a size, or a count of lines, is refused exactly where it is out of its range, and a call has the ends of the form that
--- was asked for
+-- a size, or a count of lines, is refused exactly where it is out of its range, and a call has the ends of the form
+-- that was asked for
 pub record EndsByForm (end : Status) (words : List (String Global)) : Type 0 where
   pub sizes : (end ≡ status.Sizes) ↔ AskUnserved words
   pub makers : (sizes : Sizes) → AskToMake words sizes → IsTrue (is_makers end)

@@ -1,5 +1,6 @@
 // The generator's lines are run over an image.
-ghost use Rattle.std.specs.Prelude.{◌≡◌, ◌≢◌, ◌↔◌, ◌<◌, ◌≤◌, ◌+◌, ◌^◌, [], List, length, not, Some, IfOk, IfErr, OnOk, IsTrue};
+ghost use Rattle.std.specs.Prelude.{◌≡◌, ◌≢◌, ◌↔◌, ◌<◌, ◌≤◌, ◌+◌, ◌^◌, [], List, length, not, Some, IfOk, IfErr, OnOk};
+ghost use Rattle.std.specs.Prelude.{IsTrue};
 ghost use Rattle.qg_device.specs.Cause.{HasCause, Rose};
 ghost use Rattle.qg_device.specs.History.{Event, content};
 ghost use Rattle.qg_grammar.specs.ScriptText.{IsLineOf, command_text};
@@ -71,7 +72,8 @@ pub(crate) fn generate<D: Disk, K: Sink>(
         → StateOf (content events) state
         → Generates result state seed count events (D.history disk.new) (K.bytes_held sink.old)
         (K.bytes_held sink.new) }
-    ensures crashes { (events after : List Event) (state : State) → count ≤ most_lines → D.history disk.old ≡ Some events
+    ensures crashes { (events after : List Event) (state : State) → count ≤ most_lines
+        → D.history disk.old ≡ Some events
         → D.history disk.new ≡ Some after → StateOf (content events) state
         → LeavesBehind result state (Drawn seed count) events after (K.bytes_held sink.old) (K.bytes_held sink.new) }
     ensures refuses { (events : List Event) (failure : Failure) → count ≤ most_lines → D.history disk.old ≡ Some events

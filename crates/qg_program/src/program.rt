@@ -64,8 +64,8 @@ pub fn run_program<D: Disk, S: Source, K: Sink>(
     ensures refuses { RefusesAsAsked words.now.items result (D.history disk.old) (D.history disk.new)
         (K.bytes_held sink.old) (K.bytes_held sink.new) (source.new ≡ source.old) }
 
-    // What a crash leaves at any moment of either over a sound image: a state that was committed, or the opened one, and none
-    // that is older than what was acknowledged by then.
+    // What a crash leaves at any moment of either over a sound image: a state that was committed, or the opened one,
+    // and none that is older than what was acknowledged by then.
     ensures crashes { (events after : List Event) (state : State) → D.history disk.old ≡ Some events
         → D.history disk.new ≡ Some after → StateOf (content events) state
         → LeavesAsAsked words.now.items result state (S.bytes_left source.old) events after (K.bytes_held sink.old)

@@ -44,7 +44,8 @@ fn turn<L: Ledger, M: Ledger, D: Disk, S: Source, K: Sink>(
     ensures ok { (state : State) (events : List Event) → IsStoreOf session.old.store state (D.history disk.old)
         → D.history disk.old ≡ Some events
         → IfOk result (λ more.
-        IsTurn more state events (pending feed.old (S.bytes_left source.old)) (pending feed.new (S.bytes_left source.new))
+        IsTurn more state events (pending feed.old (S.bytes_left source.old))
+        (pending feed.new (S.bytes_left source.new))
         session.new.store (D.history disk.new) (K.bytes_held sink.old) (K.bytes_held sink.new)) }
     ensures err { (state : State) (events : List Event) → IsStoreOf session.old.store state (D.history disk.old)
         → D.history disk.old ≡ Some events

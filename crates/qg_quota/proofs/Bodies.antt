@@ -12,7 +12,8 @@ use Rattle.qg_quota.specs.Written.{item_under}
 
 pub status_text-AreBytes : (status : QgroupStatus) → AreBytes (status_text status)
 unfolding status_text
-status_text-AreBytes status = append (append (append (of_u64 1) (of_u64 status.generation)) (of_u64 status.flags)) (of_u64 status.cursor)
+status_text-AreBytes status = append (append (append (of_u64 1) (of_u64 status.generation)) (of_u64 status.flags))
+    (of_u64 status.cursor)
 
 pub info_text-AreBytes : (info : QgroupInfo) → AreBytes (info_text info)
 unfolding info_text
@@ -22,7 +23,8 @@ info_text-AreBytes info =
 
 pub limit_text-AreBytes : (limit : QgroupLimit) → AreBytes (limit_text limit)
 unfolding limit_text
-limit_text-AreBytes limit = append (append (append (of_u64 limit.flags) (of_u64 limit.max_rfer)) (of_u64 limit.max_excl)) (of_zeros 16)
+limit_text-AreBytes limit =
+    append (append (append (of_u64 limit.flags) (of_u64 limit.max_rfer)) (of_u64 limit.max_excl)) (of_zeros 16)
 
 pub nothing-AreBytes : AreBytes []
 nothing-AreBytes = record { are = λ i. lit< tt }

@@ -1,5 +1,6 @@
 -- Relations put into a list in order, each both ways.
-use Rattle.std.proofs.Common.{◌≡◌, ℕ, ◌+◌, ◌*◌, ◌<◌, Bool, true, false, List, [], ◌∷◌, arith, get_or, length, take, refl, sym, ap, ◌∙◌, inl, inr, cond, nat_lt}
+use Rattle.std.proofs.Common.{◌≡◌, ℕ, ◌+◌, ◌*◌, ◌<◌, Bool, true, false, List, [], ◌∷◌, arith, get_or, length, take}
+use Rattle.std.proofs.Common.{refl, sym, ap, ◌∙◌, inl, inr, cond, nat_lt}
 use Rattle.std.specs.Prelude.{◌==◌, ◌&&◌, ◌||◌, IsTrue}
 use Rattle.std.specs.List.{All, AllByRecursion, fold, list_any}
 use Rattle.std.specs.List.Sorted.{IsStrictlySortedBy}
@@ -59,7 +60,8 @@ fold_has f a b [] made = refl
 fold_has f a b (pair ∷ pairs) made =
     fold_has f a b pairs (with_pair (f pair) made)
     ∙ ap (λ (h : Bool). list_any (λ (pair : ℕ × ℕ). same_pair (a, b) (f pair)) pairs || h) (pair-put a b (f pair) made)
-    ∙ moved (list_any (λ (pair : ℕ × ℕ). same_pair (a, b) (f pair)) pairs) (same_pair (a, b) (f pair)) (has_pair a b made)
+    ∙ moved (list_any (λ (pair : ℕ × ℕ). same_pair (a, b) (f pair)) pairs) (same_pair (a, b) (f pair))
+    (has_pair a b made)
 
 -- the pairs put into an empty list
 abbrev once : List (ℕ × ℕ) → List (ℕ × ℕ)
@@ -75,7 +77,8 @@ both-has a b pairs =
     fold_has turned a b pairs (once pairs)
     ∙ ap (λ (h : Bool). list_any (λ (pair : ℕ × ℕ). same_pair (a, b) (turned pair)) pairs || h) (once_has a b pairs)
     ∙ ap (λ (h : Bool). h || has_pair a b pairs)
-    (any_same (λ (pair : ℕ × ℕ). same_pair (a, b) (turned pair)) (same_pair (b, a)) (λ pair. and_turned (a == pair.1) (b == pair.0)) pairs)
+    (any_same (λ (pair : ℕ × ℕ). same_pair (a, b) (turned pair)) (same_pair (b, a))
+    (λ pair. and_turned (a == pair.1) (b == pair.0)) pairs)
 
 -- ---- the order
 
@@ -84,9 +87,11 @@ all_put : (pair one : ℕ × ℕ) (pairs : List (ℕ × ℕ)) → pair_cmp one p
     → AllByRecursion (λ y. pair_cmp one y ≡ Less) (with_pair pair pairs)
 all_put pair one [] here all = (here, tt)
 all_put pair one (other ∷ others) here all =
-    choice (nat_lt pair.0 other.0 || ((pair.0 == other.0) && nat_lt pair.1 other.1)) (same_pair pair other) (all_put pair one others here all.1) where
+    choice (nat_lt pair.0 other.0 || ((pair.0 == other.0) && nat_lt pair.1 other.1)) (same_pair pair other)
+    (all_put pair one others here all.1) where
       choice : (less same : Bool) → AllByRecursion (λ y. pair_cmp one y ≡ Less) (with_pair pair others)
-          → AllByRecursion (λ y. pair_cmp one y ≡ Less) (cond less (pair ∷ other ∷ others) (cond same (other ∷ others) (other ∷ with_pair pair others)))
+          → AllByRecursion (λ y. pair_cmp one y ≡ Less)
+          (cond less (pair ∷ other ∷ others) (cond same (other ∷ others) (other ∷ with_pair pair others)))
       choice true same rest = (here, all)
       choice false true rest = all
       choice false false rest = (all.0, rest)
@@ -104,11 +109,13 @@ unfolding IsStrictlySortedBy
 put_sorted pair [] up = (tt, tt)
 put_sorted pair (other ∷ others) up =
     choice (nat_lt pair.0 other.0 || ((pair.0 == other.0) && nat_lt pair.1 other.1)) (same_pair pair other)
-    (less_tells pair.0 pair.1 other.0 other.1) (greater_tells pair.0 pair.1 other.0 other.1) (put_sorted pair others up.1) where
+    (less_tells pair.0 pair.1 other.0 other.1) (greater_tells pair.0 pair.1 other.0 other.1)
+    (put_sorted pair others up.1) where
       choice : (less same : Bool) → (less ≡ true → pair_cmp pair other ≡ Less)
           → (less ≡ false → same ≡ false → pair_cmp other pair ≡ Less)
           → IsStrictlySortedBy pair_cmp (with_pair pair others)
-          → IsStrictlySortedBy pair_cmp (cond less (pair ∷ other ∷ others) (cond same (other ∷ others) (other ∷ with_pair pair others)))
+          → IsStrictlySortedBy pair_cmp
+          (cond less (pair ∷ other ∷ others) (cond same (other ∷ others) (other ∷ with_pair pair others)))
       choice true same front back rest = ((front refl, all_after pair other others (front refl) up.0), up)
       choice false true front back rest = up
       choice false false front back rest = (all_put pair other others (back refl refl) up.0, rest)
@@ -131,7 +138,8 @@ put_length : (pair : ℕ × ℕ) (pairs : List (ℕ × ℕ)) → has_pair pair.0
     → length (with_pair pair pairs) ≡ 1 + length pairs
 put_length pair [] none = refl
 put_length pair (other ∷ others) none =
-    choice (nat_lt pair.0 other.0 || ((pair.0 == other.0) && nat_lt pair.1 other.1)) (same_pair pair other) parts.0 (put_length pair others parts.1) where
+    choice (nat_lt pair.0 other.0 || ((pair.0 == other.0) && nat_lt pair.1 other.1)) (same_pair pair other) parts.0
+    (put_length pair others parts.1) where
       parts : (same_pair (pair.0, pair.1) other ≡ false) × (has_pair pair.0 pair.1 others ≡ false)
       parts = or_false (same_pair (pair.0, pair.1) other) (has_pair pair.0 pair.1 others) none
 
@@ -150,7 +158,8 @@ fold_length : (f : ℕ × ℕ → ℕ × ℕ) → ((p q : ℕ × ℕ) → same_p
 fold_length f same [] made up none = omega arith
 fold_length f same (pair ∷ pairs) made up none =
     let first = put_length (f pair) made none.0 in
-    let rest = fold_length f same pairs (with_pair (f pair) made) (sorted_tail pair_cmp pair pairs up) (still pairs (sorted_head pair_cmp pair pairs up) none.1) in
+    let rest = fold_length f same pairs (with_pair (f pair) made) (sorted_tail pair_cmp pair pairs up)
+    (still pairs (sorted_head pair_cmp pair pairs up) none.1) in
     omega (arith, first, rest) where
       still : (others : List (ℕ × ℕ)) → AllByRecursion (λ y. pair_cmp pair y ≡ Less) others
           → AllByRecursion (λ p. has_pair (f p).0 (f p).1 made ≡ false) others
@@ -158,7 +167,8 @@ fold_length f same (pair ∷ pairs) made up none =
       still [] less none = tt
       still (other ∷ others) less none = (
         pair-put (f other).0 (f other).1 (f pair) made
-            ∙ ap (λ (b : Bool). b || has_pair (f other).0 (f other).1 made) (same other pair ∙ not_same pair.0 pair.1 other.0 other.1 less.0) ∙ none.0,
+            ∙ ap (λ (b : Bool). b || has_pair (f other).0 (f other).1 made) (same other pair
+            ∙ not_same pair.0 pair.1 other.0 other.1 less.0) ∙ none.0,
         still others less.1 none.1,
       )
 

@@ -1,11 +1,13 @@
 -- The items of the quota tree: what they say, where they may stand, in which order, and how long they are.
-use Rattle.std.proofs.Common.{◌≡◌, ℕ, ◌+◌, ◌*◌, ◌≤◌, ◌<◌, ◌^◌, true, List, [], ◌∷◌, ◌++◌, map, length, take, get_or, refl, sym, ap, ◌∙◌, arith, lit<}
+use Rattle.std.proofs.Common.{◌≡◌, ℕ, ◌+◌, ◌*◌, ◌≤◌, ◌<◌, ◌^◌, true, List, [], ◌∷◌, ◌++◌, map, length, take, get_or}
+use Rattle.std.proofs.Common.{refl, sym, ap, ◌∙◌, arith, lit<}
 use Rattle.std.specs.Prelude.{Option, Some, None, All, IfSome, nat_le}
 use Rattle.std.specs.List.{AllByRecursion, filter_map, list_all}
 use Rattle.std.specs.Ordering.{is_lt}
 use Rattle.std.proofs.lemmas.Bool.{eq-eqb, le-leb}
 use Rattle.std.proofs.lemmas.List.{append_assoc, map-append, take_more}
-use Rattle.std.proofs.lemmas.List.Elements.{All-append, All-cons, All-from_recursion, filter_map-append, recursion_from_All}
+use Rattle.std.proofs.lemmas.List.Elements.{All-append, All-cons, All-from_recursion, filter_map-append}
+use Rattle.std.proofs.lemmas.List.Elements.{recursion_from_All}
 use Rattle.std.proofs.lemmas.List.Folds.{list_all-append}
 use Rattle.std.proofs.lemmas.List.Sums.{sum_by-append, sum_by-cons}
 use Rattle.qg_num.specs.Key.{key_cmp}
@@ -15,7 +17,8 @@ use Rattle.qg_node.specs.Nodes.{is_ascending, ascends_from, item_bytes, items_by
 use Rattle.qg_items.specs.declared.quota.QgroupStatus.{QgroupStatus}
 use Rattle.qg_items.specs.Laws.{StatusFits, InfoFits, LimitFits}
 use Rattle.qg_items.specs.ItemText.{status_text, info_text, limit_text}
-use Rattle.qg_items.proofs.QuotaBodies.{length-status_text, length-info_text, length-limit_text, status_read-status_text, info_read-info_text, limit_read-limit_text}
+use Rattle.qg_items.proofs.QuotaBodies.{length-status_text, length-info_text, length-limit_text}
+use Rattle.qg_items.proofs.QuotaBodies.{status_read-status_text, info_read-info_text, limit_read-limit_text}
 use Rattle.qg_image.specs.declared.part.QuotaPart.TheVariants.{Status}
 use Rattle.qg_image.specs.ItemMeaning.{quota_part}
 use Rattle.qg_parts.specs.Keys.{key_with}
@@ -27,8 +30,11 @@ use Rattle.qg_hier.specs.Groups.{IsSound}
 use Rattle.qg_image.specs.declared.tree.Tree.TheVariants.{Quotas}
 use Rattle.qg_image.specs.Walk.{is_item_of}
 use Rattle.qg_quota.specs.Writable.{GroupFits, PairFits}
-use Rattle.qg_quota.specs.Written.{both_ways, info_of, info_part, item_of_info, item_of_limit, item_of_relation, item_of_status, items_of_groups, items_of_quota, limit_of, flag_of, limit_part, parts_of_quota, relation_part, status_at}
-use Rattle.qg_quota.proofs.Bodies.{item-fits, status_text-AreBytes, info_text-AreBytes, limit_text-AreBytes, nothing-AreBytes}
+use Rattle.qg_quota.specs.Written.{both_ways, info_of, info_part, item_of_info, item_of_limit, item_of_relation}
+use Rattle.qg_quota.specs.Written.{item_of_status, items_of_groups, items_of_quota, limit_of, flag_of, limit_part}
+use Rattle.qg_quota.specs.Written.{parts_of_quota, relation_part, status_at}
+use Rattle.qg_quota.proofs.Bodies.{item-fits, status_text-AreBytes, info_text-AreBytes, limit_text-AreBytes}
+use Rattle.qg_quota.proofs.Bodies.{nothing-AreBytes}
 use Rattle.qg_quota.proofs.BothWays.{both-length, both-sorted}
 use Rattle.qg_quota.proofs.Rising.{Above, Rises, Rises-sorted, before_info, before_limit, both, relations-behind}
 
@@ -75,7 +81,8 @@ unfolding quota_part
 limit_told entry is =
     let limit = limit_of entry.1.max_rfer entry.1.max_excl in
     let fits = limits_fit entry.1.max_rfer entry.1.max_excl is.limits.max_rfer is.limits.max_excl in
-    rw (eq-eqb entry.0 entry.0 refl, limit_read-limit_text limit fits, known_flags entry.1.max_rfer entry.1.max_excl) refl
+    rw (eq-eqb entry.0 entry.0 refl, limit_read-limit_text limit fits, known_flags entry.1.max_rfer entry.1.max_excl)
+    refl
 
 relation_told : (pair : ℕ × ℕ) → quota_part (item_of_relation pair) ≡ Some (relation_part pair)
 unfolding quota_part
@@ -123,28 +130,32 @@ infos_allowed : (generation : ℕ) (groups : List (ℕ × Group)) → AllByRecur
     → list_all (is_item_of Quotas generation) (map item_of_info groups) ≡ true
 infos_allowed generation [] fit by = refl
 infos_allowed generation (entry ∷ groups) fit by =
-    both (is_item_of Quotas generation (item_of_info entry)) (list_all (is_item_of Quotas generation) (map item_of_info groups))
+    both (is_item_of Quotas generation (item_of_info entry))
+    (list_all (is_item_of Quotas generation) (map item_of_info groups))
     (info_allowed generation entry fit.0 by.0) (infos_allowed generation groups fit.1 by.1)
 
 limits_allowed : (generation : ℕ) (groups : List (ℕ × Group)) → AllByRecursion GroupFits groups
     → list_all (is_item_of Quotas generation) (map item_of_limit groups) ≡ true
 limits_allowed generation [] fit = refl
 limits_allowed generation (entry ∷ groups) fit =
-    both (is_item_of Quotas generation (item_of_limit entry)) (list_all (is_item_of Quotas generation) (map item_of_limit groups))
+    both (is_item_of Quotas generation (item_of_limit entry))
+    (list_all (is_item_of Quotas generation) (map item_of_limit groups))
     (limit_allowed generation entry fit.0) (limits_allowed generation groups fit.1)
 
 relations_allowed : (generation : ℕ) (pairs : List (ℕ × ℕ))
     → list_all (is_item_of Quotas generation) (map item_of_relation pairs) ≡ true
 relations_allowed generation [] = refl
 relations_allowed generation (pair ∷ pairs) =
-    both (is_item_of Quotas generation (item_of_relation pair)) (list_all (is_item_of Quotas generation) (map item_of_relation pairs))
+    both (is_item_of Quotas generation (item_of_relation pair))
+    (list_all (is_item_of Quotas generation) (map item_of_relation pairs))
     (relation_allowed generation pair) (relations_allowed generation pairs)
 
 -- ---- the order
 
 -- items stand behind those of groups
 abbrev AreBehind : List Item → Type 0
-AreBehind rest = (kind n : ℕ) → kind < 246 → ascends_from (key_with 0 kind n) (map (λ (item : Item). item.key) rest) ≡ true
+AreBehind rest = (kind n : ℕ) → kind < 246 → ascends_from (key_with 0 kind n) (map (λ (item : Item). item.key) rest)
+    ≡ true
 
 limits_above : (n : ℕ) (groups : List (ℕ × Group)) (rest : List Item) → Above n groups → AreBehind rest
     → ascends_from (key_with 0 244 n) (map (λ (item : Item). item.key) (map item_of_limit groups ++ rest)) ≡ true
@@ -215,25 +226,32 @@ infos_fit : (groups : List (ℕ × Group)) → AllByRecursion GroupFits groups
     → AllByRecursion ItemFits (map item_of_info groups)
 infos_fit [] fit = tt
 infos_fit (entry ∷ groups) fit =
-    let info = info_of entry.1.stamp entry.1.counters in
-    (item-fits 0 242 entry.0 (info_text info) (lit< tt) (lit< tt) fit.0.counters.number (info_text-AreBytes info), infos_fit groups fit.1)
+    let info = info_of entry.1.stamp entry.1.counters in (
+      item-fits 0 242 entry.0 (info_text info) (lit< tt) (lit< tt) fit.0.counters.number
+          (info_text-AreBytes info),
+      infos_fit groups fit.1,
+    )
 
 all_limits_fit : (groups : List (ℕ × Group)) → AllByRecursion GroupFits groups
     → AllByRecursion ItemFits (map item_of_limit groups)
 all_limits_fit [] fit = tt
 all_limits_fit (entry ∷ groups) fit =
-    let limit = limit_of entry.1.max_rfer entry.1.max_excl in
-    (item-fits 0 244 entry.0 (limit_text limit) (lit< tt) (lit< tt) fit.0.counters.number (limit_text-AreBytes limit), all_limits_fit groups fit.1)
+    let limit = limit_of entry.1.max_rfer entry.1.max_excl in (
+      item-fits 0 244 entry.0 (limit_text limit) (lit< tt) (lit< tt) fit.0.counters.number (limit_text-AreBytes limit),
+      all_limits_fit groups fit.1,
+    )
 
 relations_fit : (pairs : List (ℕ × ℕ)) → AllByRecursion PairFits pairs
     → AllByRecursion ItemFits (map item_of_relation pairs)
 relations_fit [] fit = tt
-relations_fit (pair ∷ pairs) fit = (item-fits pair.0 246 pair.1 [] fit.0.0 (lit< tt) fit.0.1 nothing-AreBytes, relations_fit pairs fit.1)
+relations_fit (pair ∷ pairs) fit =
+    (item-fits pair.0 246 pair.1 [] fit.0.0 (lit< tt) fit.0.1 nothing-AreBytes, relations_fit pairs fit.1)
 
 infos_weigh : (groups : List (ℕ × Group)) → items_bytes (map item_of_info groups) ≡ 65 * length groups
 infos_weigh [] = refl
 infos_weigh (entry ∷ groups) =
-    let first : item_bytes (item_of_info entry) ≡ 65 = omega (arith, length-info_text (info_of entry.1.stamp entry.1.counters)) in
+    let first : item_bytes (item_of_info entry) ≡ 65 =
+    omega (arith, length-info_text (info_of entry.1.stamp entry.1.counters)) in
     omega (arith, first, infos_weigh groups, sum_by-cons item_bytes (item_of_info entry) (map item_of_info groups))
 
 limits_weigh : (groups : List (ℕ × Group)) → items_bytes (map item_of_limit groups) ≡ 65 * length groups
@@ -247,7 +265,13 @@ relations_weigh : (pairs : List (ℕ × ℕ)) → items_bytes (map item_of_relat
 relations_weigh [] = refl
 relations_weigh (pair ∷ pairs) =
     let first : item_bytes (item_of_relation pair) ≡ 25 = refl in
-    omega (arith, first, relations_weigh pairs, sum_by-cons item_bytes (item_of_relation pair) (map item_of_relation pairs))
+    omega (
+      arith,
+      first,
+      relations_weigh pairs,
+      sum_by-cons item_bytes (item_of_relation pair)
+          (map item_of_relation pairs),
+    )
 
 -- ---- all
 
@@ -268,7 +292,8 @@ module _ (status : QgroupStatus) (quota : Quota) where
       let counters = All-from_recursion IsShort infos (infos_short quota.groups) in
       let maxima = All-from_recursion IsShort limits (limits_short quota.groups) in
       let related = All-from_recursion IsShort relations (relations_short (both_ways quota.pairs)) in
-      let groups = All-cons IsShort (item_of_status status) (infos ++ limits) first (All-append IsShort infos limits counters maxima) in
+      let groups = All-cons IsShort (item_of_status status) (infos ++ limits) first
+      (All-append IsShort infos limits counters maxima) in
       All-append IsShort (items_of_groups status quota.groups) relations groups related
 
   pub quota-fit : All GroupFits quota.groups → All PairFits (both_ways quota.pairs)
@@ -278,8 +303,10 @@ module _ (status : QgroupStatus) (quota : Quota) where
       let first = item-fits 0 240 0 (status_text status) (lit< tt) (lit< tt) (lit< tt) (status_text-AreBytes status) in
       let counters = All-from_recursion ItemFits infos (infos_fit quota.groups fit) in
       let maxima = All-from_recursion ItemFits limits (all_limits_fit quota.groups fit) in
-      let related = All-from_recursion ItemFits relations (relations_fit (both_ways quota.pairs) (recursion_from_All PairFits (both_ways quota.pairs) pairs_fit)) in
-      let groups = All-cons ItemFits (item_of_status status) (infos ++ limits) first (All-append ItemFits infos limits counters maxima) in
+      let related = All-from_recursion ItemFits relations
+      (relations_fit (both_ways quota.pairs) (recursion_from_All PairFits (both_ways quota.pairs) pairs_fit)) in
+      let groups = All-cons ItemFits (item_of_status status) (infos ++ limits) first
+      (All-append ItemFits infos limits counters maxima) in
       All-append ItemFits (items_of_groups status quota.groups) relations groups related
 
   pub quota-ascending : IsSound (hierarchy_of quota)
@@ -288,8 +315,10 @@ module _ (status : QgroupStatus) (quota : Quota) where
   quota-ascending sound =
       let rises = Rises-sorted quota.groups sound.groups in
       let behind : AreBehind relations = relations-behind (both_ways quota.pairs) (both-sorted quota.pairs) in
-      ap (λ (rest : List Item). ascends_from (key_with 0 240 0) (map (λ (item : Item). item.key) rest)) (append_assoc infos limits relations)
-      ∙ ascending_infos quota.groups (limits ++ relations) rises (λ m. limits_behind m quota.groups relations rises behind)
+      ap (λ (rest : List Item). ascends_from (key_with 0 240 0) (map (λ (item : Item). item.key) rest))
+      (append_assoc infos limits relations)
+      ∙ ascending_infos quota.groups (limits ++ relations) rises
+      (λ m. limits_behind m quota.groups relations rises behind)
       (limits_first quota.groups relations rises behind)
 
   pub quota-bytes : IsSound (hierarchy_of quota)
@@ -323,7 +352,14 @@ module _ (generation : ℕ) (quota : Quota) (small : generation < 2 ^ 64) (fits 
       let fit = recursion_from_All GroupFits quota.groups fits in
       let groups = filter_map-append quota_part counted limited in
       let rest = filter_map-append quota_part (counted ++ limited) related in
-      rw (status_told generation small, rest, groups, infos_told quota.groups fit, limits_told quota.groups fit, relations_told (both_ways quota.pairs)) refl
+      rw (
+        status_told generation small,
+        rest,
+        groups,
+        infos_told quota.groups fit,
+        limits_told quota.groups fit,
+        relations_told (both_ways quota.pairs),
+      ) refl
 
   pub quota-allowed : All (λ entry. entry.1.stamp ≤ generation) quota.groups
       → list_all (is_item_of Quotas generation) (items_of_quota (status_at generation) quota) ≡ true
@@ -334,14 +370,16 @@ module _ (generation : ℕ) (quota : Quota) (small : generation < 2 ^ 64) (fits 
       ∙ both (list_all (is_item_of Quotas generation) counted) (list_all (is_item_of Quotas generation) limited)
       (infos_allowed generation quota.groups fit by) (limits_allowed generation quota.groups fit) in
       let rest = list_all-append (is_item_of Quotas generation) (counted ++ limited) related
-      ∙ both (list_all (is_item_of Quotas generation) (counted ++ limited)) (list_all (is_item_of Quotas generation) related)
+      ∙ both (list_all (is_item_of Quotas generation) (counted ++ limited))
+      (list_all (is_item_of Quotas generation) related)
       groups (relations_allowed generation (both_ways quota.pairs)) in
       both (is_item_of Quotas generation (item_of_status (status_at generation)))
       (list_all (is_item_of Quotas generation) (counted ++ limited ++ related)) (status_allowed generation small) rest
 
 -- ---- one item more is put
 
-pub item-put : (f : ℕ × Group → Item) (front items more : List Item) (groups : List (ℕ × Group)) (i : ℕ) (entry : ℕ × Group)
+pub item-put : (f : ℕ × Group → Item) (front items more : List Item) (groups : List (ℕ × Group)) (i : ℕ)
+    (entry : ℕ × Group)
     → i < length groups → entry ≡ get_or groups i entry → items ≡ front ++ map f (take i groups)
     → more ≡ items ++ f entry ∷ []
     → more ≡ front ++ map f (take (i + 1) groups)

@@ -1,5 +1,6 @@
 -- What is written of quota is read as that quota, and breaks no rule.
-use Rattle.std.proofs.Common.{◌≡◌, ℕ, ◌≤◌, ◌<◌, inl, inr, Bool, true, false, List, [], ◌∷◌, ◌++◌, map, refl, sym, ap, ◌∙◌, arith}
+use Rattle.std.proofs.Common.{◌≡◌, ℕ, ◌≤◌, ◌<◌, inl, inr, Bool, true, false, List, [], ◌∷◌, ◌++◌, map, refl, sym, ap}
+use Rattle.std.proofs.Common.{◌∙◌, arith}
 use Rattle.std.specs.Prelude.{Option, Some, None, ◌==◌, ◌&&◌, ◌||◌}
 use Rattle.std.specs.List.{filter, filter_map}
 use Rattle.std.proofs.lemmas.Bool.{and_from, and_parts, eq-eqb, lt-ltb, ltb-true, or_cases, or_right}
@@ -18,7 +19,8 @@ use Rattle.qg_machine.specs.GroupChange.{has_pair, same_pair}
 use Rattle.qg_hier.specs.Groups.{IsSound, pair_cmp}
 use Rattle.qg_hier.proofs.Lists.{same_tests}
 use Rattle.qg_hier.proofs.Sets.{pair_is}
-use Rattle.qg_image.specs.ImageState.{group_told, info_told, limit_told, max_excl_told, max_rfer_told, pair_told, quota_told}
+use Rattle.qg_image.specs.ImageState.{group_told, info_told, limit_told, max_excl_told, max_rfer_told, pair_told}
+use Rattle.qg_image.specs.ImageState.{quota_told}
 use Rattle.qg_quota.specs.Told.{relation_told, rises}
 use Rattle.qg_quota.specs.Written.{both_ways, info_of, info_part, limit_of, limit_part, parts_of_quota, relation_part}
 use Rattle.qg_quota.proofs.BothWays.{both-has, both-sorted}
@@ -71,7 +73,8 @@ limits_of_infos (entry ∷ groups) = limits_of_infos groups
 
 limits_of_limits : (groups : List (ℕ × Group)) → filter_map limit_told (map limit_part groups) ≡ map limit_entry groups
 limits_of_limits [] = refl
-limits_of_limits (entry ∷ groups) = ap (λ (list : List (ℕ × QgroupLimit)). limit_entry entry ∷ list) (limits_of_limits groups)
+limits_of_limits (entry ∷ groups) = ap (λ (list : List (ℕ × QgroupLimit)). limit_entry entry ∷ list)
+    (limits_of_limits groups)
 
 limits_of_relations : (pairs : List (ℕ × ℕ)) → filter_map limit_told (map relation_part pairs) ≡ []
 limits_of_relations [] = refl
@@ -103,21 +106,42 @@ module _ (generation : ℕ) (quota : Quota) where
   infos-told =
       let all = filter_map-append info_told (infos ++ limits) relations in
       let front = filter_map-append info_told infos limits in
-      rw (all, front, infos_of_infos quota.groups, infos_of_limits quota.groups, infos_of_relations (both_ways quota.pairs))
+      rw (
+        all,
+        front,
+        infos_of_infos quota.groups,
+        infos_of_limits quota.groups,
+        infos_of_relations
+            (both_ways quota.pairs),
+      )
       (append-nil (map info_entry quota.groups ++ []) ∙ append-nil (map info_entry quota.groups))
 
   pub limits-told : filter_map limit_told (parts_of_quota generation quota) ≡ map limit_entry quota.groups
   limits-told =
       let all = filter_map-append limit_told (infos ++ limits) relations in
       let front = filter_map-append limit_told infos limits in
-      rw (all, front, limits_of_infos quota.groups, limits_of_limits quota.groups, limits_of_relations (both_ways quota.pairs))
+      rw (
+        all,
+        front,
+        limits_of_infos quota.groups,
+        limits_of_limits quota.groups,
+        limits_of_relations
+            (both_ways quota.pairs),
+      )
       (append-nil (map limit_entry quota.groups))
 
   pub relations-told : filter_map relation_told (parts_of_quota generation quota) ≡ both_ways quota.pairs
   relations-told =
       let all = filter_map-append relation_told (infos ++ limits) relations in
       let front = filter_map-append relation_told infos limits in
-      rw (all, front, relations_of_infos quota.groups, relations_of_limits quota.groups, relations_of_relations (both_ways quota.pairs)) refl
+      rw (
+        all,
+        front,
+        relations_of_infos quota.groups,
+        relations_of_limits quota.groups,
+        relations_of_relations
+            (both_ways quota.pairs),
+      ) refl
 
 -- ---- groups
 
@@ -143,7 +167,8 @@ groups_back [] rises = refl
 groups_back (entry ∷ groups) rises =
     let itself : entry.0 ≤ entry.0 = omega arith in
     let later = passed_over entry (map limit_entry groups) entry.0 groups itself rises in
-    rw (eq-eqb entry.0 entry.0 refl, same_group entry, later, groups_back groups (rises_behind entry.0 groups rises)) refl
+    rw (eq-eqb entry.0 entry.0 refl, same_group entry, later, groups_back groups (rises_behind entry.0 groups rises))
+    refl
 
 -- ---- relations
 
@@ -152,12 +177,14 @@ pub pairs-back : (quota : Quota) → IsSound (hierarchy_of quota) → filter ris
 pairs-back quota sound =
     same-pairs (filter rises (both_ways quota.pairs)) quota.pairs
     (IsStrictlySortedBy-filter pair_cmp rises (both_ways quota.pairs) (both-sorted quota.pairs)) sound.pairs
-    (λ a b. found a b ∙ same_tests (rises (a, b) && (has_pair b a quota.pairs || has_pair a b quota.pairs)) (has_pair a b quota.pairs) (there a b) (back a b)) where
+    (λ a b. found a b ∙ same_tests (rises (a, b) && (has_pair b a quota.pairs || has_pair a b quota.pairs))
+    (has_pair a b quota.pairs) (there a b) (back a b)) where
       found : (a b : ℕ)
           → has_pair a b (filter rises (both_ways quota.pairs))
           ≡ (rises (a, b) && (has_pair b a quota.pairs || has_pair a b quota.pairs))
       found a b =
-          any-filter_same (same_pair (a, b)) rises (rises (a, b)) (λ pair same. ap (λ (p : ℕ × ℕ). rises p) (sym (pair_is (a, b) pair same))) (both_ways quota.pairs)
+          any-filter_same (same_pair (a, b)) rises (rises (a, b))
+          (λ pair same. ap (λ (p : ℕ × ℕ). rises p) (sym (pair_is (a, b) pair same))) (both_ways quota.pairs)
           ∙ ap (λ (h : Bool). rises (a, b) && h) (both-has a b quota.pairs)
 
       there : (a b : ℕ) → (rises (a, b) && (has_pair b a quota.pairs || has_pair a b quota.pairs)) ≡ true
@@ -173,7 +200,8 @@ pairs-back quota sound =
       back : (a b : ℕ) → has_pair a b quota.pairs ≡ true
           → (rises (a, b) && (has_pair b a quota.pairs || has_pair a b quota.pairs)) ≡ true
       back a b has =
-          and_from (rises (a, b)) (has_pair b a quota.pairs || has_pair a b quota.pairs) (lt-ltb (level_of_group a) (level_of_group b) (sound.rising a b has))
+          and_from (rises (a, b)) (has_pair b a quota.pairs || has_pair a b quota.pairs)
+          (lt-ltb (level_of_group a) (level_of_group b) (sound.rising a b has))
           (or_right (has_pair b a quota.pairs) (has_pair a b quota.pairs) has)
 
 -- ---- quota
@@ -189,8 +217,10 @@ module _ (generation : ℕ) (quota : Quota) (sound : IsSound (hierarchy_of quota
 
   groups_are : map (group_with (filter_map limit_told parts)) (filter_map info_told parts) ≡ quota.groups
   groups_are =
-      ap (λ (limits : List (ℕ × QgroupLimit)). map (group_with limits) (filter_map info_told parts)) (limits-told generation quota)
-      ∙ ap (λ (infos : List (ℕ × QgroupInfo)). map (group_with (map limit_entry quota.groups)) infos) (infos-told generation quota)
+      ap (λ (limits : List (ℕ × QgroupLimit)). map (group_with limits) (filter_map info_told parts))
+      (limits-told generation quota)
+      ∙ ap (λ (infos : List (ℕ × QgroupInfo)). map (group_with (map limit_entry quota.groups)) infos)
+      (infos-told generation quota)
       ∙ groups_back quota.groups (Rises-sorted quota.groups sound.groups)
 
   pairs_are : filter_map pair_told parts ≡ quota.pairs
@@ -201,4 +231,5 @@ module _ (generation : ℕ) (quota : Quota) (sound : IsSound (hierarchy_of quota
   pub quota-back : quota_told (parts_of_quota generation quota) ≡ quota
   unfolding quota_told
   quota-back =
-      same_quota quota (map (group_with (filter_map limit_told parts)) (filter_map info_told parts)) (filter_map pair_told parts) groups_are pairs_are
+      same_quota quota (map (group_with (filter_map limit_told parts)) (filter_map info_told parts))
+      (filter_map pair_told parts) groups_are pairs_are

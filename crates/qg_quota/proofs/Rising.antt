@@ -1,5 +1,6 @@
 -- Tables that ascend by number and relations that ascend, from what stands before them, and the keys of their items.
-use Rattle.std.proofs.Common.{◌≡◌, ℕ, suc, ◌+◌, ◌<◌, Bool, true, List, [], ◌∷◌, map, refl, sym, ap, subst, inl, inr, arith}
+use Rattle.std.proofs.Common.{◌≡◌, ℕ, suc, ◌+◌, ◌<◌, Bool, true, List, [], ◌∷◌, map, refl, sym, ap, subst, inl, inr}
+use Rattle.std.proofs.Common.{arith}
 use Rattle.std.specs.Prelude.{◌&&◌, slice_index}
 use Rattle.std.specs.List.Sorted.{IsStrictlyIncreasing, IsStrictlySortedBy}
 use Rattle.std.specs.Ordering.{is_lt, nat_cmp}
@@ -67,7 +68,8 @@ before_relations kind n a b lesser = elim (cases_lt 0 a) [
   | inl above ↦ rw (less_is 0 a above) refl
   | inr none ↦
       let is : 0 ≡ a = omega (arith, none) in
-      subst (λ (m : ℕ). is_lt (key_cmp (key_with 0 kind n) (key_with m 246 b)) ≡ true) is (rw (less_is kind 246 lesser) refl)
+      subst (λ (m : ℕ). is_lt (key_cmp (key_with 0 kind n) (key_with m 246 b)) ≡ true) is
+      (rw (less_is kind 246 lesser) refl)
 ]
 
 pub both : (a b : Bool) → a ≡ true → b ≡ true → (a && b) ≡ true

@@ -1,5 +1,6 @@
 -- The rules on items, by what was read of them.
-use Rattle.std.proofs.Common.{◌≡◌, ℕ, ◌+◌, ◌<◌, Bool, true, false, List, [], ◌∷◌, ◌++◌, get_or, length, take, refl, ap, sym, ◌∙◌, inl, inr}
+use Rattle.std.proofs.Common.{◌≡◌, ℕ, ◌+◌, ◌<◌, Bool, true, false, List, [], ◌∷◌, ◌++◌, get_or, length, take, refl, ap}
+use Rattle.std.proofs.Common.{sym, ◌∙◌, inl, inr}
 use Rattle.std.specs.Prelude.{IsTrue, Option, Some, None, map, if◌then◌else◌}
 use Rattle.std.specs.Bool.{then_some}
 use Rattle.std.specs.List.{cons_option, filter_map, list_all}
@@ -20,7 +21,8 @@ use Rattle.qg_quota.proofs.Lists.{all-more, filter_map-more}
 use Rattle.qg_quota.proofs.Said.{said-ascending, said-one, when-parts}
 
 -- what was read of an item: what it says, where it is allowed
-module _ (generation : ℕ) (items : List Item) (i : ℕ) (item : Item) (inside : i < length items) (at : item ≡ get_or items i item)
+module _ (generation : ℕ) (items : List Item) (i : ℕ) (item : Item) (inside : i < length items)
+    (at : item ≡ get_or items i item)
     (read : Option QuotaPart) (is : read ≡ when (is_item_of Quotas generation item) (quota_part item)) where
   -- where nothing was, it isn't allowed
   not_allowed : read ≡ None → is_item_of Quotas generation item ≡ false
@@ -32,18 +34,23 @@ module _ (generation : ℕ) (items : List Item) (i : ℕ) (item : Item) (inside 
     | inr other ↦ other
   ]
 
-  pub nothing-read : read ≡ None → None ≡ then_some (list_all (is_item_of Quotas generation) items) (filter_map quota_part items)
+  pub nothing-read : read ≡ None
+      → None ≡ then_some (list_all (is_item_of Quotas generation) items) (filter_map quota_part items)
   nothing-read none =
-      let one : is_item_of Quotas generation (get_or items i item) ≡ false = ap (is_item_of Quotas generation) (sym at) ∙ not_allowed none in
-      ap (λ (b : Bool). then_some b (filter_map quota_part items)) (sym (list_all_at (is_item_of Quotas generation) items i item inside one))
+      let one : is_item_of Quotas generation (get_or items i item) ≡ false = ap (is_item_of Quotas generation) (sym at)
+      ∙ not_allowed none in
+      ap (λ (b : Bool). then_some b (filter_map quota_part items))
+      (sym (list_all_at (is_item_of Quotas generation) items i item inside one))
 
-  pub next-allowed : (part : QuotaPart) → read ≡ Some part → list_all (is_item_of Quotas generation) (take i items) ≡ true
+  pub next-allowed : (part : QuotaPart) → read ≡ Some part → list_all (is_item_of Quotas generation) (take i items)
+      ≡ true
       → list_all (is_item_of Quotas generation) (take (i + 1) items) ≡ true
   next-allowed part some so_far =
       all-more (is_item_of Quotas generation) items i item inside at so_far
       (when-parts (is_item_of Quotas generation item) (quota_part item) part (sym is ∙ some)).0
 
-  pub next-part : (part : QuotaPart) (made more : List QuotaPart) → read ≡ Some part → made ≡ filter_map quota_part (take i items)
+  pub next-part : (part : QuotaPart) (made more : List QuotaPart) → read ≡ Some part
+      → made ≡ filter_map quota_part (take i items)
       → more ≡ made ++ part ∷ []
       → more ≡ filter_map quota_part (take (i + 1) items)
   next-part part made more some before put =
@@ -56,11 +63,13 @@ module _ (generation : ℕ) (items : List Item) (i : ℕ) (item : Item) (inside 
 module _ (generation : ℕ) (items seen : List Item) (same : seen ≡ items) (read : Option (List QuotaPart))
     (is : read ≡ then_some (list_all (is_item_of Quotas generation) seen) (filter_map quota_part seen)) where
   read_is : read ≡ then_some (list_all (is_item_of Quotas generation) items) (filter_map quota_part items)
-  read_is = is ∙ ap (λ (list : List Item). then_some (list_all (is_item_of Quotas generation) list) (filter_map quota_part list)) same
+  read_is = is ∙ ap (λ (list : List Item). then_some (list_all (is_item_of Quotas generation) list)
+      (filter_map quota_part list)) same
 
   pub read-parts : (parts : List QuotaPart) → read ≡ Some parts
       → (list_all (is_item_of Quotas generation) items ≡ true) × (filter_map quota_part items ≡ parts)
-  read-parts parts some = then_some_parts (list_all (is_item_of Quotas generation) items) (filter_map quota_part items) parts (sym read_is ∙ some)
+  read-parts parts some = then_some_parts (list_all (is_item_of Quotas generation) items) (filter_map quota_part items)
+      parts (sym read_is ∙ some)
 
   -- where something was read, the rules are those on what was read
   pub rule-of-parts : (live : List ℕ) (parts : List QuotaPart) → read ≡ Some parts

@@ -47,30 +47,41 @@ option_map_some f (Some x) y is then = then x refl (same_Some (f x) y is)
 module _ (item : Item) (part : QuotaPart) (P : QuotaPart → Type 0)
     (status : (told : QgroupStatus) → status_read item.body ≡ Some told → is_status told ≡ true → P (Status told))
     (info : (told : QgroupInfo) → info_read item.body ≡ Some told → P (Info item.key.offset told))
-    (limit : (told : QgroupLimit) → limit_read item.body ≡ Some told → nat_le told.flags 3 ≡ true → P (Limits item.key.offset told))
+    (limit : (told : QgroupLimit) → limit_read item.body ≡ Some told → nat_le told.flags 3 ≡ true
+    → P (Limits item.key.offset told))
     (relation : item.body ≡ [] → P (Relation item.key.objectid item.key.offset)) where
-  status_case : when (is_keyed 0 QGROUP_STATUS 0 item) (option_and_then (λ told. then_some (is_status told) (Status told)) (status_read item.body)) ≡ Some part → P part
+  status_case : when (is_keyed 0 QGROUP_STATUS 0 item)
+      (option_and_then (λ told. then_some (is_status told) (Status told)) (status_read item.body)) ≡ Some part → P part
   status_case h =
       let given = when-parts _ _ part h in
       option_and_then_some _ (status_read item.body) part given.1
-      (λ told read is. let parts = then_some_parts (is_status told) (Status told) part is in subst P parts.1 (status told read parts.0))
+      (λ told read is. let parts = then_some_parts (is_status told) (Status told) part is in
+      subst P parts.1 (status told read parts.0))
 
-  info_case : when (is_keyed 0 QGROUP_INFO item.key.offset item) (option_map (Info item.key.offset) (info_read item.body)) ≡ Some part → P part
+  info_case : when (is_keyed 0 QGROUP_INFO item.key.offset item)
+      (option_map (Info item.key.offset) (info_read item.body)) ≡ Some part → P part
   info_case h =
       let given = when-parts _ _ part h in
       option_map_some _ (info_read item.body) part given.1 (λ told read is. subst P is (info told read))
 
-  limit_case : when (is_keyed 0 QGROUP_LIMIT item.key.offset item) (option_and_then (λ told. then_some (nat_le told.flags 3) (Limits item.key.offset told)) (limit_read item.body)) ≡ Some part → P part
+  limit_case : when (is_keyed 0 QGROUP_LIMIT item.key.offset item)
+      (option_and_then (λ told. then_some (nat_le told.flags 3) (Limits item.key.offset told)) (limit_read item.body))
+      ≡ Some part → P part
   limit_case h =
       let given = when-parts _ _ part h in
       option_and_then_some _ (limit_read item.body) part given.1
-      (λ told read is. let parts = then_some_parts (nat_le told.flags 3) (Limits item.key.offset told) part is in subst P parts.1 (limit told read parts.0))
+      (λ told read is. let parts = then_some_parts (nat_le told.flags 3) (Limits item.key.offset told) part is in
+      subst P parts.1 (limit told read parts.0))
 
-  relation_case : when ((item.key.kind == QGROUP_RELATION) && (length item.body == 0)) (Some (Relation item.key.objectid item.key.offset)) ≡ Some part → P part
+  relation_case : when ((item.key.kind == QGROUP_RELATION) && (length item.body == 0))
+      (Some (Relation item.key.objectid item.key.offset)) ≡ Some part → P part
   relation_case h =
       let given = when-parts _ _ part h in
-      let empty : length item.body ≡ 0 = eqb-true (length item.body) 0 (and_parts (item.key.kind == QGROUP_RELATION) (length item.body == 0) given.0).1 in
-      subst P (same_Some (Relation item.key.objectid item.key.offset) part given.1) (relation (nil_from_length item.body empty))
+      let empty : length item.body ≡ 0 =
+      eqb-true (length item.body) 0
+      (and_parts (item.key.kind == QGROUP_RELATION) (length item.body == 0) given.0).1 in
+      subst P (same_Some (Relation item.key.objectid item.key.offset) part given.1)
+      (relation (nil_from_length item.body empty))
 
   pub part-cases : quota_part item ≡ Some part → P part
   unfolding quota_part
@@ -88,7 +99,8 @@ is_known (Relation group other) = true
 
 known : (item : Item) (part : QuotaPart) → quota_part item ≡ Some part → is_known part ≡ true
 known item part h =
-    part-cases item part (λ part. is_known part ≡ true) (λ told read on. on) (λ told read. refl) (λ told read few. few) (λ empty. refl) h
+    part-cases item part (λ part. is_known part ≡ true) (λ told read on. on) (λ told read. refl) (λ told read few. few)
+    (λ empty. refl) h
 
 abbrev body_of : QuotaPart → List ℕ
 body_of (Status status) = status_text status
@@ -98,8 +110,10 @@ body_of (Relation group other) = []
 
 body_is : (item : Item) (part : QuotaPart) → IsBytes item.body → quota_part item ≡ Some part → item.body ≡ body_of part
 body_is item part bytes h =
-    part-cases item part (λ part. item.body ≡ body_of part) (λ told read on. status_text-from_read item.body told bytes read)
-    (λ told read. info_text-from_read item.body told bytes read) (λ told read few. limit_text-from_read item.body told bytes read) (λ empty. empty) h
+    part-cases item part (λ part. item.body ≡ body_of part)
+    (λ told read on. status_text-from_read item.body told bytes read)
+    (λ told read. info_text-from_read item.body told bytes read)
+    (λ told read few. limit_text-from_read item.body told bytes read) (λ empty. empty) h
 
 -- the item of what is said
 abbrev pub item_of_part : QuotaPart → Item
@@ -131,7 +145,8 @@ said-all generation (item ∷ items) all =
     let both = and_parts (is_item_of Quotas generation item) (list_all (is_item_of Quotas generation) items) all in
     let one = said-one generation item both.0 in
     let rest = said-all generation items both.1 in
-    subst (λ (o : Option QuotaPart). ◌≡◌ {A = List (Option QuotaPart)} (o ∷ map quota_part items) (map (λ part. Some part) (cons_option o (filter_map quota_part items)))) (sym one.1)
+    subst (λ (o : Option QuotaPart). ◌≡◌ {A = List (Option QuotaPart)} (o ∷ map quota_part items)
+    (map (λ part. Some part) (cons_option o (filter_map quota_part items)))) (sym one.1)
     (ap (λ (list : List (Option QuotaPart)). Some one.0 ∷ list) rest)
 
 -- so the parts' keys ascend
@@ -139,7 +154,11 @@ pub said-ascending : (generation : ℕ) (items : List Item) → list_all (is_ite
     → IsTrue (is_ascending (map (λ (item : Item). item.key) items))
     → IsTrue (is_ascending (map quota_key (filter_map quota_part items)))
 said-ascending generation items all up =
-    quotas_ascending (filter_map quota_part items) (record { items = items; said = said-all generation items all; ascending = up })
+    quotas_ascending (filter_map quota_part items) (record {
+      items = items;
+      said = said-all generation items all;
+      ascending = up;
+    })
 
 pub said-passes : (generation : ℕ) (items : List Item) → list_all (is_item_of Quotas generation) items ≡ true
     → list_all (passes generation) (filter_map quota_part items) ≡ true
@@ -148,7 +167,8 @@ said-passes generation (item ∷ items) all =
     let both = and_parts (is_item_of Quotas generation item) (list_all (is_item_of Quotas generation) items) all in
     let one = said-one generation item both.0 in
     let rest = said-passes generation items both.1 in
-    subst (λ (o : Option QuotaPart). list_all (passes generation) (cons_option o (filter_map quota_part items)) ≡ true) (sym one.1)
+    subst (λ (o : Option QuotaPart). list_all (passes generation) (cons_option o (filter_map quota_part items)) ≡ true)
+    (sym one.1)
     (ap (λ (here : Bool). here && list_all (passes generation) (filter_map quota_part items)) one.2 ∙ rest)
 
 pub said-known : (generation : ℕ) (items : List Item) → list_all (is_item_of Quotas generation) items ≡ true
@@ -171,5 +191,7 @@ items-said generation (item ∷ items) all fit =
     let one = said-one generation item both.0 in
     let rest = items-said generation items both.1 (All-tail ItemFits item items fit) in
     let bytes = All-head ItemFits item items fit in
-    subst (λ (o : Option QuotaPart). ◌≡◌ {A = List Item} (item ∷ items) (map item_of_part (cons_option o (filter_map quota_part items)))) (sym one.1)
-    (ap (λ (first : Item). first ∷ items) (item_is item one.0 bytes.body one.1) ∙ ap (λ (list : List Item). item_of_part one.0 ∷ list) rest)
+    subst (λ (o : Option QuotaPart). ◌≡◌ {A = List Item} (item ∷ items)
+    (map item_of_part (cons_option o (filter_map quota_part items)))) (sym one.1)
+    (ap (λ (first : Item). first ∷ items) (item_is item one.0 bytes.body one.1)
+    ∙ ap (λ (list : List Item). item_of_part one.0 ∷ list) rest)

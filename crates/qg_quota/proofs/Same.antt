@@ -67,13 +67,15 @@ same-pairs (x ∷ xs) (y ∷ ys) up up' same =
       ]
 
       there : (a b : ℕ) → x ≡ y → has_pair a b xs ≡ true → has_pair a b ys ≡ true
-      there a b is has = elim (or_cases (same_pair (a, b) y) (has_pair a b ys) (sym (same a b) ∙ or_right (same_pair (a, b) x) (has_pair a b xs) has)) [
-        | inl here ↦ absurd (not_itself x (a, b) (is ∙ sym (pair_is (a, b) y here)) (behind a b has))
-        | inr later ↦ later
-      ]
+      there a b is has = elim (or_cases (same_pair (a, b) y) (has_pair a b ys) (sym (same a b)
+          ∙ or_right (same_pair (a, b) x) (has_pair a b xs) has)) [
+            | inl here ↦ absurd (not_itself x (a, b) (is ∙ sym (pair_is (a, b) y here)) (behind a b has))
+            | inr later ↦ later
+          ]
 
       back : (a b : ℕ) → x ≡ y → has_pair a b ys ≡ true → has_pair a b xs ≡ true
-      back a b is has = elim (or_cases (same_pair (a, b) x) (has_pair a b xs) (same a b ∙ or_right (same_pair (a, b) y) (has_pair a b ys) has)) [
-        | inl here ↦ absurd (not_itself y (a, b) (sym is ∙ sym (pair_is (a, b) x here)) (behind' a b has))
-        | inr later ↦ later
-      ]
+      back a b is has = elim (or_cases (same_pair (a, b) x) (has_pair a b xs) (same a b
+          ∙ or_right (same_pair (a, b) y) (has_pair a b ys) has)) [
+            | inl here ↦ absurd (not_itself y (a, b) (sym is ∙ sym (pair_is (a, b) x here)) (behind' a b has))
+            | inr later ↦ later
+          ]

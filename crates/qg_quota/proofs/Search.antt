@@ -1,9 +1,11 @@
 -- What a search among relations or among numbers finds.
 use denote.Param.Members.{Mut}
-use Rattle.std.proofs.Common.{◌≡◌, ℕ, suc, ◌<◌, ◌≤◌, Bool, true, false, List, [], ◌∷◌, length, get_or, Result, Ok, Err, refl, sym, ap, ◌∙◌, arith, inl, inr, Bor}
+use Rattle.std.proofs.Common.{◌≡◌, ℕ, suc, ◌<◌, ◌≤◌, Bool, true, false, List, [], ◌∷◌, length, get_or, Result, Ok, Err}
+use Rattle.std.proofs.Common.{refl, sym, ap, ◌∙◌, arith, inl, inr, Bor}
 use Rattle.std.specs.Prelude.{◌==◌, ◌&&◌, nat_lt}
 use Rattle.std.specs.Fn.{Called, ComputesKey}
-use Rattle.std.specs.List.Sorted.{IsBinarySearchResult, IsNonDecreasingBy, IsPartitionPoint, IsPartitionedBy, IsSearchInRange, IsStrictlySortedBy}
+use Rattle.std.specs.List.Sorted.{IsBinarySearchResult, IsNonDecreasingBy, IsPartitionPoint, IsPartitionedBy}
+use Rattle.std.specs.List.Sorted.{IsSearchInRange, IsStrictlySortedBy}
 use Rattle.std.specs.Ordering.{nat_cmp, ordering_index}
 use Rattle.std.specs.Result.{is_ok}
 use Rattle.std.specs.declared.cmp.Ordering.{Ordering}
@@ -45,7 +47,8 @@ higher : (p q x : ℕ × ℕ) → pair_cmp p q ≡ Less → ordering_index (pair
 higher p q x less = ranks (pair_cmp q x) refl where
   ranks : (o : Ordering) → pair_cmp q x ≡ o → ordering_index (pair_cmp p x) ≤ ordering_index o
   ranks Less is =
-      let low : ordering_index (pair_cmp p x) ≡ 0 = ap (λ (o : Ordering). ordering_index o) (pair_order.trans p q x less is) in
+      let low : ordering_index (pair_cmp p x) ≡ 0 =
+      ap (λ (o : Ordering). ordering_index o) (pair_order.trans p q x less is) in
       omega (arith, low)
   ranks Equal is =
       let before : pair_cmp p x ≡ Less = ap (λ (r : ℕ × ℕ). pair_cmp p r) (sym (equal_is q x is)) ∙ less in
@@ -61,7 +64,8 @@ rising pairs x up i j d le inside = elim (eqb_tells i j) [
       ap (λ (k : ℕ). ordering_index (pair_cmp (get_or pairs k d) x)) here in
       omega (arith, same)
   | inr (unequal, apart) ↦
-      higher (get_or pairs i d) (get_or pairs j d) x (Less-from_sorted pair_cmp pairs i j d up (omega (arith, le, apart)) inside)
+      higher (get_or pairs i d) (get_or pairs j d) x
+      (Less-from_sorted pair_cmp pairs i j d up (omega (arith, le, apart)) inside)
 ]
 
 -- ---- what is found
@@ -89,9 +93,11 @@ searched-pair pairs a b (Err i) up inside result =
     ]))
 
 -- where entries ascend by number, those of a lesser one stand in front
-pub number-parted : {A F : Type 0} {g : Mut F (Bor (ℕ × A) × Unit {0}) Bool} {f : F} (group : ℕ) (entries : List (ℕ × A)) (place : ℕ)
+pub number-parted : {A F : Type 0} {g : Mut F (Bor (ℕ × A) × Unit {0}) Bool} {f : F} (group : ℕ)
+    (entries : List (ℕ × A)) (place : ℕ)
     → IsStrictlySortedBy nat_cmp (keys_of entries)
-    → ((q : ℕ × A → Bool) → ComputesKey g q f → IsPartitionedBy q entries → IsPartitionPoint (λ y. q y ≡ true) (λ y. q y ≡ false) entries place)
+    → ((q : ℕ × A → Bool) → ComputesKey g q f → IsPartitionedBy q entries
+    → IsPartitionPoint (λ y. q y ≡ true) (λ y. q y ≡ false) entries place)
     → ((a : Bor (ℕ × A) × Unit {0}) (r : Bool) (f' : F) → Called g f a r f' → (r ≡ nat_lt a.0.now.0 group) × (f' ≡ f))
     → IsPartitionPoint (λ entry. nat_lt entry.0 group ≡ true) (λ entry. nat_lt entry.0 group ≡ false) entries place
 number-parted {A} group entries place up clause calls =

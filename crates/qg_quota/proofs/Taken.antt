@@ -1,5 +1,6 @@
 -- The items of quota that serves the live subvolumes break no rule.
-use Rattle.std.proofs.Common.{◌≡◌, ℕ, ◌*◌, inl, inr, Bool, true, false, not, List, [], ◌∷◌, ◌++◌, get_or, map, length, refl, sym, ap, ◌∙◌, arith}
+use Rattle.std.proofs.Common.{◌≡◌, ℕ, ◌*◌, inl, inr, Bool, true, false, not, List, [], ◌∷◌, ◌++◌, get_or, map, length}
+use Rattle.std.proofs.Common.{refl, sym, ap, ◌∙◌, arith}
 use Rattle.std.specs.Prelude.{Option, Some, None, is_some, ◌==◌, ◌&&◌, nat_le}
 use Rattle.std.specs.List.{All, AllByRecursion, count_by, filter_map, list_all}
 use Rattle.std.proofs.lemmas.Bool.{and_from, cases_Bool, eq-eqb, le-leb, ne_eqb, or_cases, or_left, or_right}
@@ -19,7 +20,8 @@ use Rattle.qg_hier.specs.Groups.{IsSound, is_kept}
 use Rattle.qg_groups.proofs.Pairs.{pair-there}
 use Rattle.qg_groups.proofs.Tables.{each-found, key-found}
 use Rattle.qg_image.specs.ImageState.{info_told, limit_told}
-use Rattle.qg_image.specs.Verdict.{are_few, fits_quota, has_twin, is_group_number, is_limit, is_plain, is_quota, is_relation_part, most_groups, most_relations}
+use Rattle.qg_image.specs.Verdict.{are_few, fits_quota, has_twin, is_group_number, is_limit, is_plain, is_quota}
+use Rattle.qg_image.specs.Verdict.{is_relation_part, most_groups, most_relations}
 use Rattle.qg_quota.specs.Laws.{IsServedFor}
 use Rattle.qg_quota.specs.Quota.{quota_rule}
 use Rattle.qg_quota.specs.Written.{both_ways, info_of, info_part, limit_of, limit_part, parts_of_quota, relation_part}
@@ -57,7 +59,8 @@ limits_sound None (Some most) = refl
 limits_sound (Some most) None = refl
 limits_sound (Some most) (Some own) = refl
 
-module _ (generation : ℕ) (live : List ℕ) (quota : Quota) (sound : IsSound (hierarchy_of quota)) (served : IsServedFor live quota) where
+module _ (generation : ℕ) (live : List ℕ) (quota : Quota) (sound : IsSound (hierarchy_of quota))
+    (served : IsServedFor live quota) where
   abbrev groups : List (ℕ × Group)
   groups = quota.groups
 
@@ -77,10 +80,12 @@ module _ (generation : ℕ) (live : List ℕ) (quota : Quota) (sound : IsSound (
   relations = map relation_part related
 
   info_there : (n : ℕ) → has_key n groups ≡ true → has_key n (filter_map info_told parts) ≡ true
-  info_there n has = ap (λ (list : List (ℕ × QgroupInfo)). has_key n list) (infos-told generation quota) ∙ infos_have n groups ∙ has
+  info_there n has = ap (λ (list : List (ℕ × QgroupInfo)). has_key n list) (infos-told generation quota)
+      ∙ infos_have n groups ∙ has
 
   limit_there : (n : ℕ) → has_key n groups ≡ true → has_key n (filter_map limit_told parts) ≡ true
-  limit_there n has = ap (λ (list : List (ℕ × QgroupLimit)). has_key n list) (limits-told generation quota) ∙ limits_have n groups ∙ has
+  limit_there n has = ap (λ (list : List (ℕ × QgroupLimit)). has_key n list) (limits-told generation quota)
+      ∙ limits_have n groups ∙ has
 
   own : All (λ entry. has_key entry.0 groups ≡ true) groups
   own k d inside = ap (λ (o : Option Group). is_some o) (each-found groups sound.groups k d inside)
@@ -90,9 +95,12 @@ module _ (generation : ℕ) (live : List ℕ) (quota : Quota) (sound : IsSound (
       let entry = get_or groups k d in
       let counters = entry.1.counters in
       let plain : is_plain (info_of entry.1.stamp counters) ≡ true =
-      and_from (counters.rfer == counters.rfer) (counters.excl == counters.excl) (eq-eqb counters.rfer counters.rfer refl) (eq-eqb counters.excl counters.excl refl) in
-      and_from (has_key entry.0 (filter_map limit_told parts) && is_group_number entry.0) (is_plain (info_of entry.1.stamp counters))
-      (and_from (has_key entry.0 (filter_map limit_told parts)) (is_group_number entry.0) (limit_there entry.0 (own k d inside)) (served.numbers k d inside)) plain
+      and_from (counters.rfer == counters.rfer) (counters.excl == counters.excl)
+      (eq-eqb counters.rfer counters.rfer refl) (eq-eqb counters.excl counters.excl refl) in
+      and_from (has_key entry.0 (filter_map limit_told parts) && is_group_number entry.0)
+      (is_plain (info_of entry.1.stamp counters))
+      (and_from (has_key entry.0 (filter_map limit_told parts)) (is_group_number entry.0)
+      (limit_there entry.0 (own k d inside)) (served.numbers k d inside)) plain
 
   limit_fits : All (λ entry. fits_quota parts (limit_part entry) ≡ true) groups
   limit_fits k d inside =
@@ -101,28 +109,35 @@ module _ (generation : ℕ) (live : List ℕ) (quota : Quota) (sound : IsSound (
       (info_there entry.0 (own k d inside)) (limits_sound entry.1.max_rfer entry.1.max_excl)
 
   twinned : (a b : ℕ) → has_pair b a related ≡ true → has_twin parts a b ≡ true
-  twinned a b has = twin_is a b parts ∙ twins a b parts ∙ ap (λ (list : List (ℕ × ℕ)). has_pair b a list) (relations-told generation quota) ∙ has
+  twinned a b has = twin_is a b parts ∙ twins a b parts
+      ∙ ap (λ (list : List (ℕ × ℕ)). has_pair b a list) (relations-told generation quota) ∙ has
 
   kept : (n : ℕ) → is_kept (hierarchy_of quota) n ≡ true → has_key n (filter_map info_told parts) ≡ true
   kept n has = info_there n (sym (key-found n groups) ∙ has)
 
   one_fits : (a b : ℕ) → has_pair a b related ≡ true → fits_quota parts (Relation a b) ≡ true
-  one_fits a b has = elim (or_cases (has_pair b a quota.pairs) (has_pair a b quota.pairs) (sym (both-has a b quota.pairs) ∙ has)) [
-    | inl turned ↦
-        let low = sound.rising b a turned in
-        let twin = twinned a b (both-has b a quota.pairs ∙ or_right (has_pair a b quota.pairs) (has_pair b a quota.pairs) turned) in
-        all_of a b twin (kept a (sound.parents b a turned)) (ne_eqb (level_of_group a) (level_of_group b) (λ same. omega (arith, same, low)))
-    | inr straight ↦
-        let low = sound.rising a b straight in
-        let twin = twinned a b (both-has b a quota.pairs ∙ or_left (has_pair a b quota.pairs) (has_pair b a quota.pairs) straight) in
-        all_of a b twin (kept a (sound.members a b straight)) (ne_eqb (level_of_group a) (level_of_group b) (λ same. omega (arith, same, low)))
-  ] where
-    all_of : (a b : ℕ) → has_twin parts a b ≡ true → has_key a (filter_map info_told parts) ≡ true
-        → (level_of_group a == level_of_group b) ≡ false
-        → fits_quota parts (Relation a b) ≡ true
-    all_of a b twin there apart =
-        and_from (has_twin parts a b && has_key a (filter_map info_told parts)) (not (level_of_group a == level_of_group b))
-        (and_from (has_twin parts a b) (has_key a (filter_map info_told parts)) twin there) (ap not apart)
+  one_fits a b has = elim (or_cases (has_pair b a quota.pairs) (has_pair a b quota.pairs)
+      (sym (both-has a b quota.pairs) ∙ has)) [
+        | inl turned ↦
+            let low = sound.rising b a turned in
+            let twin = twinned a b (both-has b a quota.pairs
+            ∙ or_right (has_pair a b quota.pairs) (has_pair b a quota.pairs) turned) in
+            all_of a b twin (kept a (sound.parents b a turned))
+            (ne_eqb (level_of_group a) (level_of_group b) (λ same. omega (arith, same, low)))
+        | inr straight ↦
+            let low = sound.rising a b straight in
+            let twin = twinned a b (both-has b a quota.pairs
+            ∙ or_left (has_pair a b quota.pairs) (has_pair b a quota.pairs) straight) in
+            all_of a b twin (kept a (sound.members a b straight))
+            (ne_eqb (level_of_group a) (level_of_group b) (λ same. omega (arith, same, low)))
+      ] where
+        all_of : (a b : ℕ) → has_twin parts a b ≡ true → has_key a (filter_map info_told parts) ≡ true
+            → (level_of_group a == level_of_group b) ≡ false
+            → fits_quota parts (Relation a b) ≡ true
+        all_of a b twin there apart =
+            and_from (has_twin parts a b && has_key a (filter_map info_told parts))
+            (not (level_of_group a == level_of_group b))
+            (and_from (has_twin parts a b) (has_key a (filter_map info_told parts)) twin there) (ap not apart)
 
   relation_fits : All (λ pair. fits_quota parts (relation_part pair) ≡ true) related
   relation_fits k d inside =
@@ -131,21 +146,27 @@ module _ (generation : ℕ) (live : List ℕ) (quota : Quota) (sound : IsSound (
 
   all_fit : list_all (fits_quota parts) parts ≡ true
   all_fit =
-      let counters = mapped_all (fits_quota parts) info_part groups (recursion_from_All (λ (entry : ℕ × Group). fits_quota parts (info_part entry) ≡ true) groups info_fits) in
-      let maxima = mapped_all (fits_quota parts) limit_part groups (recursion_from_All (λ (entry : ℕ × Group). fits_quota parts (limit_part entry) ≡ true) groups limit_fits) in
-      let pairs = mapped_all (fits_quota parts) relation_part related (recursion_from_All (λ (pair : ℕ × ℕ). fits_quota parts (relation_part pair) ≡ true) related relation_fits) in
+      let counters = mapped_all (fits_quota parts) info_part groups
+      (recursion_from_All (λ (entry : ℕ × Group). fits_quota parts (info_part entry) ≡ true) groups info_fits) in
+      let maxima = mapped_all (fits_quota parts) limit_part groups
+      (recursion_from_All (λ (entry : ℕ × Group). fits_quota parts (limit_part entry) ≡ true) groups limit_fits) in
+      let pairs = mapped_all (fits_quota parts) relation_part related
+      (recursion_from_All (λ (pair : ℕ × ℕ). fits_quota parts (relation_part pair) ≡ true) related relation_fits) in
       list_all-append (fits_quota parts) (infos ++ limits) relations
       ∙ and_from (list_all (fits_quota parts) (infos ++ limits)) (list_all (fits_quota parts) relations)
-      (list_all-append (fits_quota parts) infos limits ∙ and_from (list_all (fits_quota parts) infos) (list_all (fits_quota parts) limits) counters maxima) pairs
+      (list_all-append (fits_quota parts) infos limits
+      ∙ and_from (list_all (fits_quota parts) infos) (list_all (fits_quota parts) limits) counters maxima) pairs
 
   all_own : list_all (λ sub. has_key sub (filter_map info_told parts)) live ≡ true
   all_own =
       each_all (λ sub. has_key sub (filter_map info_told parts)) live
-      (recursion_from_All (λ (sub : ℕ). has_key sub (filter_map info_told parts) ≡ true) live (λ k d inside. info_there (get_or live k d) (served.own k d inside)))
+      (recursion_from_All (λ (sub : ℕ). has_key sub (filter_map info_told parts) ≡ true) live
+      (λ k d inside. info_there (get_or live k d) (served.own k d inside)))
 
   keeps : is_quota live parts ≡ true
   unfolding is_quota
-  keeps = and_from (list_all (fits_quota parts) parts) (list_all (λ sub. has_key sub (filter_map info_told parts)) live) all_fit all_own
+  keeps = and_from (list_all (fits_quota parts) parts) (list_all (λ sub. has_key sub (filter_map info_told parts)) live)
+      all_fit all_own
 
   few : are_few parts ≡ true
   unfolding are_few
@@ -153,8 +174,10 @@ module _ (generation : ℕ) (live : List ℕ) (quota : Quota) (sound : IsSound (
       let many : length (filter_map info_told parts) ≡ length groups =
       ap (λ (list : List (ℕ × QgroupInfo)). length list) (infos-told generation quota) ∙ length-map groups info_entry in
       let twice : count_by is_relation_part parts ≡ 2 * length quota.pairs =
-      relations-counted parts ∙ ap (λ (list : List (ℕ × ℕ)). length list) (relations-told generation quota) ∙ both-length quota.pairs sound.pairs sound.rising in
-      and_from (nat_le (length (filter_map info_told parts)) most_groups) (nat_le (count_by is_relation_part parts) (2 * most_relations))
+      relations-counted parts ∙ ap (λ (list : List (ℕ × ℕ)). length list) (relations-told generation quota)
+      ∙ both-length quota.pairs sound.pairs sound.rising in
+      and_from (nat_le (length (filter_map info_told parts)) most_groups)
+      (nat_le (count_by is_relation_part parts) (2 * most_relations))
       (le-leb (length (filter_map info_told parts)) most_groups (omega (arith, many, served.groups)))
       (le-leb (count_by is_relation_part parts) (2 * most_relations) (omega (arith, twice, served.relations)))
 

@@ -33,24 +33,28 @@ status_told (Relation group other) = None
 -- parts of each kind, one kind behind the other
 abbrev pub laid : List QgroupStatus → List (ℕ × QgroupInfo) → List (ℕ × QgroupLimit) → List (ℕ × ℕ) → List QuotaPart
 laid statuses infos limits relations =
-    map Status statuses ++ map (λ entry. Info entry.0 entry.1) infos ++ map (λ entry. Limits entry.0 entry.1) limits ++ map relation_part relations
+    map Status statuses ++ map (λ entry. Info entry.0 entry.1) infos ++ map (λ entry. Limits entry.0 entry.1) limits
+    ++ map relation_part relations
 
 -- ---- keys
 
 not_both : (x y : Key) → key_cmp x y ≡ Less → key_cmp y x ≡ Less → ⊥
 not_both x y there back =
-    let clash : ◌≡◌ {A = Ordering} Less Equal = sym (key_cmp_total.trans x y x there back) ∙ tied_itself key_cmp_total x in
+    let clash : ◌≡◌ {A = Ordering} Less Equal = sym (key_cmp_total.trans x y x there back)
+    ∙ tied_itself key_cmp_total x in
     cc
 
 kind_before : (kind kind' n n' : ℕ) → kind < kind' → key_cmp (key_with 0 kind n) (key_with 0 kind' n') ≡ Less
 kind_before kind kind' n n' lower = rw (less_is kind kind' lower) refl
 
 kind_not : (kind kind' n n' : ℕ) → kind < kind' → key_cmp (key_with 0 kind' n') (key_with 0 kind n) ≡ Less → ⊥
-kind_not kind kind' n n' lower less = not_both (key_with 0 kind n) (key_with 0 kind' n') (kind_before kind kind' n n' lower) less
+kind_not kind kind' n n' lower less =
+    not_both (key_with 0 kind n) (key_with 0 kind' n') (kind_before kind kind' n n' lower) less
 
 relation_not : (kind n a b : ℕ) → kind < 246 → key_cmp (key_with a 246 b) (key_with 0 kind n) ≡ Less → ⊥
 relation_not kind n a b lower less =
-    not_both (key_with 0 kind n) (key_with a 246 b) (is_less (key_cmp (key_with 0 kind n) (key_with a 246 b)) (before_relations kind n a b lower)) less
+    not_both (key_with 0 kind n) (key_with a 246 b) (is_less (key_cmp (key_with 0 kind n) (key_with a 246 b))
+    (before_relations kind n a b lower)) less
 
 -- ---- none behind
 
@@ -122,29 +126,36 @@ whole (Info group info ∷ parts) up =
     let behind = sorted_first (Info group info) parts up in
     let no = no_status (key_with 0 242 group) (kind_not 240 242 0 group (lit< tt)) parts behind in
     ap (λ (list : List QuotaPart). Info group info ∷ list) (whole parts (sorted_later (Info group info) parts up))
-    ∙ ap (λ (s : List QgroupStatus). Info group info ∷ laid s (infos_in parts) (limits_in parts) (relations_in parts)) no
-    ∙ ap (λ (s : List QgroupStatus). laid s ((group, info) ∷ infos_in parts) (limits_in parts) (relations_in parts)) (sym no)
+    ∙ ap (λ (s : List QgroupStatus). Info group info ∷ laid s (infos_in parts) (limits_in parts) (relations_in parts))
+    no
+    ∙ ap (λ (s : List QgroupStatus). laid s ((group, info) ∷ infos_in parts) (limits_in parts) (relations_in parts))
+    (sym no)
 whole (Limits group limit ∷ parts) up =
     let behind = sorted_first (Limits group limit) parts up in
     let no = no_status (key_with 0 244 group) (kind_not 240 244 0 group (lit< tt)) parts behind in
     let none = no_info (key_with 0 244 group) (λ n. kind_not 242 244 n group (lit< tt)) parts behind in
     ap (λ (list : List QuotaPart). Limits group limit ∷ list) (whole parts (sorted_later (Limits group limit) parts up))
-    ∙ ap (λ (s : List QgroupStatus). Limits group limit ∷ laid s (infos_in parts) (limits_in parts) (relations_in parts)) no
+    ∙ ap (λ (s : List QgroupStatus). Limits group limit ∷ laid s (infos_in parts) (limits_in parts)
+    (relations_in parts)) no
     ∙ ap (λ (i : List (ℕ × QgroupInfo)). Limits group limit ∷ laid [] i (limits_in parts) (relations_in parts)) none
     ∙ ap (λ (i : List (ℕ × QgroupInfo)). laid [] i ((group, limit) ∷ limits_in parts) (relations_in parts)) (sym none)
-    ∙ ap (λ (s : List QgroupStatus). laid s (infos_in parts) ((group, limit) ∷ limits_in parts) (relations_in parts)) (sym no)
+    ∙ ap (λ (s : List QgroupStatus). laid s (infos_in parts) ((group, limit) ∷ limits_in parts) (relations_in parts))
+    (sym no)
 whole (Relation group other ∷ parts) up =
     let behind = sorted_first (Relation group other) parts up in
     let no = no_status (key_with group 246 other) (relation_not 240 0 group other (lit< tt)) parts behind in
     let none = no_info (key_with group 246 other) (λ n. relation_not 242 n group other (lit< tt)) parts behind in
     let free = no_limit (key_with group 246 other) (λ n. relation_not 244 n group other (lit< tt)) parts behind in
-    ap (λ (list : List QuotaPart). Relation group other ∷ list) (whole parts (sorted_later (Relation group other) parts up))
-    ∙ ap (λ (s : List QgroupStatus). Relation group other ∷ laid s (infos_in parts) (limits_in parts) (relations_in parts)) no
+    ap (λ (list : List QuotaPart). Relation group other ∷ list)
+    (whole parts (sorted_later (Relation group other) parts up))
+    ∙ ap (λ (s : List QgroupStatus). Relation group other ∷ laid s (infos_in parts) (limits_in parts)
+    (relations_in parts)) no
     ∙ ap (λ (i : List (ℕ × QgroupInfo)). Relation group other ∷ laid [] i (limits_in parts) (relations_in parts)) none
     ∙ ap (λ (l : List (ℕ × QgroupLimit)). Relation group other ∷ laid [] [] l (relations_in parts)) free
     ∙ ap (λ (l : List (ℕ × QgroupLimit)). laid [] [] l ((group, other) ∷ relations_in parts)) (sym free)
     ∙ ap (λ (i : List (ℕ × QgroupInfo)). laid [] i (limits_in parts) ((group, other) ∷ relations_in parts)) (sym none)
-    ∙ ap (λ (s : List QgroupStatus). laid s (infos_in parts) (limits_in parts) ((group, other) ∷ relations_in parts)) (sym no)
+    ∙ ap (λ (s : List QgroupStatus). laid s (infos_in parts) (limits_in parts) ((group, other) ∷ relations_in parts))
+    (sym no)
 
 -- the state of quota is told once, where it is told
 pub one-status : (parts : List QuotaPart) → IsSorted parts → list_any is_status_part parts ≡ true
@@ -152,8 +163,11 @@ pub one-status : (parts : List QuotaPart) → IsSorted parts → list_any is_sta
 one-status [] up some = absurd (true≢false (sym some))
 one-status (Status status ∷ parts) up some =
     let behind = sorted_first (Status status) parts up in
-    let first = key_with 0 240 0 in
-    (status, ap (λ (list : List QgroupStatus). status ∷ list) (no_status first (λ less. not_both first first less less) parts behind))
+    let first = key_with 0 240 0 in (
+      status,
+      ap (λ (list : List QgroupStatus). status ∷ list)
+          (no_status first (λ less. not_both first first less less) parts behind),
+    )
 one-status (Info group info ∷ parts) up some = one-status parts (sorted_later (Info group info) parts up) some
 one-status (Limits group limit ∷ parts) up some = one-status parts (sorted_later (Limits group limit) parts up) some
 one-status (Relation group other ∷ parts) up some = one-status parts (sorted_later (Relation group other) parts up) some

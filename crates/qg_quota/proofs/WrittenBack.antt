@@ -1,9 +1,11 @@
 -- Items that break no rule are those that are written of the quota that they tell.
-use Rattle.std.proofs.Common.{◌≡◌, ℕ, zero, suc, ◌≤◌, ◌<◌, inl, inr, Bool, true, false, not, List, [], ◌∷◌, ◌++◌, map, refl, sym, ap, subst, ◌∙◌, arith}
+use Rattle.std.proofs.Common.{◌≡◌, ℕ, zero, suc, ◌≤◌, ◌<◌, inl, inr, Bool, true, false, not, List, [], ◌∷◌, ◌++◌, map}
+use Rattle.std.proofs.Common.{refl, sym, ap, subst, ◌∙◌, arith}
 use Rattle.std.specs.Prelude.{◌/◌, ◌%◌, Option, Some, None, ◌==◌, ◌&&◌, ◌||◌, IsTrue, nat_le, if◌then◌else◌}
 use Rattle.std.specs.List.{All, AllByRecursion, filter_map, list_all, list_any}
 use Rattle.std.specs.Option.{option_and_then}
-use Rattle.std.proofs.lemmas.Bool.{and_from, and_parts, cases_Bool, cases_eq, eqb-true, leb-true, lt-ltb, ltb-false, not-true, eqb-false, or_cases, or_left, or_right, true≢false}
+use Rattle.std.proofs.lemmas.Bool.{and_from, and_parts, cases_Bool, cases_eq, eqb-true, leb-true, lt-ltb, ltb-false}
+use Rattle.std.proofs.lemmas.Bool.{not-true, eqb-false, or_cases, or_left, or_right, true≢false}
 use Rattle.std.proofs.lemmas.List.{map-append}
 use Rattle.std.proofs.lemmas.List.Elements.{recursion_from_All}
 use Rattle.std.proofs.lemmas.Map.Views.{any-filter_same}
@@ -30,16 +32,19 @@ use Rattle.qg_hier.proofs.Sets.{pair_is}
 use Rattle.qg_groups.proofs.Tables.{each-found, key-found}
 use Rattle.qg_image.specs.declared.tree.Tree.TheVariants.{Quotas}
 use Rattle.qg_image.specs.ImageState.{info_told, limit_told, max_excl_told, max_rfer_told, pair_told, quota_told}
-use Rattle.qg_image.specs.Verdict.{are_few, fits_quota, has_twin, is_group_number, is_limit, is_plain, is_quota, is_status_part}
+use Rattle.qg_image.specs.Verdict.{are_few, fits_quota, has_twin, is_group_number, is_limit, is_plain, is_quota}
+use Rattle.qg_image.specs.Verdict.{is_status_part}
 use Rattle.qg_image.specs.Walk.{are_by, is_item_of}
 use Rattle.qg_quota.specs.Quota.{items_rule}
 use Rattle.qg_quota.specs.Told.{relation_told, rises}
-use Rattle.qg_quota.specs.Written.{both_ways, info_of, item_of_info, item_of_limit, item_of_relation, item_of_status, items_of_quota, limit_of, relation_part, status_at}
+use Rattle.qg_quota.specs.Written.{both_ways, info_of, item_of_info, item_of_limit, item_of_relation, item_of_status}
+use Rattle.qg_quota.specs.Written.{items_of_quota, limit_of, relation_part, status_at}
 use Rattle.qg_quota.proofs.BothWays.{both-has, both-sorted}
 use Rattle.qg_quota.proofs.ReadBack.{info_entry, limit_entry}
 use Rattle.qg_quota.proofs.Said.{is_known, item_of_part, items-said, passes, said-ascending, said-known, said-passes}
 use Rattle.qg_quota.proofs.Same.{same-pairs}
-use Rattle.qg_quota.proofs.ToldBack.{IsSorted, group_with, infos-ascend, keys-sorted, limit-is, limits-ascend, pairs-told, relation_passes, relations-ascend, twin_is, twins}
+use Rattle.qg_quota.proofs.ToldBack.{IsSorted, group_with, infos-ascend, keys-sorted, limit-is, limits-ascend}
+use Rattle.qg_quota.proofs.ToldBack.{pairs-told, relation_passes, relations-ascend, twin_is, twins}
 use Rattle.qg_quota.proofs.Whole.{laid, one-status, status_told, whole}
 
 -- ---- what holds of all parts holds of those of each kind
@@ -50,30 +55,40 @@ status_passes : (test : QuotaPart → Bool) (parts : List QuotaPart) (status : Q
 status_passes test [] status all is = absurd cc
 status_passes test (Status first ∷ parts) status all is =
     let same : first ≡ status = cc in
-    subst (λ (one : QgroupStatus). test (Status one) ≡ true) same (and_parts (test (Status first)) (list_all test parts) all).0
-status_passes test (Info group info ∷ parts) status all is = status_passes test parts status (and_parts (test (Info group info)) (list_all test parts) all).1 is
-status_passes test (Limits group limit ∷ parts) status all is = status_passes test parts status (and_parts (test (Limits group limit)) (list_all test parts) all).1 is
-status_passes test (Relation group other ∷ parts) status all is = status_passes test parts status (and_parts (test (Relation group other)) (list_all test parts) all).1 is
+    subst (λ (one : QgroupStatus). test (Status one) ≡ true) same
+    (and_parts (test (Status first)) (list_all test parts) all).0
+status_passes test (Info group info ∷ parts) status all is =
+    status_passes test parts status (and_parts (test (Info group info)) (list_all test parts) all).1 is
+status_passes test (Limits group limit ∷ parts) status all is =
+    status_passes test parts status (and_parts (test (Limits group limit)) (list_all test parts) all).1 is
+status_passes test (Relation group other ∷ parts) status all is =
+    status_passes test parts status (and_parts (test (Relation group other)) (list_all test parts) all).1 is
 
 infos_pass : (test : QuotaPart → Bool) (parts : List QuotaPart) → list_all test parts ≡ true
     → AllByRecursion (λ entry. test (Info entry.0 entry.1) ≡ true) (filter_map info_told parts)
 infos_pass test [] all = tt
-infos_pass test (Status status ∷ parts) all = infos_pass test parts (and_parts (test (Status status)) (list_all test parts) all).1
+infos_pass test (Status status ∷ parts) all =
+    infos_pass test parts (and_parts (test (Status status)) (list_all test parts) all).1
 infos_pass test (Info group info ∷ parts) all =
     let both = and_parts (test (Info group info)) (list_all test parts) all in
     (both.0, infos_pass test parts both.1)
-infos_pass test (Limits group limit ∷ parts) all = infos_pass test parts (and_parts (test (Limits group limit)) (list_all test parts) all).1
-infos_pass test (Relation group other ∷ parts) all = infos_pass test parts (and_parts (test (Relation group other)) (list_all test parts) all).1
+infos_pass test (Limits group limit ∷ parts) all =
+    infos_pass test parts (and_parts (test (Limits group limit)) (list_all test parts) all).1
+infos_pass test (Relation group other ∷ parts) all =
+    infos_pass test parts (and_parts (test (Relation group other)) (list_all test parts) all).1
 
 limits_pass : (test : QuotaPart → Bool) (parts : List QuotaPart) → list_all test parts ≡ true
     → AllByRecursion (λ entry. test (Limits entry.0 entry.1) ≡ true) (filter_map limit_told parts)
 limits_pass test [] all = tt
-limits_pass test (Status status ∷ parts) all = limits_pass test parts (and_parts (test (Status status)) (list_all test parts) all).1
-limits_pass test (Info group info ∷ parts) all = limits_pass test parts (and_parts (test (Info group info)) (list_all test parts) all).1
+limits_pass test (Status status ∷ parts) all =
+    limits_pass test parts (and_parts (test (Status status)) (list_all test parts) all).1
+limits_pass test (Info group info ∷ parts) all =
+    limits_pass test parts (and_parts (test (Info group info)) (list_all test parts) all).1
 limits_pass test (Limits group limit ∷ parts) all =
     let both = and_parts (test (Limits group limit)) (list_all test parts) all in
     (both.0, limits_pass test parts both.1)
-limits_pass test (Relation group other ∷ parts) all = limits_pass test parts (and_parts (test (Relation group other)) (list_all test parts) all).1
+limits_pass test (Relation group other ∷ parts) all =
+    limits_pass test parts (and_parts (test (Relation group other)) (list_all test parts) all).1
 
 -- ---- the state of quota
 
@@ -89,12 +104,19 @@ status_is generation status by on =
 
 -- ---- counters
 
-plain_is : (info : QgroupInfo) → is_plain info ≡ true → info ≡ info_of info.generation (record { rfer = info.rfer; excl = info.excl })
+plain_is : (info : QgroupInfo) → is_plain info ≡ true
+    → info ≡ info_of info.generation (record { rfer = info.rfer; excl = info.excl })
 plain_is info plain =
     let both = and_parts (info.rfer_cmpr == info.rfer) (info.excl_cmpr == info.excl) plain in
     let rfer = eqb-true info.rfer_cmpr info.rfer both.0 in
     let excl = eqb-true info.excl_cmpr info.excl both.1 in
-    λ i. record { generation = info.generation; rfer = info.rfer; rfer_cmpr = rfer i; excl = info.excl; excl_cmpr = excl i }
+    λ i. record {
+      generation = info.generation;
+      rfer = info.rfer;
+      rfer_cmpr = rfer i;
+      excl = info.excl;
+      excl_cmpr = excl i;
+    }
 
 infos_back : (limits : List (ℕ × QgroupLimit)) (infos : List (ℕ × QgroupInfo))
     → AllByRecursion (λ entry. is_plain entry.1 ≡ true) infos
@@ -102,14 +124,16 @@ infos_back : (limits : List (ℕ × QgroupLimit)) (infos : List (ℕ × QgroupIn
 infos_back limits [] plain = refl
 infos_back limits (entry ∷ infos) plain =
     ap (λ (info : QgroupInfo). (entry.0, info) ∷ infos) (plain_is entry.1 plain.0)
-    ∙ ap (λ (list : List (ℕ × QgroupInfo)). info_entry (group_with limits entry) ∷ list) (infos_back limits infos plain.1)
+    ∙ ap (λ (list : List (ℕ × QgroupInfo)). info_entry (group_with limits entry) ∷ list)
+    (infos_back limits infos plain.1)
 
 -- ---- limits
 
 -- flags, and limits that are 0 where they are not set, are those of the limits that are told
 limit_back : (flags max_rfer max_excl : ℕ) → nat_le flags 3 ≡ true
     → (((flags % 2 == 1) || (max_rfer == 0)) && ((flags / 2 % 2 == 1) || (max_excl == 0))) ≡ true
-    → limit_of (max_rfer_told (record { flags = flags; max_rfer = max_rfer; max_excl = max_excl })) (max_excl_told (record { flags = flags; max_rfer = max_rfer; max_excl = max_excl }))
+    → limit_of (max_rfer_told (record { flags = flags; max_rfer = max_rfer; max_excl = max_excl }))
+    (max_excl_told (record { flags = flags; max_rfer = max_rfer; max_excl = max_excl }))
     ≡ record { flags = flags; max_rfer = max_rfer; max_excl = max_excl }
 limit_back zero max_rfer max_excl few is =
     let both = and_parts (max_rfer == 0) (max_excl == 0) is in
@@ -130,12 +154,17 @@ limit_back (suc (suc (suc (suc n)))) max_rfer max_excl few is =
 
 -- the limits of a number
 abbrev limit_at : List (ℕ × QgroupLimit) → ℕ → ℕ × QgroupLimit
-limit_at limits n = (n, limit_of (option_and_then max_rfer_told (value_at n limits)) (option_and_then max_excl_told (value_at n limits)))
+limit_at limits n = (
+  n,
+  limit_of (option_and_then max_rfer_told (value_at n limits))
+      (option_and_then max_excl_told (value_at n limits)),
+)
 
 limits_by : (limits : List (ℕ × QgroupLimit)) (infos : List (ℕ × QgroupInfo))
     → map limit_entry (map (group_with limits) infos) ≡ map (limit_at limits) (keys_of infos)
 limits_by limits [] = refl
-limits_by limits (entry ∷ infos) = ap (λ (list : List (ℕ × QgroupLimit)). limit_at limits entry.0 ∷ list) (limits_by limits infos)
+limits_by limits (entry ∷ infos) = ap (λ (list : List (ℕ × QgroupLimit)). limit_at limits entry.0 ∷ list)
+    (limits_by limits infos)
 
 limits_back : (limits those : List (ℕ × QgroupLimit))
     → AllByRecursion (λ entry. value_at entry.0 limits ≡ Some entry.1) those
@@ -146,8 +175,10 @@ limits_back limits [] found few sound = refl
 limits_back limits (entry ∷ those) found few sound =
     let limit = entry.1 in
     let one : limit_at limits entry.0 ≡ entry =
-    ap (λ (o : Option QgroupLimit). (entry.0, limit_of (option_and_then max_rfer_told o) (option_and_then max_excl_told o))) found.0
-    ∙ ap (λ (l : QgroupLimit). (entry.0, l)) (limit_back limit.flags limit.max_rfer limit.max_excl few.0 (sym (limit-is limit) ∙ sound.0)) in
+    ap (λ (o : Option QgroupLimit).
+    (entry.0, limit_of (option_and_then max_rfer_told o) (option_and_then max_excl_told o))) found.0
+    ∙ ap (λ (l : QgroupLimit). (entry.0, l)) (limit_back limit.flags limit.max_rfer limit.max_excl few.0
+    (sym (limit-is limit) ∙ sound.0)) in
     ap (λ (e : ℕ × QgroupLimit). e ∷ map (limit_at limits) (keys_of those)) one
     ∙ ap (λ (list : List (ℕ × QgroupLimit)). entry ∷ list) (limits_back limits those found.1 few.1 sound.1)
 
@@ -168,7 +199,8 @@ key_entry P n (entry ∷ entries) all has = elim (or_cases (entry.0 == n) (has_n
   | inr later ↦ key_entry P n entries all.1 later
 ]
 
-module _ (generation : ℕ) (live : List ℕ) (parts : List QuotaPart) (up : IsSorted parts) (by : list_all (passes generation) parts ≡ true)
+module _ (generation : ℕ) (live : List ℕ) (parts : List QuotaPart) (up : IsSorted parts)
+    (by : list_all (passes generation) parts ≡ true)
     (known : list_all is_known parts ≡ true) (sound : is_quota live parts ≡ true) where
   abbrev infos : List (ℕ × QgroupInfo)
   infos = filter_map info_told parts
@@ -188,14 +220,16 @@ module _ (generation : ℕ) (live : List ℕ) (parts : List QuotaPart) (up : IsS
   tests : (list_any is_status_part parts ≡ true) × (list_all (fits_quota parts) parts ≡ true)
   unfolding is_quota
   tests =
-      let front = and_parts (list_any is_status_part parts && list_all (fits_quota parts) parts) (list_all (λ sub. has_key sub (filter_map info_told parts)) live) sound in
+      let front = and_parts (list_any is_status_part parts && list_all (fits_quota parts) parts)
+      (list_all (λ sub. has_key sub (filter_map info_told parts)) live) sound in
       and_parts (list_any is_status_part parts) (list_all (fits_quota parts) parts) front.0
 
   statuses : filter_map status_told parts ≡ status_at generation ∷ []
   statuses =
       let one = one-status parts up tests.0 in
       one.1 ∙ ap (λ (status : QgroupStatus). status ∷ [])
-      (status_is generation one.0 (status_passes (passes generation) parts one.0 by one.1) (status_passes is_known parts one.0 known one.1))
+      (status_is generation one.0 (status_passes (passes generation) parts one.0 by one.1)
+      (status_passes is_known parts one.0 known one.1))
 
   info_fits : (entry : ℕ × QgroupInfo) → fits_quota parts (Info entry.0 entry.1) ≡ true
       → (has_key entry.0 limits ≡ true) × (is_plain entry.1 ≡ true)
@@ -210,7 +244,8 @@ module _ (generation : ℕ) (live : List ℕ) (parts : List QuotaPart) (up : IsS
   infos_are : infos ≡ map info_entry groups
   infos_are =
       infos_back limits infos
-      (weaker (λ (entry : ℕ × QgroupInfo). fits_quota parts (Info entry.0 entry.1) ≡ true) (λ (entry : ℕ × QgroupInfo). is_plain entry.1 ≡ true)
+      (weaker (λ (entry : ℕ × QgroupInfo). fits_quota parts (Info entry.0 entry.1) ≡ true)
+      (λ (entry : ℕ × QgroupInfo). is_plain entry.1 ≡ true)
       (λ entry fits. (info_fits entry fits).1) infos (infos_pass (fits_quota parts) parts tests.1))
 
   keys_same : keys_of infos ≡ keys_of limits
@@ -218,19 +253,23 @@ module _ (generation : ℕ) (live : List ℕ) (parts : List QuotaPart) (up : IsS
       same_numbers (keys_of infos) (keys_of limits) (infos-ascend parts up) (limits-ascend parts up)
       (λ n. same_tests (has_number n (keys_of infos)) (has_number n (keys_of limits))
       (λ has.
-      let one = key_entry (λ (entry : ℕ × QgroupInfo). fits_quota parts (Info entry.0 entry.1) ≡ true) n infos (infos_pass (fits_quota parts) parts tests.1) has in
+      let one = key_entry (λ (entry : ℕ × QgroupInfo). fits_quota parts (Info entry.0 entry.1) ≡ true) n infos
+      (infos_pass (fits_quota parts) parts tests.1) has in
       key-found n limits ∙ (info_fits (n, one.0) one.1).0)
       (λ has.
-      let one = key_entry (λ (entry : ℕ × QgroupLimit). fits_quota parts (Limits entry.0 entry.1) ≡ true) n limits (limits_pass (fits_quota parts) parts tests.1) has in
+      let one = key_entry (λ (entry : ℕ × QgroupLimit). fits_quota parts (Limits entry.0 entry.1) ≡ true) n limits
+      (limits_pass (fits_quota parts) parts tests.1) has in
       key-found n infos ∙ (limit_fits (n, one.0) one.1).0))
 
   limits_are : limits ≡ map limit_entry groups
   limits_are =
       sym (limits_by limits infos ∙ ap (λ (keys : List ℕ). map (limit_at limits) keys) keys_same
       ∙ limits_back limits limits
-      (recursion_from_All (λ (entry : ℕ × QgroupLimit). value_at entry.0 limits ≡ Some entry.1) limits (each-found limits (limits-ascend parts up)))
+      (recursion_from_All (λ (entry : ℕ × QgroupLimit). value_at entry.0 limits ≡ Some entry.1) limits
+      (each-found limits (limits-ascend parts up)))
       (limits_pass is_known parts known)
-      (weaker (λ (entry : ℕ × QgroupLimit). fits_quota parts (Limits entry.0 entry.1) ≡ true) (λ (entry : ℕ × QgroupLimit). is_limit entry.1 ≡ true)
+      (weaker (λ (entry : ℕ × QgroupLimit). fits_quota parts (Limits entry.0 entry.1) ≡ true)
+      (λ (entry : ℕ × QgroupLimit). is_limit entry.1 ≡ true)
       (λ entry fits. (limit_fits entry fits).1) limits (limits_pass (fits_quota parts) parts tests.1)))
 
   relation_fits : (a b : ℕ) → has_pair a b relations ≡ true
@@ -244,7 +283,8 @@ module _ (generation : ℕ) (live : List ℕ) (parts : List QuotaPart) (up : IsS
   pair_found : (a b : ℕ) → has_pair a b pairs ≡ (rises (a, b) && has_pair a b relations)
   pair_found a b =
       ap (λ (list : List (ℕ × ℕ)). has_pair a b list) (sym (pairs-told parts))
-      ∙ any-filter_same (same_pair (a, b)) rises (rises (a, b)) (λ pair same. ap (λ (p : ℕ × ℕ). rises p) (sym (pair_is (a, b) pair same))) relations
+      ∙ any-filter_same (same_pair (a, b)) rises (rises (a, b))
+      (λ pair same. ap (λ (p : ℕ × ℕ). rises p) (sym (pair_is (a, b) pair same))) relations
 
   pair_there : (a b : ℕ) → rises (a, b) ≡ true → has_pair a b relations ≡ true → has_pair a b pairs ≡ true
   pair_there a b first has = pair_found a b ∙ and_from (rises (a, b)) (has_pair a b relations) first has
@@ -260,12 +300,14 @@ module _ (generation : ℕ) (live : List ℕ) (parts : List QuotaPart) (up : IsS
         | inl first ↦ or_right (has_pair b a pairs) (has_pair a b pairs) (pair_there a b first has)
         | inr later ↦
             let le : level_of_group b ≤ level_of_group a = ltb-false (level_of_group a) (level_of_group b) later in
-            let apart : level_of_group a ≡ level_of_group b → ⊥ = eqb-false (level_of_group a) (level_of_group b) fits.1 in
+            let apart : level_of_group a ≡ level_of_group b
+            → ⊥ = eqb-false (level_of_group a) (level_of_group b) fits.1 in
             let less : level_of_group b < level_of_group a = elim (cases_eq (level_of_group a) (level_of_group b)) [
               | inl same ↦ absurd (apart same)
               | inr other ↦ omega (arith, le, other)
             ] in
-            or_left (has_pair b a pairs) (has_pair a b pairs) (pair_there b a (lt-ltb (level_of_group b) (level_of_group a) less) fits.0)
+            or_left (has_pair b a pairs) (has_pair a b pairs)
+            (pair_there b a (lt-ltb (level_of_group b) (level_of_group a) less) fits.0)
       ]
 
   relation_back : (a b : ℕ) → has_pair a b (both_ways pairs) ≡ true → has_pair a b relations ≡ true
@@ -277,7 +319,8 @@ module _ (generation : ℕ) (live : List ℕ) (parts : List QuotaPart) (up : IsS
   relations_are : relations ≡ both_ways pairs
   relations_are =
       same-pairs relations (both_ways pairs) (relations-ascend parts up) (both-sorted pairs)
-      (λ a b. same_tests (has_pair a b relations) (has_pair a b (both_ways pairs)) (relation_there a b) (relation_back a b))
+      (λ a b. same_tests (has_pair a b relations) (has_pair a b (both_ways pairs)) (relation_there a b)
+      (relation_back a b))
 
   -- the parts are those of the quota that they tell
   pub parts-are : parts
@@ -285,8 +328,10 @@ module _ (generation : ℕ) (live : List ℕ) (parts : List QuotaPart) (up : IsS
   parts-are =
       whole parts up ∙ ap (λ (s : List QgroupStatus). laid s infos limits relations) statuses
       ∙ ap (λ (i : List (ℕ × QgroupInfo)). laid (status_at generation ∷ []) i limits relations) infos_are
-      ∙ ap (λ (l : List (ℕ × QgroupLimit)). laid (status_at generation ∷ []) (map info_entry groups) l relations) limits_are
-      ∙ ap (λ (r : List (ℕ × ℕ)). laid (status_at generation ∷ []) (map info_entry groups) (map limit_entry groups) r) relations_are
+      ∙ ap (λ (l : List (ℕ × QgroupLimit)). laid (status_at generation ∷ []) (map info_entry groups) l relations)
+      limits_are
+      ∙ ap (λ (r : List (ℕ × ℕ)). laid (status_at generation ∷ []) (map info_entry groups) (map limit_entry groups) r)
+      relations_are
 
 -- ---- items
 
@@ -305,7 +350,8 @@ relations_made [] = refl
 relations_made (pair ∷ pairs) = ap (λ (list : List Item). item_of_relation pair ∷ list) (relations_made pairs)
 
 items_made : (status : QgroupStatus) (groups : List (ℕ × Group)) (pairs : List (ℕ × ℕ))
-    → map item_of_part (laid (status ∷ []) (map info_entry groups) (map limit_entry groups) (both_ways pairs)) ≡ items_of_quota status (record { groups = groups; pairs = pairs })
+    → map item_of_part (laid (status ∷ []) (map info_entry groups) (map limit_entry groups) (both_ways pairs))
+    ≡ items_of_quota status (record { groups = groups; pairs = pairs })
 items_made status groups pairs =
     let infos = map (λ (entry : ℕ × QgroupInfo). Info entry.0 entry.1) (map info_entry groups) in
     let limits = map (λ (entry : ℕ × QgroupLimit). Limits entry.0 entry.1) (map limit_entry groups) in
@@ -315,7 +361,8 @@ items_made status groups pairs =
     ∙ ap (λ (list : List Item). list ++ map item_of_part relations) (map-append item_of_part infos limits)
     ∙ ap (λ (list : List Item). list ++ map item_of_part limits ++ map item_of_part relations) (infos_made groups)
     ∙ ap (λ (list : List Item). map item_of_info groups ++ list ++ map item_of_part relations) (limits_made groups)
-    ∙ ap (λ (list : List Item). map item_of_info groups ++ map item_of_limit groups ++ list) (relations_made (both_ways pairs)))
+    ∙ ap (λ (list : List Item). map item_of_info groups ++ map item_of_limit groups ++ list)
+    (relations_made (both_ways pairs)))
 
 -- items that are allowed, ascend and fit each other are those of the quota that they tell
 pub items-back : (generation : ℕ) (live : List ℕ) (items : List Item) → All ItemFits items
@@ -327,14 +374,17 @@ items-back generation live items fit up allowed sound =
     let parts = filter_map quota_part items in
     let keys = keys-sorted (map quota_key parts) (said-ascending generation items allowed up) in
     items-said generation items allowed fit
-    ∙ ap (map item_of_part) (parts-are generation live parts keys (said-passes generation items allowed) (said-known generation items allowed) sound)
-    ∙ items_made (status_at generation) (map (group_with (filter_map limit_told parts)) (filter_map info_told parts)) (filter_map pair_told parts)
+    ∙ ap (map item_of_part) (parts-are generation live parts keys (said-passes generation items allowed)
+    (said-known generation items allowed) sound)
+    ∙ items_made (status_at generation) (map (group_with (filter_map limit_told parts)) (filter_map info_told parts))
+    (filter_map pair_told parts)
 
 -- ---- the rules on items
 
 -- the first rule that is broken, by three tests
 abbrev rule_by : Bool → Bool → Bool → Option Rule
-rule_by allowed sound few = if allowed then (if sound then (if few then None else Some rule.Limits) else Some rule.Quota) else Some rule.Item
+rule_by allowed sound few =
+    if allowed then (if sound then (if few then None else Some rule.Limits) else Some rule.Quota) else Some rule.Item
 
 none_broken : (allowed sound few : Bool) → rule_by allowed sound few ≡ None → (allowed ≡ true) × (sound ≡ true)
 none_broken true true few none = (refl, refl)
@@ -344,7 +394,8 @@ none_broken false sound few none = absurd cc
 pub items-sound : (generation : ℕ) (live : List ℕ) (items : List Item) → items_rule generation live items ≡ None
     → (list_all (is_item_of Quotas generation) items ≡ true) × (is_quota live (filter_map quota_part items) ≡ true)
 items-sound generation live items none =
-    none_broken (list_all (is_item_of Quotas generation) items) (is_quota live (filter_map quota_part items)) (are_few (filter_map quota_part items)) none
+    none_broken (list_all (is_item_of Quotas generation) items) (is_quota live (filter_map quota_part items))
+    (are_few (filter_map quota_part items)) none
 
 pub items-written : (generation : ℕ) (live : List ℕ) (items : List Item) → All ItemFits items
     → IsTrue (is_ascending (map (λ (item : Item). item.key) items))

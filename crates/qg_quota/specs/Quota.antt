@@ -14,13 +14,15 @@ use Rattle.qg_quota.specs.declared.fault.QuotaFault.TheVariants as fault
 
 -- the first of the rules `quota` and `limits` that the quota items of an image with these subvolumes break
 abbrev pub quota_rule : List ℕ → List QuotaPart → Option Rule
-quota_rule live parts = if is_quota live parts then (if are_few parts then None else Some rule.Limits) else Some rule.Quota
+quota_rule live parts = if is_quota live parts then (if are_few parts then None else Some rule.Limits) else Some
+    rule.Quota
 
--- the first of the rules `item`, `quota` and `limits` that items of the quota tree of an image of this generation with these subvolumes
--- break
+-- the first of the rules `item`, `quota` and `limits` that items of the quota tree of an image of this generation with
+-- these subvolumes break
 abbrev pub items_rule : ℕ → List ℕ → List Item → Option Rule
 items_rule generation live items =
-    if list_all (is_item_of Quotas generation) items then quota_rule live (filter_map quota_part items) else Some rule.Item
+    if list_all (is_item_of Quotas generation) items then quota_rule live (filter_map quota_part items) else Some
+    rule.Item
 
 -- what holds of the rule, where one is broken
 abbrev pub IfRule : QuotaFault → (Rule → Type 0) → Type 0

@@ -40,11 +40,14 @@ fits_told told (Status status) = true
 fits_told told (Info group info) = has_key group told.limits && is_group_number group && is_plain info
 fits_told told (Limits group limit) = has_key group told.infos && is_limit limit
 fits_told told (Relation group other) =
-    has_pair other group told.relations.items && has_key group told.infos && not (level_of_group group == level_of_group other)
+    has_pair other group told.relations.items && has_key group told.infos
+    && not (level_of_group group == level_of_group other)
 
--- all items do, there is a state of quota, and each live subvolume's group has counters: what `is_quota` asks (lemma `quota-judged`)
+-- all items do, there is a state of quota, and each live subvolume's group has counters: what `is_quota` asks (lemma
+-- `quota-judged`)
 abbrev pub are_told : Told → List ℕ → List QuotaPart → Bool
-are_told told live parts = list_any is_status_part parts && list_all (fits_told told) parts && list_all (λ sub. has_key sub told.infos) live
+are_told told live parts = list_any is_status_part parts && list_all (fits_told told) parts
+    && list_all (λ sub. has_key sub told.infos) live
 
 -- the group that counters tell, with the limits of its number
 abbrev pub group_by : Told → ℕ × QgroupInfo → ℕ × Group

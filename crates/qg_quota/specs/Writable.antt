@@ -6,7 +6,8 @@ use Rattle.qg_image.specs.declared.quota.Quota.{Quota}
 use Rattle.qg_image.specs.Members.{hierarchy_of}
 use Rattle.qg_hier.specs.Groups.{IsSound}
 
--- groups and relations are sound, so groups ascend by number; and no commit past this generation changed a group's counters
+-- groups and relations are sound, so groups ascend by number; and no commit past this generation changed a group's
+-- counters
 pub record AreWritableQuota (generation : ℕ) (quota : Quota) : Type 0 where
   pub sound : IsSound (hierarchy_of quota)
   pub stamped : All (λ entry. entry.1.stamp ≤ generation) quota.groups

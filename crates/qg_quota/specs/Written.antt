@@ -22,7 +22,13 @@ status_at generation = record { generation = generation; flags = 1; cursor = 0 }
 
 -- a group's counters, which a commit changed last
 abbrev pub info_of : ℕ → Counters → QgroupInfo
-info_of stamp counters = record { generation = stamp; rfer = counters.rfer; rfer_cmpr = counters.rfer; excl = counters.excl; excl_cmpr = counters.excl }
+info_of stamp counters = record {
+  generation = stamp;
+  rfer = counters.rfer;
+  rfer_cmpr = counters.rfer;
+  excl = counters.excl;
+  excl_cmpr = counters.excl;
+}
 
 -- the flag of a limit, where it is set
 abbrev pub flag_of : ℕ → Option ℕ → ℕ
@@ -41,7 +47,8 @@ limit_of max_rfer max_excl = record {
 
 -- the two numbers of each relation, and the same turned round, ascending
 abbrev pub both_ways : List (ℕ × ℕ) → List (ℕ × ℕ)
-both_ways pairs = fold (λ made pair. with_pair (pair.1, pair.0) made) (fold (λ made pair. with_pair pair made) [] pairs) pairs
+both_ways pairs = fold (λ made pair. with_pair (pair.1, pair.0) made) (fold (λ made pair. with_pair pair made) [] pairs)
+    pairs
 
 -- ---- what the items say
 
@@ -59,13 +66,17 @@ relation_part pair = Relation pair.0 pair.1
 -- what the items of quota say: that it is on, each group's counters, each group's limits, and each relation twice
 abbrev pub parts_of_quota : ℕ → Quota → List QuotaPart
 parts_of_quota generation quota =
-    Status (status_at generation) ∷ map info_part quota.groups ++ map limit_part quota.groups ++ map relation_part (both_ways quota.pairs)
+    Status (status_at generation) ∷ map info_part quota.groups ++ map limit_part quota.groups
+    ++ map relation_part (both_ways quota.pairs)
 
 -- ---- the items
 
 -- the item under a key
 abbrev pub item_under : ℕ → ℕ → ℕ → List ℕ → Item
-item_under objectid kind offset body = record { key = record { objectid = objectid; kind = kind; offset = offset }; body = body }
+item_under objectid kind offset body = record {
+  key = record { objectid = objectid; kind = kind; offset = offset };
+  body = body;
+}
 
 -- the item of the state of quota, those of a group, and one of a relation, whose body is empty
 abbrev pub item_of_status : QgroupStatus → Item

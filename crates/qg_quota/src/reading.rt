@@ -18,7 +18,8 @@ use qg_items::{QgroupInfo, QgroupLimit};
 use qg_num::{Counters, GroupId, RootId, Rule, Sequence};
 use std::alloc::{AllocError, Global};
 
-/// Quota, as its items tell it, or the first of the rules `quota` and `limits` that they break, unless memory is refused.
+/// Quota, as its items tell it, or the first of the rules `quota` and `limits` that they break, unless memory is
+/// refused.
 pub fn read_quota(
     alloc: Global,
     subvolumes: &[RootPart],
@@ -28,7 +29,8 @@ pub fn read_quota(
     ensures sound { OnOk result (quota_rule (keys_of subvolumes.now) parts.now ≡ None) }
     ensures hierarchy { IfOk result (λ quota. IsSound (hierarchy_of quota)) }
     ensures told { IfOk result (λ quota. quota ≡ quota_told parts.now) }
-    ensures refused { IfErr result (λ fault. IfRule fault (λ rule. quota_rule (keys_of subvolumes.now) parts.now ≡ Some rule)) }
+    ensures refused { IfErr result
+        (λ fault. IfRule fault (λ rule. quota_rule (keys_of subvolumes.now) parts.now ≡ Some rule)) }
 {
     let live = numbers_of(alloc, subvolumes)?;
     read_live(alloc, live.as_slice(), parts)

@@ -6,7 +6,8 @@ ghost use Rattle.std.specs.Ordering.{nat_cmp};
 ghost use Rattle.qg_image.specs.Table.{has_key, keys_of, value_at};
 ghost use Rattle.qg_machine.specs.GroupChange.{has_pair};
 ghost use Rattle.qg_hier.specs.Groups.{pair_cmp};
-ghost use Rattle.qg_image.specs.Verdict.{are_few, is_group_number, is_limit, is_plain, is_quota, is_status_part, most_groups, most_relations};
+ghost use Rattle.qg_image.specs.Verdict.{are_few, is_group_number, is_limit, is_plain, is_quota, is_status_part};
+ghost use Rattle.qg_image.specs.Verdict.{most_groups, most_relations};
 ghost use Rattle.qg_quota.specs.Told.{are_told, fits_told, Ascends, AreTold};
 
 use crate::told::Told;
@@ -156,7 +157,8 @@ pub(crate) fn are_few(told: &Told, parts: &[QuotaPart]) -> bool
 
 // The same, by what each kind tells.
 fn are_few_told(told: &Told) -> bool
-    ensures { result ≡ (nat_le (length told.now.infos) most_groups && nat_le (length told.now.relations.items) (2 * most_relations)) }
+    ensures { result ≡ (nat_le (length told.now.infos) most_groups && nat_le (length told.now.relations.items)
+        (2 * most_relations)) }
 {
     told.infos.len() <= MOST_GROUPS && told.relations.len() <= 2 * MOST_RELATIONS
 }

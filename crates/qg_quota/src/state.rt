@@ -47,7 +47,8 @@ pub fn to_items(
 }
 
 /// Quota of which nothing is held, as items of the quota tree of an image of this generation tell it, where these
-/// subvolumes are live; or the first of the rules `item`, `quota` and `limits` that they break, unless memory is refused.
+/// subvolumes are live; or the first of the rules `item`, `quota` and `limits` that they break, unless memory is
+/// refused.
 pub fn from_items(
     alloc: Global,
     items: &Items,
@@ -59,7 +60,8 @@ pub fn from_items(
     ensures told { IfOk result (λ state. state.quota ≡ quota_told (filter_map quota_part items.now)) }
     ensures tracked { IfOk result IsTracked }
     ensures none { IfOk result (λ state. HoldsAll state []) }
-    ensures refused { IfErr result (λ fault. IfRule fault (λ rule. items_rule generation live.now items.now ≡ Some rule)) }
+    ensures refused { IfErr result
+        (λ fault. IfRule fault (λ rule. items_rule generation live.now items.now ≡ Some rule)) }
 {
     let seen = items.as_slice();
     let read = parts_in(alloc, seen, generation)?;
@@ -69,7 +71,8 @@ pub fn from_items(
     }
 }
 
-// Quota of which nothing is held, as these parts tell it, or the first of the rules `quota` and `limits` that they break.
+// Quota of which nothing is held, as these parts tell it, or the first of the rules `quota` and `limits` that they
+// break.
 fn state_of(alloc: Global, live: &[RootId], parts: &[QuotaPart]) -> Result<QuotaState, QuotaFault>
     requires { IsTrue (is_ascending (map quota_key parts.now)) }
     ensures sound { OnOk result (quota_rule live.now parts.now ≡ None) }
@@ -88,7 +91,8 @@ fn parts_in(
     items: &[Item],
     generation: Generation,
 ) -> Result<Option<Sequence<QuotaPart>>, AllocError>
-    ensures { IfOk result (λ parts. parts ≡ then_some (list_all (is_item_of Quotas generation) items.now) (filter_map quota_part items.now)) }
+    ensures { IfOk result (λ parts. parts ≡ then_some (list_all (is_item_of Quotas generation) items.now)
+        (filter_map quota_part items.now)) }
 {
     let mut parts = Sequence::with_capacity(alloc, items.len())?;
     for item in items {

@@ -39,7 +39,8 @@ pub(crate) fn told_by(alloc: Global, parts: &[QuotaPart]) -> Result<Told, AllocE
 fn put_part(part: &QuotaPart, told: &mut Told) -> Result<(), AllocError>
     ensures infos { OnOk result (told.new.infos ≡ told.old.infos ++ filter_map info_told (part.now ∷ [])) }
     ensures limits { OnOk result (told.new.limits ≡ told.old.limits ++ filter_map limit_told (part.now ∷ [])) }
-    ensures relations { OnOk result (told.new.relations.items ≡ told.old.relations.items ++ filter_map relation_told (part.now ∷ [])) }
+    ensures relations { OnOk result (told.new.relations.items ≡ told.old.relations.items ++ filter_map relation_told
+        (part.now ∷ [])) }
 {
     match part {
         QuotaPart::Status { .. } => {}

@@ -25,9 +25,9 @@ use qg_num::{Generation, GroupId, NoMemory};
 use std::alloc::{AllocError, Global};
 use std::collections::BTreeSet;
 
-/// The items of the quota tree of an image of this generation, ascending by key: a QGROUP_STATUS, a QGROUP_INFO for each
-/// group with its counters, in bytes, a QGROUP_LIMIT for each group, and two QGROUP_RELATIONs for each relation (on-disk
-/// format, QGROUP_STATUS to QGROUP_RELATION).
+/// The items of the quota tree of an image of this generation, ascending by key: a QGROUP_STATUS, a QGROUP_INFO for
+/// each group with its counters, in bytes, a QGROUP_LIMIT for each group, and two QGROUP_RELATIONs for each relation
+/// (on-disk format, QGROUP_STATUS to QGROUP_RELATION).
 pub fn quota_items(alloc: Global, generation: Generation, quota: &Quota) -> Result<Items, NoMemory>
     requires { AreWritableQuota generation quota.now }
     ensures exact { IfOk result (λ items. items ≡ items_of_quota (status_at generation) quota.now) }
@@ -36,7 +36,8 @@ pub fn quota_items(alloc: Global, generation: Generation, quota: &Quota) -> Resu
     ensures ascending { IfOk result (λ items. IsTrue (is_ascending (map (λ item. item.key) items))) }
     ensures short { IfOk result (λ items. All (λ item. length item.body ≤ 1024) items) }
     ensures fit { IfOk result (λ items. All ItemFits items) }
-    ensures weight { IfOk result (λ items. items_bytes items ≡ 57 + 130 * length quota.now.groups + 50 * length quota.now.pairs) }
+    ensures weight { IfOk result (λ items. items_bytes items ≡ 57 + 130 * length quota.now.groups
+        + 50 * length quota.now.pairs) }
 {
     // A proof knows a number's range once it is read.
     let _generation = generation.value();

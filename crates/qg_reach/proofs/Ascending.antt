@@ -90,7 +90,8 @@ rises_same (d ∷ a) (e ∷ b) up up' same = elim (cases_Bool (nat_lt d.0 e.0)) 
   ]
 ]
 
-pub tables_same : {A : Type 0} (a b : List (ℕ × A)) → IsStrictlyIncreasing (keys_of a) → IsStrictlyIncreasing (keys_of b)
+pub tables_same : {A : Type 0} (a b : List (ℕ × A)) → IsStrictlyIncreasing (keys_of a)
+    → IsStrictlyIncreasing (keys_of b)
     → ((q : ℕ) → value_at q a ≡ value_at q b) → a ≡ b
 tables_same a b up up' same =
     rises_same a b (rise_sorted (keys_of a) (sorted_from_strictly_increasing (keys_of a) up))

@@ -1,5 +1,6 @@
 -- Extents as a set: ascending, each once.
-use Rattle.std.proofs.Common.{◌≡◌, ◌≢◌, ℕ, ◌+◌, ◌-◌, ◌<◌, true, false, List, [], ◌∷◌, ◌++◌, length, get_or, take, refl, sym, ap, subst, ◌∙◌, arith, ◌⊎◌, inl, inr}
+use Rattle.std.proofs.Common.{◌≡◌, ◌≢◌, ℕ, ◌+◌, ◌-◌, ◌<◌, true, false, List, [], ◌∷◌, ◌++◌, length, get_or, take, refl}
+use Rattle.std.proofs.Common.{sym, ap, subst, ◌∙◌, arith, ◌⊎◌, inl, inr}
 use Rattle.std.specs.List.{Contains, fold}
 use Rattle.std.specs.List.Sorted.{IsSortedBy}
 use Rattle.std.proofs.lemmas.Bool.{cond-true, cond-false, true≢false}
@@ -11,7 +12,8 @@ use Rattle.qg_image.proofs.Contained.{none_contained, contains_here, contains_la
 use Rattle.qg_image.specs.Verdict.{is_before, same_extent, with_extent, extent_set}
 use Rattle.qg_reach.specs.Sets.{HaveSame}
 use Rattle.qg_reach.proofs.Members.{same_back, same_on}
-use Rattle.qg_reach.proofs.Order.{before_chain, before_one_way, before_not_itself, same_itself, same_extent_is, not_same, order_cases, order_of_extents, not_after}
+use Rattle.qg_reach.proofs.Order.{before_chain, before_one_way, before_not_itself, same_itself, same_extent_is}
+use Rattle.qg_reach.proofs.Order.{not_same, order_cases, order_of_extents, not_after}
 
 -- each extent comes before all later ones
 abbrev pub Ascends : List Element → Type 0
@@ -74,7 +76,8 @@ with_member x (o ∷ os) up has = elim (contains_cases o os x has) [
 ]
 
 -- an extent past all others
-pub with_last : (x : Element) (set : List Element) → ((y : Element) → Contains set y → is_before y x ≡ true) → with_extent x set ≡ set ++ x ∷ []
+pub with_last : (x : Element) (set : List Element) → ((y : Element) → Contains set y → is_before y x ≡ true)
+    → with_extent x set ≡ set ++ x ∷ []
 with_last x [] past = refl
 with_last x (o ∷ os) past =
     with_after x o os (past o (contains_here o os))
@@ -85,8 +88,10 @@ with_has x [] = contains_here x []
 with_has x (o ∷ os) = elim (order_cases x o) [
   | inl before ↦ subst (λ set. Contains set x) (sym (with_before x o os before)) (contains_here x (o ∷ os))
   | inr rest ↦ elim rest [
-    | inl is ↦ subst (λ set. Contains set x) (sym (with_same x o os is)) (subst (λ w. Contains (w ∷ os) x) is (contains_here x os))
-    | inr after ↦ subst (λ set. Contains set x) (sym (with_after x o os after)) (contains_later o (with_extent x os) x (with_has x os))
+    | inl is ↦ subst (λ set. Contains set x) (sym (with_same x o os is))
+        (subst (λ w. Contains (w ∷ os) x) is (contains_here x os))
+    | inr after ↦ subst (λ set. Contains set x) (sym (with_after x o os after))
+        (contains_later o (with_extent x os) x (with_has x os))
   ]
 ]
 
@@ -109,20 +114,23 @@ with_only x (o ∷ os) y has = elim (order_cases x o) [
   | inl before ↦ contains_cases x (o ∷ os) y (subst (λ set. Contains set y) (with_before x o os before) has)
   | inr rest ↦ elim rest [
     | inl is ↦ inr (subst (λ set. Contains set y) (with_same x o os is) has)
-    | inr after ↦ elim (contains_cases o (with_extent x os) y (subst (λ set. Contains set y) (with_after x o os after) has)) [
-      | inl is ↦ inr (subst (λ w. Contains (o ∷ os) w) is (contains_here o os))
-      | inr later ↦ elim (with_only x os y later) [ inl is ↦ inl is | inr has' ↦ inr (contains_later o os y has') ]
-    ]
+    | inr after ↦ elim (contains_cases o (with_extent x os) y
+        (subst (λ set. Contains set y) (with_after x o os after) has)) [
+          | inl is ↦ inr (subst (λ w. Contains (o ∷ os) w) is (contains_here o os))
+          | inr later ↦ elim (with_only x os y later) [ inl is ↦ inl is | inr has' ↦ inr (contains_later o os y has') ]
+        ]
   ]
 ]
 
 with_ascends : (x : Element) (set : List Element) → Ascends set → Ascends (with_extent x set)
 with_ascends x [] up = (λ y has. absurd (none_contained y has), tt)
 with_ascends x (o ∷ os) up = elim (order_cases x o) [
-  | inl before ↦ subst Ascends (sym (with_before x o os before)) (λ y has. past before y (contains_cases o os y has), up)
+  | inl before ↦ subst Ascends (sym (with_before x o os before))
+      (λ y has. past before y (contains_cases o os y has), up)
   | inr rest ↦ elim rest [
     | inl is ↦ subst Ascends (sym (with_same x o os is)) up
-    | inr after ↦ subst Ascends (sym (with_after x o os after)) (λ y has. above after y (with_only x os y has), with_ascends x os up.1)
+    | inr after ↦ subst Ascends (sym (with_after x o os after))
+        (λ y has. above after y (with_only x os y has), with_ascends x os up.1)
   ]
 ] where
   past : is_before x o ≡ true → (y : Element) → (o ≡ y) ⊎ Contains os y → is_before x y ≡ true
@@ -190,13 +198,20 @@ again : (xs : List Element) (i : ℕ) (x : Element) → 0 < i → i < length xs 
 again xs i x some short is before =
     fold_more (λ set extent. with_extent extent set) [] xs i x short
     ∙ ap (λ w. with_extent w (extent_set (take i xs))) (sym is)
-    ∙ with_member x (extent_set (take i xs)) (extent_set_ascends (take i xs)) ((extent_set_same (take i xs)).back x there)
+    ∙ with_member x (extent_set (take i xs)) (extent_set_ascends (take i xs))
+    ((extent_set_same (take i xs)).back x there)
   where
     there : Contains (take i xs) x
-    there = (i - 1, omega (arith, length-take-le i xs (omega arith)), get_or-take i xs (i - 1) x (omega arith) ∙ sym before)
+    there = (
+      i - 1,
+      omega (arith, length-take-le i xs (omega arith)),
+      get_or-take i xs (i - 1) x (omega arith)
+          ∙ sym before,
+    )
 
 -- another extent than the one before it
-other : (xs : List Element) (i : ℕ) (x : Element) → IsSortedBy is_before xs → i < length xs → x ≡ get_or xs i x → (0 < i → x ≢ get_or xs (i - 1) x)
+other : (xs : List Element) (i : ℕ) (x : Element) → IsSortedBy is_before xs → i < length xs → x ≡ get_or xs i x
+    → (0 < i → x ≢ get_or xs (i - 1) x)
     → extent_set (take (i + 1) xs) ≡ extent_set (take i xs) ++ x ∷ []
 other xs i x sorted short is differs =
     fold_more (λ set extent. with_extent extent set) [] xs i x short
@@ -208,7 +223,8 @@ other xs i x sorted short is differs =
       | inl before ↦ before
       | inr rest ↦ elim rest [
         | inl same ↦ absurd (differs some (sym same))
-        | inr after ↦ absurd (true≢false (sym after ∙ subst (λ w. is_before w (get_or xs (i - 1) x) ≡ false) (sym is) (sorted_far is_before order_of_extents xs sorted (i - 1) i x (omega arith) short)))
+        | inr after ↦ absurd (true≢false (sym after ∙ subst (λ w. is_before w (get_or xs (i - 1) x) ≡ false) (sym is)
+            (sorted_far is_before order_of_extents xs sorted (i - 1) i x (omega arith) short)))
       ]
     ]
 
@@ -218,20 +234,29 @@ other xs i x sorted short is differs =
         let at : get_or xs has.0 y ≡ y = sym (get_or-take i xs has.0 y within) ∙ has.2 in
         let far = sorted_far is_before order_of_extents xs sorted has.0 (i - 1) x (omega arith) (omega arith) in
         let here = get_or_default xs has.0 x y (omega arith) ∙ at in
-        not_after y (get_or xs (i - 1) x) x (subst (λ w. is_before (get_or xs (i - 1) x) w ≡ false) here far) (last_before (omega arith))
+        not_after y (get_or xs (i - 1) x) x (subst (λ w. is_before (get_or xs (i - 1) x) w ≡ false) here far)
+        (last_before (omega arith))
 
 -- ---- the three cases of one more extent, where `before` is the one before it
 
-pub set_first : (xs : List Element) (i : ℕ) (x : Element) → IsSortedBy is_before xs → i < length xs → x ≡ get_or xs i x → i ≡ 0
+pub set_first : (xs : List Element) (i : ℕ) (x : Element) → IsSortedBy is_before xs → i < length xs → x ≡ get_or xs i x
+    → i ≡ 0
     → extent_set (take (i + 1) xs) ≡ extent_set (take i xs) ++ x ∷ []
 set_first xs i x sorted short is none = other xs i x sorted short is (λ some. absurd (omega arith))
 
-pub set_next : (xs : List Element) (i : ℕ) (before x : Element) → IsSortedBy is_before xs → i < length xs → x ≡ get_or xs i x
-    → before ≡ get_or xs (i - 1) before → same_extent before x ≡ false → extent_set (take (i + 1) xs) ≡ extent_set (take i xs) ++ x ∷ []
+pub set_next : (xs : List Element) (i : ℕ) (before x : Element) → IsSortedBy is_before xs → i < length xs
+    → x ≡ get_or xs i x
+    → before ≡ get_or xs (i - 1) before → same_extent before x ≡ false
+    → extent_set (take (i + 1) xs) ≡ extent_set (take i xs) ++ x ∷ []
 set_next xs i before x sorted short is there differ =
-    other xs i x sorted short is (λ some same. true≢false (sym (subst (λ w. same_extent w x ≡ true) (same ∙ sym (get_or_read xs (i - 1) before (omega arith) there x)) (same_itself x)) ∙ differ))
+    other xs i x sorted short is
+    (λ some same. true≢false
+    (sym (subst (λ w. same_extent w x ≡ true) (same ∙ sym (get_or_read xs (i - 1) before (omega arith) there x))
+    (same_itself x)) ∙ differ))
 
 pub set_again : (xs : List Element) (i : ℕ) (before x : Element) → 0 < i → i < length xs → x ≡ get_or xs i x
-    → before ≡ get_or xs (i - 1) before → same_extent before x ≡ true → extent_set (take (i + 1) xs) ≡ extent_set (take i xs)
+    → before ≡ get_or xs (i - 1) before → same_extent before x ≡ true
+    → extent_set (take (i + 1) xs) ≡ extent_set (take i xs)
 set_again xs i before x some short is there same =
-    again xs i x some short is (sym (same_extent_is before x same) ∙ get_or_read xs (i - 1) before (omega arith) there x)
+    again xs i x some short is (sym (same_extent_is before x same)
+    ∙ get_or_read xs (i - 1) before (omega arith) there x)

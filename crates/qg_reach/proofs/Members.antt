@@ -2,7 +2,8 @@
 use Rattle.std.proofs.Common.{◌≡◌, ℕ, List, [], ◌∷◌, map, eqb, sym, subst, inl, inr}
 use Rattle.std.specs.List.{AllByRecursion, Contains, dedup, flat_map}
 use Rattle.std.specs.List.Sorted.{IsPermutation}
-use Rattle.std.proofs.lemmas.List.Elements.{All-contains, All-from_recursion, Contains-append_left, Contains-append_right, Contains-append_cases}
+use Rattle.std.proofs.lemmas.List.Elements.{All-contains, All-from_recursion, Contains-append_left}
+use Rattle.std.proofs.lemmas.List.Elements.{Contains-append_right, Contains-append_cases}
 use Rattle.std.proofs.lemmas.List.Kept.{Contains-dedup_nat, Contains-from_dedup}
 use Rattle.std.proofs.lemmas.List.Sorted.{Contains-permutation, IsPermutation-sym}
 use Rattle.qg_image.proofs.Contained.{none_contained, contains_here, contains_later, contains_cases}
@@ -13,7 +14,8 @@ use Rattle.qg_reach.specs.Sets.{HaveSame}
 pub each_contained : {A : Type 0} (P : A → Type 0) (xs : List A) (x : A) → AllByRecursion P xs → Contains xs x → P x
 each_contained P xs x all has = All-contains P xs x (All-from_recursion P xs all) has
 
-pub all_weaker : {A : Type 0} (P Q : A → Type 0) → ((x : A) → P x → Q x) → (xs : List A) → AllByRecursion P xs → AllByRecursion Q xs
+pub all_weaker : {A : Type 0} (P Q : A → Type 0) → ((x : A) → P x → Q x) → (xs : List A) → AllByRecursion P xs
+    → AllByRecursion Q xs
 all_weaker P Q step [] all = tt
 all_weaker P Q step (x ∷ xs) all = (step x all.0, all_weaker P Q step xs all.1)
 
@@ -26,21 +28,24 @@ contains_map f (z ∷ zs) x has = elim (contains_cases z zs x has) [
   | inr later ↦ contains_later (f z) (map f zs) (f x) (contains_map f zs x later)
 ]
 
-pub one_mapped : {A B : Type 0} (f : A → B) (xs : List A) (y : B) → Contains (map f xs) y → (x : A) × Contains xs x × (f x ≡ y)
+pub one_mapped : {A B : Type 0} (f : A → B) (xs : List A) (y : B) → Contains (map f xs) y
+    → (x : A) × Contains xs x × (f x ≡ y)
 one_mapped f [] y has = absurd (none_contained y has)
 one_mapped f (z ∷ zs) y has = elim (contains_cases (f z) (map f zs) y has) [
   | inl is ↦ (z, contains_here z zs, is)
   | inr later ↦ let found = one_mapped f zs y later in (found.0, contains_later z zs found.0 found.1, found.2)
 ]
 
-pub contains_flat_map : {A B : Type 0} (f : A → List B) (xs : List A) (x : A) (y : B) → Contains xs x → Contains (f x) y → Contains (flat_map f xs) y
+pub contains_flat_map : {A B : Type 0} (f : A → List B) (xs : List A) (x : A) (y : B) → Contains xs x → Contains (f x) y
+    → Contains (flat_map f xs) y
 contains_flat_map f [] x y has given = absurd (none_contained x has)
 contains_flat_map f (z ∷ zs) x y has given = elim (contains_cases z zs x has) [
   | inl is ↦ Contains-append_left (f z) (flat_map f zs) y (subst (λ w. Contains (f w) y) (sym is) given)
   | inr later ↦ Contains-append_right (f z) (flat_map f zs) y (contains_flat_map f zs x y later given)
 ]
 
-pub one_flat_mapped : {A B : Type 0} (f : A → List B) (xs : List A) (y : B) → Contains (flat_map f xs) y → (x : A) × Contains xs x × Contains (f x) y
+pub one_flat_mapped : {A B : Type 0} (f : A → List B) (xs : List A) (y : B) → Contains (flat_map f xs) y
+    → (x : A) × Contains xs x × Contains (f x) y
 one_flat_mapped f [] y has = absurd (none_contained y has)
 one_flat_mapped f (z ∷ zs) y has = elim (Contains-append_cases (f z) (flat_map f zs) y has) [
   | inl here ↦ (z, contains_here z zs, here)
@@ -65,8 +70,13 @@ same_moved xs ys moved = record {
 }
 
 -- what is left of numbers in order, where equal ones were dropped
-pub same_once : (numbers read sorted once : List ℕ) → read ≡ numbers → IsPermutation read sorted → once ≡ dedup eqb sorted → HaveSame once numbers
+pub same_once : (numbers read sorted once : List ℕ) → read ≡ numbers → IsPermutation read sorted
+    → once ≡ dedup eqb sorted → HaveSame once numbers
 same_once numbers read sorted once same moved is = record {
-  into = λ x has. subst (λ xs. Contains xs x) same (Contains-permutation sorted read x (IsPermutation-sym read sorted moved) (Contains-from_dedup eqb sorted x (subst (λ xs. Contains xs x) is has)));
-  back = λ x has. subst (λ xs. Contains xs x) (sym is) (Contains-dedup_nat sorted x (Contains-permutation read sorted x moved (subst (λ xs. Contains xs x) (sym same) has)));
+  into = λ x has. subst (λ xs. Contains xs x) same
+      (Contains-permutation sorted read x (IsPermutation-sym read sorted moved)
+      (Contains-from_dedup eqb sorted x (subst (λ xs. Contains xs x) is has)));
+  back = λ x has. subst (λ xs. Contains xs x) (sym is)
+      (Contains-dedup_nat sorted x
+      (Contains-permutation read sorted x moved (subst (λ xs. Contains xs x) (sym same) has)));
 }

@@ -40,12 +40,18 @@ order_of_extents = record { one_way = before_one_way; chain = after_chain }
 pub order_cases : (a b : Element) → (is_before a b ≡ true) ⊎ ((a ≡ b) ⊎ (is_before b a ≡ true))
 order_cases a b = elim (cases_Bool (is_before a b)) [
   | inl before ↦ inl before
-  | inr not ↦ elim (cases_Bool (is_before b a)) [ inl after ↦ inr (inr after) | inr not' ↦ inr (inl (before_or_same a b not not')) ]
+  | inr not ↦ elim (cases_Bool (is_before b a)) [
+    | inl after ↦ inr (inr after)
+    | inr not' ↦ inr (inl (before_or_same a b not not'))
+  ]
 ]
 
 -- one that comes no later than another comes before what follows that
 pub not_after : (a b c : Element) → is_before b a ≡ false → is_before b c ≡ true → is_before a c ≡ true
 not_after a b c h k = elim (order_cases a b) [
   | inl before ↦ before_chain a b c before k
-  | inr rest ↦ elim rest [ inl is ↦ subst (λ w. is_before w c ≡ true) (sym is) k | inr after ↦ absurd (true≢false (sym after ∙ h)) ]
+  | inr rest ↦ elim rest [
+    | inl is ↦ subst (λ w. is_before w c ≡ true) (sym is) k
+    | inr after ↦ absurd (true≢false (sym after ∙ h))
+  ]
 ]

@@ -28,7 +28,8 @@ fn extents_in_order(
     alloc: Global,
     files: &[(Ino, File)],
 ) -> Result<Option<Sequence<Element>>, AllocError>
-    ensures { IfOk result (λ found. let named = flat_map (λ file. map extent_of file.1.pieces) files.now in found ≡ then_some (do_ascend named) (extent_set named)) }
+    ensures { IfOk result (λ found. let named = flat_map (λ file. map extent_of file.1.pieces) files.now in
+        found ≡ then_some (do_ascend named) (extent_set named)) }
 {
     let mut extents = Sequence::new(alloc);
     for file in files {
@@ -39,7 +40,8 @@ fn extents_in_order(
     Ok(Some(extents))
 }
 
-/// Puts the extents that pieces name at the end of a set of others; `false` exactly where one comes before another that is named earlier.
+/// Puts the extents that pieces name at the end of a set of others; `false` exactly where one comes before another that
+/// is named earlier.
 fn put_in_order(extents: &mut Sequence<Element>, pieces: &[Piece]) -> Result<bool, AllocError>
     ensures value { (named : List Element) → extents.old ≡ extent_set named → IsTrue (do_ascend named)
         → IfOk result (λ all. all ≡ do_ascend (named ++ map extent_of pieces.now)) }
@@ -54,9 +56,11 @@ fn put_in_order(extents: &mut Sequence<Element>, pieces: &[Piece]) -> Result<boo
     Ok(true)
 }
 
-/// Puts an extent at the end of a set of others, if it is not there already; `false` exactly where it comes before one of them.
+/// Puts an extent at the end of a set of others, if it is not there already; `false` exactly where it comes before one
+/// of them.
 fn put_last(extents: &mut Sequence<Element>, extent: Element) -> Result<bool, AllocError>
-    ensures value { (named : List Element) → extents.old ≡ extent_set named → IfOk result (λ is_last. is_last ≡ comes_last named extent) }
+    ensures value { (named : List Element) → extents.old ≡ extent_set named
+        → IfOk result (λ is_last. is_last ≡ comes_last named extent) }
     ensures put { (named : List Element) → extents.old ≡ extent_set named
         → IfOk result (λ is_last. IsTrue is_last → extents.new ≡ extent_set (named ++ extent ∷ [])) }
 {

@@ -11,8 +11,8 @@ use qg_super::{DATA_BEGIN, SECTOR, Sizes};
 /// The longest data extent, in bytes (this project's own).
 pub const LONGEST_EXTENT: u64 = 134217728;
 
-/// The first failure of the rule `space` over extents that ascend: the first one that lies where none may, or ends past where the
-/// next one begins (this project's own).
+/// The first failure of the rule `space` over extents that ascend: the first one that lies where none may, or ends past
+/// where the next one begins (this project's own).
 pub fn space_failure(sizes: &Sizes, extents: &[Element]) -> Option<Failure>
     requires { IsTrue (is_served sizes.now) }
     ensures { result ≡ space_failure sizes.now extents.now }

@@ -191,14 +191,16 @@ places_within nodes above i here n are at same = λ k d less.
 module _ (nodes : List Linked) (i : ℕ) (numbers : List ℕ) (old new : List (List ℕ)) (here : Linked)
     (at : slice_get nodes i ≡ Some here) (above own : List (List ℕ)) (are : AreAbove nodes above)
     (same : length numbers ≡ length nodes) (inside : All (λ set. set < length old) numbers)
-    (made : ℕ) (union : IsUnionOf old (list_at own i) (map (λ place. get_or numbers place 0) (list_at above i)) new made)
+    (made : ℕ) (union : IsUnionOf old (list_at own i) (map (λ place. get_or numbers place 0) (list_at above i)) new
+    made)
   where
     short : i < length numbers
     short = let within = slice_get_within nodes i here at in omega (arith, within, same)
 
     pub made_inside : made < length new
     made_inside = union.inside (λ k d less.
-        let place = mapped_cases (λ p. get_or numbers p 0) (list_at above i) (get_or (map (λ p. get_or numbers p 0) (list_at above i)) k d)
+        let place = mapped_cases (λ p. get_or numbers p 0) (list_at above i)
+        (get_or (map (λ p. get_or numbers p 0) (list_at above i)) k d)
         (Contains-get_or (map (λ p. get_or numbers p 0) (list_at above i)) k d less) in
         let places = places_within nodes above i here (length numbers) are at same in
         let within = All-contains (λ p. p < length numbers) (list_at above i) place.0 places place.1 in
@@ -217,7 +219,8 @@ module _ (nodes : List Linked) (i : ℕ) (numbers : List ℕ) (old new : List (L
     module _ (roots : List (ℕ × ℕ)) (level : ℕ) (is : here.level ≡ level) (begin : AreRoots nodes roots own)
         (first : SettledFirst nodes roots level i numbers old) where
       -- what a node that points here has
-      parent_tells : (place subvolume : ℕ) (parent : Linked) → slice_get nodes place ≡ Some parent → PointsTo parent here
+      parent_tells : (place subvolume : ℕ) (parent : Linked) → slice_get nodes place ≡ Some parent
+          → PointsTo parent here
           → Tells nodes roots numbers old place subvolume parent
       parent_tells place subvolume parent at' points =
           first place subvolume parent at' (inl (omega (arith, points.lower, is)))
@@ -235,7 +238,8 @@ module _ (nodes : List Linked) (i : ℕ) (numbers : List ℕ) (old new : List (L
           let found = (parent_tells place.0 subvolume parent.0 parent.1 parent.2).0 has in
           (found.0, found.1, Down parent.0 here found.2 (contains_at nodes i here at) parent.2)
 
-      from : (subvolume : ℕ) (root : ℕ × ℕ) → slice_get roots subvolume ≡ Some root → (x : Linked) → Leads nodes root.1 x
+      from : (subvolume : ℕ) (root : ℕ × ℕ) → slice_get roots subvolume ≡ Some root → (x : Linked)
+          → Leads nodes root.1 x
           → x ≡ here
           → HasMember (list_at own i) subvolume
           ⊎ IsInOne old (map (λ place. get_or numbers place 0) (list_at above i)) subvolume
@@ -256,7 +260,8 @@ module _ (nodes : List Linked) (i : ℕ) (numbers : List ℕ) (old new : List (L
         cases : (place ≡ i) ⊎ (place ≡ i → ⊥) → Tells nodes roots (set numbers i made) new place subvolume node
         cases (inl now) = (
           λ has. subst (IsReachedFrom nodes roots subvolume) (sym one)
-              (into subvolume ((union.members subvolume).0 (subst (λ s. HasMember (row_of new s) subvolume) value has))),
+              (into subvolume ((union.members subvolume).0
+              (subst (λ s. HasMember (row_of new s) subvolume) value has))),
           λ reached. subst (λ s. HasMember (row_of new s) subvolume) (sym value)
               ((union.members subvolume).1 (from subvolume reached.0 reached.1 node reached.2 one)),
         ) where
@@ -267,7 +272,8 @@ module _ (nodes : List Linked) (i : ℕ) (numbers : List ℕ) (old new : List (L
           value = ap (λ j. get_or (set numbers i made) j 0) now ∙ get_or-set_same numbers i made 0 short
         cases (inr other) = (
           λ has. (first place subvolume node at' (by which)).0 (subst (λ row. HasMember row subvolume) row has),
-          λ reached. subst (λ row. HasMember row subvolume) (sym row) ((first place subvolume node at' (by which)).1 reached),
+          λ reached. subst (λ row. HasMember row subvolume) (sym row)
+              ((first place subvolume node at' (by which)).1 reached),
         ) where
           by : (level < node.level) ⊎ ((node.level ≡ level) × (place < i + 1))
               → (level < node.level) ⊎ ((node.level ≡ level) × (place < i))
@@ -283,7 +289,8 @@ module _ (nodes : List Linked) (i : ℕ) (numbers : List ℕ) (old new : List (L
 
 -- more sets change none that stands
 pub tells_still : (nodes : List Linked) (roots : List (ℕ × ℕ)) (numbers : List ℕ) (old new : List (List ℕ))
-    (place subvolume : ℕ) (node : Linked) → place < length numbers → All (λ set. set < length old) numbers → Stand old new
+    (place subvolume : ℕ) (node : Linked) → place < length numbers → All (λ set. set < length old) numbers
+    → Stand old new
     → Tells nodes roots numbers old place subvolume node → Tells nodes roots numbers new place subvolume node
 tells_still nodes roots numbers old new place subvolume node short inside stand tells =
     let row = stand.same (get_or numbers place 0) (inside place 0 short) in (

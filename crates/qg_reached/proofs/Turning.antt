@@ -63,7 +63,8 @@ module _ (lists : List (List ℕ)) (at number : ℕ) (inside : at < length lists
 pub one_more_none : (places : List ℕ) (number : ℕ) (lists : List (List ℕ))
     → HaveOneMore (take 0 places) number lists lists
 one_more_none places number lists place n = (inl, back) where
-  back : Contains (list_at lists place) n ⊎ (Contains (take 0 places) place × (number ≡ n)) → Contains (list_at lists place) n
+  back : Contains (list_at lists place) n ⊎ (Contains (take 0 places) place × (number ≡ n))
+      → Contains (list_at lists place) n
   back (inl has) = has
   back (inr wrong) = absurd (omega (arith, wrong.0.1))
 
@@ -110,7 +111,8 @@ turned_none below above empty place n = (
 
 pub turned_more : (k : ℕ) (below old new : List (List ℕ)) → TurnedFirst k below old
     → HaveOneMore (list_at below k) k old new → TurnedFirst (k + 1) below new
-turned_more k below old new turned more place n = (λ has. into ((more place n).0 has), λ is. by (cases_eq n k) is.0 is.1)
+turned_more k below old new turned more place n =
+    (λ has. into ((more place n).0 has), λ is. by (cases_eq n k) is.0 is.1)
   where
     into : Contains (list_at old place) n ⊎ (Contains (list_at below k) place × (k ≡ n))
         → (n < k + 1) × Contains (list_at below n) place
@@ -153,7 +155,8 @@ module _ (nodes : List Linked) (below : List (List ℕ)) (are : AreBelow nodes b
       let at = node_at k (omega (arith, short, are.same)) in
       subst (All (λ place. place < n)) (get_or_default below k [] d short)
       (λ j e inner.
-      let child = (are.each k at.0 at.1).into (get_or (get_or below k []) j e) (Contains-get_or (get_or below k []) j e inner) in
+      let child = (are.each k at.0 at.1).into (get_or (get_or below k []) j e)
+      (Contains-get_or (get_or below k []) j e inner) in
       let inside = slice_get_within nodes (get_or (get_or below k []) j e) child.0 child.1 in
       omega (arith, inside, same))
 

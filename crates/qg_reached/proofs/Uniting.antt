@@ -24,24 +24,26 @@ pub gathered_more : (rows : List (List ℕ)) (own sets old new : List ℕ) (i se
     → i < length sets → set ≡ get_or sets i set → Gathered rows own (take i sets) old
     → ((member : ℕ) → HasMember new member ↔ (HasMember old member ⊎ HasMember (row_of rows set) member))
     → Gathered rows own (take (i + 1) sets) new
-gathered_more rows own sets old new i set short is gathered step member = (λ has. into ((step member).0 has), back) where
-  earlier : HasMember own member ⊎ IsInOne rows (take i sets) member
-      → HasMember own member ⊎ IsInOne rows (take (i + 1) sets) member
-  earlier (inl has) = inl has
-  earlier (inr one) = inr (one.0, in_front_more sets i set one.0 short is (inl one.1), one.2)
+gathered_more rows own sets old new i set short is gathered step member =
+    (λ has. into ((step member).0 has), back) where
+      earlier : HasMember own member ⊎ IsInOne rows (take i sets) member
+          → HasMember own member ⊎ IsInOne rows (take (i + 1) sets) member
+      earlier (inl has) = inl has
+      earlier (inr one) = inr (one.0, in_front_more sets i set one.0 short is (inl one.1), one.2)
 
-  into : HasMember old member ⊎ HasMember (row_of rows set) member
-      → HasMember own member ⊎ IsInOne rows (take (i + 1) sets) member
-  into (inl has) = earlier ((gathered member).0 has)
-  into (inr new') = inr (set, in_front_more sets i set set short is (inr refl), new')
+      into : HasMember old member ⊎ HasMember (row_of rows set) member
+          → HasMember own member ⊎ IsInOne rows (take (i + 1) sets) member
+      into (inl has) = earlier ((gathered member).0 has)
+      into (inr new') = inr (set, in_front_more sets i set set short is (inr refl), new')
 
-  by : (one : ℕ) → Contains (take i sets) one ⊎ (set ≡ one) → HasMember (row_of rows one) member → HasMember new member
-  by one (inl before) has = (step member).1 (inl ((gathered member).1 (inr (one, before, has))))
-  by one (inr now) has = (step member).1 (inr (subst (λ k. HasMember (row_of rows k) member) (sym now) has))
+      by : (one : ℕ) → Contains (take i sets) one ⊎ (set ≡ one) → HasMember (row_of rows one) member
+          → HasMember new member
+      by one (inl before) has = (step member).1 (inl ((gathered member).1 (inr (one, before, has))))
+      by one (inr now) has = (step member).1 (inr (subst (λ k. HasMember (row_of rows k) member) (sym now) has))
 
-  back : HasMember own member ⊎ IsInOne rows (take (i + 1) sets) member → HasMember new member
-  back (inl has) = (step member).1 (inl ((gathered member).1 (inl has)))
-  back (inr one) = by one.0 (front_more_cases sets i set one.0 short is one.1) one.2
+      back : HasMember own member ⊎ IsInOne rows (take (i + 1) sets) member → HasMember new member
+      back (inl has) = (step member).1 (inl ((gathered member).1 (inl has)))
+      back (inr one) = by one.0 (front_more_cases sets i set one.0 short is one.1) one.2
 
 -- all of the sets are one
 pub union_of_one : (rows : List (List ℕ)) (own sets : List ℕ) (set : ℕ) → own ≡ [] → Contains sets set

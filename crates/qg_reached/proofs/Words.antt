@@ -87,7 +87,8 @@ module _ (row padded : List ℕ) (member : ℕ) (same : (word : ℕ) → get_or 
 
 -- so many words of another row have been added
 abbrev pub AddedTo : ℕ → List ℕ → List ℕ → List ℕ → Type 0
-AddedTo n more old new = (word bit : ℕ) → HasMark new word bit ↔ (HasMark old word bit ⊎ ((word < n) × HasMark more word bit))
+AddedTo n more old new = (word bit : ℕ)
+    → HasMark new word bit ↔ (HasMark old word bit ⊎ ((word < n) × HasMark more word bit))
 
 pub added_none : (more old new : List ℕ) → ((word : ℕ) → get_or new word 0 ≡ get_or old word 0) → AddedTo 0 more old new
 added_none more old new same word bit = (λ has. inl (subst (λ n. bit_at n bit ≡ 1) (same word) has), back) where
@@ -131,7 +132,8 @@ added_all more old new n all added member = (λ has. into ((added word bit).0 ha
   bit : ℕ
   bit = member % 64
 
-  into : HasMember old member ⊎ ((member / 64 < n) × HasMember more member) → HasMember old member ⊎ HasMember more member
+  into : HasMember old member ⊎ ((member / 64 < n) × HasMember more member)
+      → HasMember old member ⊎ HasMember more member
   into (inl has) = inl has
   into (inr new) = inr new.1
 
@@ -194,10 +196,11 @@ told_empty row word bound members zeros are =
 -- there is no word further on
 pub told_all : (row : List ℕ) (word bound : ℕ) (members : List ℕ) → length row ≤ word
     → AreMembersBefore row word bound members → AreMembers row bound members
-told_all row word bound members all are = told_further row (min bound (word * 64)) bound members (omega arith) none are where
-  none : (member : ℕ) → min bound (word * 64) ≤ member → member < bound → HasMember row member → ⊥
-  none member past less has =
-      none_past row (member / 64) (member % 64) (omega (arith, all, past, less)) has
+told_all row word bound members all are = told_further row (min bound (word * 64)) bound members
+    (omega arith) none are where
+      none : (member : ℕ) → min bound (word * 64) ≤ member → member < bound → HasMember row member → ⊥
+      none member past less has =
+          none_past row (member / 64) (member % 64) (omega (arith, all, past, less)) has
 
 -- where the bound is reached, later words tell nothing more
 pub told_past : (row : List ℕ) (word bound : ℕ) (members : List ℕ) → bound / 64 < word

@@ -26,7 +26,8 @@ AreTurned below above =
 -- for each node the indices of those that point to it
 pub record AreAbove (nodes : List Linked) (above : List (List ℕ)) : Type 0 where
   pub same : length above ≡ length nodes
-  pub into : (place : ℕ) (child : Linked) (i : ℕ) → slice_get nodes place ≡ Some child → Contains (list_at above place) i
+  pub into : (place : ℕ) (child : Linked) (i : ℕ) → slice_get nodes place ≡ Some child
+      → Contains (list_at above place) i
       → (parent : Linked) × (slice_get nodes i ≡ Some parent) × PointsTo parent child
   pub all : (place : ℕ) (child : Linked) (i : ℕ) (parent : Linked)
       → slice_get nodes place ≡ Some child → slice_get nodes i ≡ Some parent → PointsTo parent child

@@ -10,7 +10,8 @@ use Rattle.qg_refs.specs.declared.order.Rank.{Rank}
 use Rattle.qg_refs.specs.Order.{rank_of, is_lower, precedes}
 
 -- one number before the rest
-lex_chain : (a b c : ℕ) (r s t : Bool) → (r ≡ true → s ≡ true → t ≡ true) → (nat_lt a b || ((a == b) && r)) ≡ true → (nat_lt b c || ((b == c) && s)) ≡ true → (nat_lt a c || ((a == c) && t)) ≡ true
+lex_chain : (a b c : ℕ) (r s t : Bool) → (r ≡ true → s ≡ true → t ≡ true) → (nat_lt a b || ((a == b) && r)) ≡ true
+    → (nat_lt b c || ((b == c) && s)) ≡ true → (nat_lt a c || ((a == c) && t)) ≡ true
 lex_chain a b c r s true rest h k = grind (arith, nat_tests)
 lex_chain a b c true true false rest h k = absurd (true≢false (sym (rest refl refl)))
 lex_chain a b c true false false rest h k = grind (arith, nat_tests)
@@ -20,7 +21,8 @@ lt_chain : (a b c : ℕ) → nat_lt a b ≡ true → nat_lt b c ≡ true → nat
 lt_chain a b c h k = grind (arith, nat_tests)
 
 lower_chain : (a b c : Rank) → is_lower a b ≡ true → is_lower b c ≡ true → is_lower a c ≡ true
-lower_chain a b c = lex_chain a.kind b.kind c.kind _ _ _ (lex_chain a.from b.from c.from _ _ _ (lex_chain a.ino b.ino c.ino _ _ _ (lt_chain a.offset b.offset c.offset)))
+lower_chain a b c = lex_chain a.kind b.kind c.kind _ _ _
+    (lex_chain a.from b.from c.from _ _ _ (lex_chain a.ino b.ino c.ino _ _ _ (lt_chain a.offset b.offset c.offset)))
 
 lower_not_itself : (a : Rank) → is_lower a a ≡ false
 lower_not_itself a = grind (arith, nat_tests)
@@ -45,14 +47,18 @@ precedes_chain a b c = lower_chain (rank_of a) (rank_of b) (rank_of c)
 pub precedes_not_itself : (a : Reference) → precedes a a ≡ false
 precedes_not_itself a = lower_not_itself (rank_of a)
 
-data_same : (root root' ino ino' offset offset' : ℕ) → root ≡ root' → ino ≡ ino' → offset ≡ offset' → KeyedData root ino offset ≡ KeyedData root' ino' offset'
+data_same : (root root' ino ino' offset offset' : ℕ) → root ≡ root' → ino ≡ ino' → offset ≡ offset'
+    → KeyedData root ino offset ≡ KeyedData root' ino' offset'
 data_same root root' ino ino' offset offset' p q r = λ i. KeyedData (p i) (q i) (r i)
 
 -- two of which neither comes before the other are one
 pub precedes_or_same : (a b : Reference) → precedes a b ≡ false → precedes b a ≡ false → a ≡ b
-precedes_or_same (KeyedBlock root) (KeyedBlock root') h k = ap KeyedBlock (same_from (rank_of (KeyedBlock root)) (rank_of (KeyedBlock root')) h k)
-precedes_or_same (SharedBlock parent) (SharedBlock parent') h k = ap SharedBlock (same_from (rank_of (SharedBlock parent)) (rank_of (SharedBlock parent')) h k)
-precedes_or_same (SharedData parent) (SharedData parent') h k = ap SharedData (same_from (rank_of (SharedData parent)) (rank_of (SharedData parent')) h k)
+precedes_or_same (KeyedBlock root) (KeyedBlock root') h k =
+    ap KeyedBlock (same_from (rank_of (KeyedBlock root)) (rank_of (KeyedBlock root')) h k)
+precedes_or_same (SharedBlock parent) (SharedBlock parent') h k =
+    ap SharedBlock (same_from (rank_of (SharedBlock parent)) (rank_of (SharedBlock parent')) h k)
+precedes_or_same (SharedData parent) (SharedData parent') h k =
+    ap SharedData (same_from (rank_of (SharedData parent)) (rank_of (SharedData parent')) h k)
 precedes_or_same (KeyedData root ino offset) (KeyedData root' ino' offset') h k =
     let a = rank_of (KeyedData root ino offset) in
     let b = rank_of (KeyedData root' ino' offset') in
@@ -64,7 +70,8 @@ same_reference_is (KeyedBlock root) (KeyedBlock root') h = ap KeyedBlock (grind 
 same_reference_is (SharedBlock parent) (SharedBlock parent') h = ap SharedBlock (grind (arith, nat_tests))
 same_reference_is (SharedData parent) (SharedData parent') h = ap SharedData (grind (arith, nat_tests))
 same_reference_is (KeyedData root ino offset) (KeyedData root' ino' offset') h =
-    data_same root root' ino ino' offset offset' (grind (arith, nat_tests)) (grind (arith, nat_tests)) (grind (arith, nat_tests))
+    data_same root root' ino ino' offset offset' (grind (arith, nat_tests)) (grind (arith, nat_tests))
+    (grind (arith, nat_tests))
 same_reference_is a b h = absurd (true≢false (sym h))
 
 pub same_itself : (a : Reference) → same_reference a a ≡ true
@@ -75,13 +82,15 @@ same_itself (KeyedData root ino offset) = grind (arith, nat_tests)
 
 pub precedes_differs : (a b : Reference) → precedes a b ≡ true → same_reference a b ≡ false
 precedes_differs a b h = elim (cases_Bool (same_reference a b)) [
-  | inl same ↦ absurd (true≢false (sym h ∙ subst (λ c. precedes a c ≡ false) (same_reference_is a b same) (precedes_not_itself a)))
+  | inl same ↦ absurd (true≢false (sym h ∙ subst (λ c. precedes a c ≡ false) (same_reference_is a b same)
+      (precedes_not_itself a)))
   | inr differs ↦ differs
 ]
 
 pub same_other_way : (a b : Reference) → same_reference a b ≡ false → same_reference b a ≡ false
 same_other_way a b h = elim (cases_Bool (same_reference b a)) [
-  | inl same ↦ absurd (true≢false (sym (subst (λ c. same_reference c b ≡ true) (same_reference_is b a same) (same_itself b)) ∙ h))
+  | inl same ↦ absurd (true≢false
+      (sym (subst (λ c. same_reference c b ≡ true) (same_reference_is b a same) (same_itself b)) ∙ h))
   | inr differs ↦ differs
 ]
 
@@ -89,5 +98,6 @@ same_other_way a b h = elim (cases_Bool (same_reference b a)) [
 pub precedes_if_not : (a b : Reference) → precedes b a ≡ false → same_reference b a ≡ false → precedes a b ≡ true
 precedes_if_not a b h differs = elim (cases_Bool (precedes a b)) [
   | inl before ↦ before
-  | inr not ↦ absurd (true≢false (sym (subst (λ c. same_reference b c ≡ true) (precedes_or_same b a h not) (same_itself b)) ∙ differs))
+  | inr not ↦ absurd (true≢false
+      (sym (subst (λ c. same_reference b c ≡ true) (precedes_or_same b a h not) (same_itself b)) ∙ differs))
 ]

@@ -1,5 +1,6 @@
 -- What a book of references holds, and what its edits do (this project's own). Addresses are in bytes.
-use Rattle.std.specs.Prelude.{◌≡◌, ◌≢◌, ℕ, ◌+◌, ◌<◌, Bool, true, false, List, [], ◌∷◌, length, Option, Some, None, unwrap_or}
+use Rattle.std.specs.Prelude.{◌≡◌, ◌≢◌, ℕ, ◌+◌, ◌<◌, Bool, true, false, List, [], ◌∷◌, length, Option, Some, None}
+use Rattle.std.specs.Prelude.{unwrap_or}
 use Rattle.std.specs.Option.{option_map}
 use Rattle.qg_items.specs.declared.extent.Reference.{Reference}
 use Rattle.qg_image.specs.State.{Layout}
@@ -47,11 +48,13 @@ pub record IsBook (book : Book) : Type 0 where
 
 -- the book agrees with a layout's references that are owed
 abbrev pub AgreesWithOwed : Layout → Book → Type 0
-AgreesWithOwed layout book = (at : ℕ) (reference : Reference) → count_at book at reference ≡ owed_count layout at reference
+AgreesWithOwed layout book = (at : ℕ) (reference : Reference)
+    → count_at book at reference ≡ owed_count layout at reference
 
 -- ---- edits
 
--- one reference more at an address. What is known of it there stays; where it has no reference yet, it is what is told now
+-- one reference more at an address. What is known of it there stays; where it has no reference yet, it is what is told
+-- now
 pub record Adds (old new : Book) (at : ℕ) (what : What) (reference : Reference) : Type 0 where
   pub count : HasOneMore (references_at old at) (references_at new at) reference
   pub known : what_in (new at) ≡ Some (unwrap_or (what_in (old at)) what)

@@ -17,11 +17,13 @@ count_of references reference = sum_by (counted reference) references
 
 -- one reference is there once more, and each other as often as before
 abbrev pub HasOneMore : List Counted → List Counted → Reference → Type 0
-HasOneMore old new reference = (other : Reference) → count_of new other ≡ count_of old other + (if same_reference other reference then 1 else 0)
+HasOneMore old new reference = (other : Reference)
+    → count_of new other ≡ count_of old other + (if same_reference other reference then 1 else 0)
 
 -- one reference is there so many times more, and each other as often as before
 abbrev pub HasSoManyMore : List Counted → List Counted → Reference → ℕ → Type 0
-HasSoManyMore old new reference more = (other : Reference) → count_of new other ≡ count_of old other + (if same_reference other reference then more else 0)
+HasSoManyMore old new reference more = (other : Reference)
+    → count_of new other ≡ count_of old other + (if same_reference other reference then more else 0)
 
 -- references ascend, each once
 abbrev pub Ascend : List Counted → Type 0

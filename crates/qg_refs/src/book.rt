@@ -1,7 +1,9 @@
 // A book of references as the layers above see it.
-ghost use Rattle.std.specs.Prelude.{◌≡◌, ◌+◌, ◌≤◌, ◌⊎◌, ℕ, Bool, length, Option, Some, IsSome, IfOk, OnOk, IfErr, OnErr};
+ghost use Rattle.std.specs.Prelude.{◌≡◌, ◌+◌, ◌≤◌, ◌⊎◌, ℕ, Bool, length, Option, Some, IsSome, IfOk, OnOk, IfErr};
+ghost use Rattle.std.specs.Prelude.{OnErr};
 ghost use Rattle.qg_device.specs.Cause.{HasCause};
-ghost use Rattle.qg_refs.specs.Book.{Book, references_at, count_at, full_in, Adds, Drops, Marks, MayHaveMore, HasReference, HasSome, Turns};
+ghost use Rattle.qg_refs.specs.Book.{Book, references_at, count_at, full_in, Adds, Drops, Marks, MayHaveMore};
+ghost use Rattle.qg_refs.specs.Book.{HasReference, HasSome, Turns};
 
 use crate::{RefList, What};
 use qg_disk::Disk;
@@ -10,10 +12,11 @@ use qg_num::{Address, BlockFault, Steps};
 use std::alloc::Global;
 use std::sync::ledger::Ledger;
 
-/// A book of references: for each address, in bytes, what is known of the node or the data extent there, its full mark, and a
-/// count for each reference to it (on-disk format, "backreferences").
+/// A book of references: for each address, in bytes, what is known of the node or the data extent there, its full mark,
+/// and a count for each reference to it (on-disk format, "backreferences").
 ///
-/// It may lie on what each call is lent: land, as the nodes in memory, and disk. Where these tell, the book tells what it holds.
+/// It may lie on what each call is lent: land, as the nodes in memory, and disk. Where these tell, the book tells what
+/// it holds.
 pub trait RefBook<G, D: Disk, L: Ledger> {
     /// What the book holds, where these tell it.
     ghost holds: { Self → G → D → Option Book };
@@ -45,16 +48,19 @@ pub trait RefBook<G, D: Disk, L: Ledger> {
         reads: &mut Steps<L>,
     ) -> Result<RefList, BlockFault>
         requires { stands self.now land.old disk.old }
-        ensures exact { (book : Book) → holds self.now land.old disk.old ≡ Some book → IfOk result (λ list. list ≡ references_at book at) }
+        ensures exact { (book : Book) → holds self.now land.old disk.old ≡ Some book
+            → IfOk result (λ list. list ≡ references_at book at) }
         ensures stands { stands self.now land.new disk.new }
         ensures holds { holds self.now land.new disk.new ≡ holds self.now land.old disk.old }
         ensures leaves { looks land.old disk.old land.new disk.new }
         ensures history { D.history disk.new ≡ D.history disk.old }
         ensures size { D.size disk.new ≡ D.size disk.old }
-        ensures no_image { IsSome (holds self.now land.old disk.old) → IfErr result (λ fault. (fault ≡ BlockFault.NoMemory) ⊎ (fault ≡ BlockFault.Disk)) }
+        ensures no_image { IsSome (holds self.now land.old disk.old)
+            → IfErr result (λ fault. (fault ≡ BlockFault.NoMemory) ⊎ (fault ≡ BlockFault.Disk)) }
         ensures cause { HasCause BlockFault.Disk (D.faults disk.old) (D.faults disk.new) result }
         ensures rise { reads.old ≤ reads.new }
-        ensures reads { IsSome (holds self.now land.old disk.old) → reads.new ≤ reads.old + (44 + to_read self.now land.old disk.old at) };
+        ensures reads { IsSome (holds self.now land.old disk.old)
+            → reads.new ≤ reads.old + (44 + to_read self.now land.old disk.old at) };
 
     /// How often a reference to what begins at an address is there.
     fn count(
@@ -66,16 +72,19 @@ pub trait RefBook<G, D: Disk, L: Ledger> {
         reads: &mut Steps<L>,
     ) -> Result<u32, BlockFault>
         requires { stands self.now land.old disk.old }
-        ensures exact { (book : Book) → holds self.now land.old disk.old ≡ Some book → IfOk result (λ count. count ≡ count_at book at reference) }
+        ensures exact { (book : Book) → holds self.now land.old disk.old ≡ Some book
+            → IfOk result (λ count. count ≡ count_at book at reference) }
         ensures stands { stands self.now land.new disk.new }
         ensures holds { holds self.now land.new disk.new ≡ holds self.now land.old disk.old }
         ensures leaves { looks land.old disk.old land.new disk.new }
         ensures history { D.history disk.new ≡ D.history disk.old }
         ensures size { D.size disk.new ≡ D.size disk.old }
-        ensures no_image { IsSome (holds self.now land.old disk.old) → IfErr result (λ fault. (fault ≡ BlockFault.NoMemory) ⊎ (fault ≡ BlockFault.Disk)) }
+        ensures no_image { IsSome (holds self.now land.old disk.old)
+            → IfErr result (λ fault. (fault ≡ BlockFault.NoMemory) ⊎ (fault ≡ BlockFault.Disk)) }
         ensures cause { HasCause BlockFault.Disk (D.faults disk.old) (D.faults disk.new) result }
         ensures rise { reads.old ≤ reads.new }
-        ensures reads { IsSome (holds self.now land.old disk.old) → reads.new ≤ reads.old + (44 + to_read self.now land.old disk.old at) };
+        ensures reads { IsSome (holds self.now land.old disk.old)
+            → reads.new ≤ reads.old + (44 + to_read self.now land.old disk.old at) };
 
     /// Whether what begins at an address is full. Where it has no reference it isn't.
     fn is_full(
@@ -86,16 +95,19 @@ pub trait RefBook<G, D: Disk, L: Ledger> {
         reads: &mut Steps<L>,
     ) -> Result<bool, BlockFault>
         requires { stands self.now land.old disk.old }
-        ensures exact { (book : Book) → holds self.now land.old disk.old ≡ Some book → IfOk result (λ full. full ≡ full_in (book at)) }
+        ensures exact { (book : Book) → holds self.now land.old disk.old ≡ Some book
+            → IfOk result (λ full. full ≡ full_in (book at)) }
         ensures stands { stands self.now land.new disk.new }
         ensures holds { holds self.now land.new disk.new ≡ holds self.now land.old disk.old }
         ensures leaves { looks land.old disk.old land.new disk.new }
         ensures history { D.history disk.new ≡ D.history disk.old }
         ensures size { D.size disk.new ≡ D.size disk.old }
-        ensures no_image { IsSome (holds self.now land.old disk.old) → IfErr result (λ fault. (fault ≡ BlockFault.NoMemory) ⊎ (fault ≡ BlockFault.Disk)) }
+        ensures no_image { IsSome (holds self.now land.old disk.old)
+            → IfErr result (λ fault. (fault ≡ BlockFault.NoMemory) ⊎ (fault ≡ BlockFault.Disk)) }
         ensures cause { HasCause BlockFault.Disk (D.faults disk.old) (D.faults disk.new) result }
         ensures rise { reads.old ≤ reads.new }
-        ensures reads { IsSome (holds self.now land.old disk.old) → reads.new ≤ reads.old + (44 + to_read self.now land.old disk.old at) };
+        ensures reads { IsSome (holds self.now land.old disk.old)
+            → reads.new ≤ reads.old + (44 + to_read self.now land.old disk.old at) };
 
     /// One reference more to what begins at an address. What is told of it is kept where it has no reference yet.
     fn add(
@@ -110,13 +122,16 @@ pub trait RefBook<G, D: Disk, L: Ledger> {
         requires stands { stands self.old land.old disk.old }
         requires room { has_room self.old land.old disk.old }
         requires fits { MayHaveMore (holds self.old land.old disk.old) at reference }
-        ensures added { OnOk result (Turns (λ old new. Adds old new at what reference) (holds self.old land.old disk.old) (holds self.new land.new disk.new)) }
+        ensures added { OnOk result
+            (Turns (λ old new. Adds old new at what reference) (holds self.old land.old disk.old)
+            (holds self.new land.new disk.new)) }
         ensures stands { stands self.new land.new disk.new }
         ensures leaves { edits land.old disk.old land.new disk.new }
         ensures after_fault { OnErr result (after_fault self.old land.old disk.old self.new land.new disk.new) }
         ensures history { D.history disk.new ≡ D.history disk.old }
         ensures size { D.size disk.new ≡ D.size disk.old }
-        ensures no_image { IsSome (holds self.old land.old disk.old) → IfErr result (λ fault. (fault ≡ BlockFault.NoMemory) ⊎ (fault ≡ BlockFault.Disk)) }
+        ensures no_image { IsSome (holds self.old land.old disk.old)
+            → IfErr result (λ fault. (fault ≡ BlockFault.NoMemory) ⊎ (fault ≡ BlockFault.Disk)) }
         ensures cause { HasCause BlockFault.Disk (D.faults disk.old) (D.faults disk.new) result }
         ensures rise { reads.old ≤ reads.new };
 
@@ -132,13 +147,15 @@ pub trait RefBook<G, D: Disk, L: Ledger> {
         requires stands { stands self.old land.old disk.old }
         requires room { has_room self.old land.old disk.old }
         requires there { HasReference (holds self.old land.old disk.old) at reference }
-        ensures dropped { OnOk result (Turns (λ old new. Drops old new at reference) (holds self.old land.old disk.old) (holds self.new land.new disk.new)) }
+        ensures dropped { OnOk result (Turns (λ old new. Drops old new at reference) (holds self.old land.old disk.old)
+            (holds self.new land.new disk.new)) }
         ensures stands { stands self.new land.new disk.new }
         ensures leaves { edits land.old disk.old land.new disk.new }
         ensures after_fault { OnErr result (after_fault self.old land.old disk.old self.new land.new disk.new) }
         ensures history { D.history disk.new ≡ D.history disk.old }
         ensures size { D.size disk.new ≡ D.size disk.old }
-        ensures no_image { IsSome (holds self.old land.old disk.old) → IfErr result (λ fault. (fault ≡ BlockFault.NoMemory) ⊎ (fault ≡ BlockFault.Disk)) }
+        ensures no_image { IsSome (holds self.old land.old disk.old)
+            → IfErr result (λ fault. (fault ≡ BlockFault.NoMemory) ⊎ (fault ≡ BlockFault.Disk)) }
         ensures cause { HasCause BlockFault.Disk (D.faults disk.old) (D.faults disk.new) result }
         ensures rise { reads.old ≤ reads.new };
 
@@ -153,13 +170,15 @@ pub trait RefBook<G, D: Disk, L: Ledger> {
         requires stands { stands self.old land.old disk.old }
         requires room { has_room self.old land.old disk.old }
         requires there { HasSome (holds self.old land.old disk.old) at }
-        ensures marked { OnOk result (Turns (λ old new. Marks old new at) (holds self.old land.old disk.old) (holds self.new land.new disk.new)) }
+        ensures marked { OnOk result (Turns (λ old new. Marks old new at) (holds self.old land.old disk.old)
+            (holds self.new land.new disk.new)) }
         ensures stands { stands self.new land.new disk.new }
         ensures leaves { edits land.old disk.old land.new disk.new }
         ensures after_fault { OnErr result (after_fault self.old land.old disk.old self.new land.new disk.new) }
         ensures history { D.history disk.new ≡ D.history disk.old }
         ensures size { D.size disk.new ≡ D.size disk.old }
-        ensures no_image { IsSome (holds self.old land.old disk.old) → IfErr result (λ fault. (fault ≡ BlockFault.NoMemory) ⊎ (fault ≡ BlockFault.Disk)) }
+        ensures no_image { IsSome (holds self.old land.old disk.old)
+            → IfErr result (λ fault. (fault ≡ BlockFault.NoMemory) ⊎ (fault ≡ BlockFault.Disk)) }
         ensures cause { HasCause BlockFault.Disk (D.faults disk.old) (D.faults disk.new) result }
         ensures rise { reads.old ≤ reads.new };
 }

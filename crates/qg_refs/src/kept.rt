@@ -4,7 +4,8 @@ use crate::RefList;
 use qg_num::Generation;
 use std::alloc::AllocError;
 
-/// What a record tells of a node or a data extent beside its references (on-disk format, EXTENT_ITEM and METADATA_ITEM).
+/// What a record tells of a node or a data extent beside its references (on-disk format, EXTENT_ITEM and
+/// METADATA_ITEM).
 #[derive(Clone, Copy, Debug, PartialEq, Eq)]
 pub struct What {
     /// Its length in bytes.

@@ -1,5 +1,6 @@
 // A count for each reference.
-ghost use Rattle.std.specs.Prelude.{◌≡◌, ◌-◌, ◌^◌, ◌<◌, ◌==◌, [], length, IfSome, IfNone, IfOk, OnOk, OnErr, slice_index_or};
+ghost use Rattle.std.specs.Prelude.{◌≡◌, ◌-◌, ◌^◌, ◌<◌, ◌==◌, [], length, IfSome, IfNone, IfOk, OnOk, OnErr};
+ghost use Rattle.std.specs.Prelude.{slice_index_or};
 ghost use Rattle.qg_refs.specs.Counts.{count_of, HasOneMore, HasSoManyMore, IsRefList};
 
 use crate::Counted;
@@ -10,8 +11,8 @@ use smallvec::SmallVec;
 use std::alloc::{AllocError, Global};
 use std::marker::Model;
 
-/// The references to one node or extent, each with its count (on-disk format, "backreferences"). A contract sees them ascending,
-/// each once and none with the count 0, and asks for the count of one.
+/// The references to one node or extent, each with its count (on-disk format, "backreferences"). A contract sees them
+/// ascending, each once and none with the count 0, and asks for the count of one.
 ///
 /// Two lie in the value itself, so that what one or two subvolumes reach takes no allocation.
 #[derive(Debug, Drop)]

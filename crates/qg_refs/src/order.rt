@@ -5,7 +5,8 @@ ghost use Rattle.qg_refs.specs.Order.{rank_of, precedes};
 
 use qg_items::Reference;
 
-// What orders a reference: the type of its item, the tree or the parent, and for a keyed one to data the file and the offset.
+// What orders a reference: the type of its item, the tree or the parent, and for a keyed one to data the file and the
+// offset.
 #[derive(Clone, Copy)]
 struct Rank {
     kind: u8,
@@ -14,8 +15,9 @@ struct Rank {
     offset: u64,
 }
 
-/// Whether a reference comes before another: by the type of its item, then by the tree or by the parent, then by the file, then
-/// by the offset. So references to one extent stand in the order of their keys (on-disk format, "backreferences").
+/// Whether a reference comes before another: by the type of its item, then by the tree or by the parent, then by the
+/// file, then by the offset. So references to one extent stand in the order of their keys (on-disk format,
+/// "backreferences").
 pub fn is_before(reference: &Reference, other: &Reference) -> bool
     ensures { result ≡ precedes reference.now other.now }
 {

@@ -13,7 +13,8 @@ use qg_items::Reference;
 pub(crate) fn place_of(entries: &[Counted], reference: &Reference) -> usize
     requires { Ascend entries.now }
     ensures bound { result ≤ length entries.now }
-    ensures point { IsPartitionPoint (λ entry. precedes entry.reference reference.now ≡ true) (λ entry. precedes entry.reference reference.now ≡ false) entries.now result }
+    ensures point { IsPartitionPoint (λ entry. precedes entry.reference reference.now ≡ true)
+        (λ entry. precedes entry.reference reference.now ≡ false) entries.now result }
 {
     entries.partition_point(|entry| is_before(&entry.reference, reference))
 }
@@ -23,7 +24,8 @@ pub(crate) fn index_of(entries: &[Counted], reference: &Reference) -> Option<usi
     requires { Ascend entries.now }
     ensures inside { IfSome result (λ index. index < length entries.now) }
     ensures at { IfSome result (λ index. HoldsAt (λ entry. entry.reference ≡ reference.now) entries.now index) }
-    ensures counts { IfSome result (λ index. HoldsAt (λ entry. entry.count ≡ count_of entries.now reference.now) entries.now index) }
+    ensures counts { IfSome result
+        (λ index. HoldsAt (λ entry. entry.count ≡ count_of entries.now reference.now) entries.now index) }
     ensures none { IfNone result (count_of entries.now reference.now ≡ 0) }
 {
     let index = place_of(entries, reference);

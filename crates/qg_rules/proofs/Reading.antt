@@ -1,5 +1,6 @@
 -- Reading files one after the other.
-use Rattle.std.proofs.Common.{◌≡◌, ℕ, ◌<◌, Bool, true, false, List, [], ◌∷◌, ◌++◌, map, refl, ap, sym, ◌∙◌, arith, append_assoc, length, subst}
+use Rattle.std.proofs.Common.{◌≡◌, ℕ, ◌<◌, Bool, true, false, List, [], ◌∷◌, ◌++◌, map, refl, ap, sym, ◌∙◌, arith}
+use Rattle.std.proofs.Common.{append_assoc, length, subst}
 use Rattle.std.specs.Prelude.{◌&&◌, Some, None, is_some, ◌==◌}
 use Rattle.std.specs.Bool.{then_some}
 use Rattle.std.specs.List.{AllByRecursion, list_all}
@@ -19,7 +20,8 @@ use Rattle.qg_parts.specs.Keys.{file_key}
 use Rattle.qg_rules.specs.Files.{file_told, is_file_of}
 use Rattle.qg_rules.specs.Parts.{kept_parts, starts_apart}
 use Rattle.qg_rules.specs.declared.parts.FileItems.{FileItems}
-use Rattle.qg_rules.proofs.Standing.{IsBehind, IsPieceOf, StartsOther, ino_of, all_behind, all_later, ascending-behind, own_pieces, greater_others}
+use Rattle.qg_rules.proofs.Standing.{IsBehind, IsPieceOf, StartsOther, ino_of, all_behind, all_later, ascending-behind}
+use Rattle.qg_rules.proofs.Standing.{own_pieces, greater_others}
 
 abbrev pub AreGreater : ℕ → List FilePart → Type 0
 AreGreater ino parts = AllByRecursion (λ part. ino < ino_of part) parts
@@ -32,7 +34,8 @@ piece_is ino other piece is = cases (other == ino) refl is where
   cases true e k = eqb-true other ino e
   cases false e k = absurd cc
 
-own_inodes : (ino : ℕ) (own others : List FilePart) → AllByRecursion (IsPieceOf ino) own → inodes_in (own ++ others) ≡ inodes_in others
+own_inodes : (ino : ℕ) (own others : List FilePart) → AllByRecursion (IsPieceOf ino) own
+    → inodes_in (own ++ others) ≡ inodes_in others
 own_inodes ino [] others are = refl
 own_inodes ino (PieceOf other piece ∷ own) others are = own_inodes ino own others are.1
 own_inodes ino (Inode other inode ∷ own) others are = absurd cc
@@ -44,11 +47,14 @@ greater_pieces ino (PieceOf other piece ∷ others) are =
     let apart : (other == ino) ≡ false = ne_eqb other ino (λ same. omega (arith, same, are.0)) in
     rw apart (greater_pieces ino others are.1)
 
-own_alone : (ino : ℕ) (own others : List FilePart) → AreGreater ino others → pieces_in ino (own ++ others) ≡ pieces_in ino own
+own_alone : (ino : ℕ) (own others : List FilePart) → AreGreater ino others
+    → pieces_in ino (own ++ others) ≡ pieces_in ino own
 own_alone ino own others are =
-    filter_map-append (piece_in ino) own others ∙ ap (λ (pieces : List Piece). pieces_in ino own ++ pieces) (greater_pieces ino others are) ∙ append-nil (pieces_in ino own)
+    filter_map-append (piece_in ino) own others ∙ ap (λ (pieces : List Piece). pieces_in ino own ++ pieces)
+    (greater_pieces ino others are) ∙ append-nil (pieces_in ino own)
 
-others_alone : (ino n : ℕ) (own others : List FilePart) → ino < n → AllByRecursion (IsPieceOf ino) own → pieces_in n (own ++ others) ≡ pieces_in n others
+others_alone : (ino n : ℕ) (own others : List FilePart) → ino < n → AllByRecursion (IsPieceOf ino) own
+    → pieces_in n (own ++ others) ≡ pieces_in n others
 others_alone ino n [] others less are = refl
 others_alone ino n (Inode other inode ∷ own) others less are = absurd cc
 others_alone ino n (PieceOf other piece ∷ own) others less are =
@@ -58,33 +64,40 @@ others_alone ino n (PieceOf other piece ∷ own) others less are =
 
 -- ---- the rules, item by item
 
-own_owned : (ino : ℕ) (parts own : List FilePart) → has_key ino (inodes_in parts) ≡ true → AllByRecursion (IsPieceOf ino) own → list_all (is_owned parts) own ≡ true
+own_owned : (ino : ℕ) (parts own : List FilePart) → has_key ino (inodes_in parts) ≡ true
+    → AllByRecursion (IsPieceOf ino) own → list_all (is_owned parts) own ≡ true
 own_owned ino parts [] has are = refl
 own_owned ino parts (Inode other inode ∷ own) has are = absurd cc
 own_owned ino parts (PieceOf other piece ∷ own) has are =
     let is = piece_is ino other piece are.0 in
     rw (is, has) (own_owned ino parts own has are.1)
 
-others_owned : (ino : ℕ) (parts those others : List FilePart) → ((n : ℕ) → ino < n → has_key n (inodes_in parts) ≡ has_key n (inodes_in those)) → AreGreater ino others
+others_owned : (ino : ℕ) (parts those others : List FilePart)
+    → ((n : ℕ) → ino < n → has_key n (inodes_in parts) ≡ has_key n (inodes_in those)) → AreGreater ino others
     → list_all (is_owned parts) others ≡ list_all (is_owned those) others
 others_owned ino parts those [] same are = refl
 others_owned ino parts those (Inode other inode ∷ others) same are = others_owned ino parts those others same are.1
-others_owned ino parts those (PieceOf other piece ∷ others) same are = rw (same other are.0, others_owned ino parts those others same are.1) refl
+others_owned ino parts those (PieceOf other piece ∷ others) same are =
+    rw (same other are.0, others_owned ino parts those others same are.1) refl
 
-others_inodes : (ino : ℕ) (parts those others : List FilePart) → ((n : ℕ) → ino < n → pieces_in n parts ≡ pieces_in n those) → AreGreater ino others
+others_inodes : (ino : ℕ) (parts those others : List FilePart)
+    → ((n : ℕ) → ino < n → pieces_in n parts ≡ pieces_in n those) → AreGreater ino others
     → list_all (is_inode parts) (inodes_in others) ≡ list_all (is_inode those) (inodes_in others)
 others_inodes ino parts those [] same are = refl
 others_inodes ino parts those (PieceOf other piece ∷ others) same are = others_inodes ino parts those others same are.1
-others_inodes ino parts those (Inode other inode ∷ others) same are = rw (same other are.0, others_inodes ino parts those others same are.1) refl
+others_inodes ino parts those (Inode other inode ∷ others) same are =
+    rw (same other are.0, others_inodes ino parts those others same are.1) refl
 
 abbrev told_by : List FilePart → ℕ × InodeItem → ℕ × File
 told_by parts entry = (entry.0, file_in parts entry)
 
-others_files : (ino : ℕ) (parts those others : List FilePart) → ((n : ℕ) → ino < n → pieces_in n parts ≡ pieces_in n those) → AreGreater ino others
+others_files : (ino : ℕ) (parts those others : List FilePart)
+    → ((n : ℕ) → ino < n → pieces_in n parts ≡ pieces_in n those) → AreGreater ino others
     → map (told_by parts) (inodes_in others) ≡ map (told_by those) (inodes_in others)
 others_files ino parts those [] same are = refl
 others_files ino parts those (PieceOf other piece ∷ others) same are = others_files ino parts those others same are.1
-others_files ino parts those (Inode other inode ∷ others) same are = rw (same other are.0, others_files ino parts those others same are.1) refl
+others_files ino parts those (Inode other inode ∷ others) same are =
+    rw (same other are.0, others_files ino parts those others same are.1) refl
 
 -- ---- one file in front of others
 
@@ -100,7 +113,12 @@ front_files : (ino : ℕ) (inode : InodeItem) (own others : List FilePart) → I
     → files_in (Inode ino inode ∷ (own ++ others)) ≡ (ino, file_of ino inode own) ∷ files_in others
 front_files ino inode own others is =
     let same = λ (n : ℕ) (less : ino < n). others_alone ino n own others less is.pieces in
-    rw (own_alone ino own others is.greater, own_inodes ino own others is.pieces, others_files ino (Inode ino inode ∷ (own ++ others)) others others same is.greater) refl
+    rw (
+      own_alone ino own others is.greater,
+      own_inodes ino own others is.pieces,
+      others_files ino
+          (Inode ino inode ∷ (own ++ others)) others others same is.greater,
+    ) refl
 
 swap_and : (a f b : Bool) → (a && (f && b)) ≡ (f && (a && b))
 swap_and true f b = refl
@@ -117,12 +135,18 @@ front_sound ino inode own others is =
     let keys = λ (n : ℕ) (less : ino < n). has_later n less in
     let same = λ (n : ℕ) (less : ino < n). others_alone ino n own others less is.pieces in
     let owned : list_all (is_owned whole) (own ++ others) ≡ list_all (is_owned others) others =
-    list_all-append (is_owned whole) own others ∙ ap (λ (b : Bool). b && list_all (is_owned whole) others) (own_owned ino whole own has is.pieces) ∙ others_owned ino whole others others keys is.greater in
+    list_all-append (is_owned whole) own others ∙ ap (λ (b : Bool). b && list_all (is_owned whole) others)
+    (own_owned ino whole own has is.pieces) ∙ others_owned ino whole others others keys is.greater in
     let inodes : list_all (is_inode whole) (inodes_in (own ++ others)) ≡ list_all (is_inode others) (inodes_in others) =
-    ap (list_all (is_inode whole)) (own_inodes ino own others is.pieces) ∙ others_inodes ino whole others others same is.greater in
-    let first : is_inode whole (ino, inode) ≡ is_file_of ino inode (file_of ino inode own) = rw (own_alone ino own others is.greater) refl in
-    rw (owned, inodes, first) (swap_and (list_all (is_owned others) others) (is_file_of ino inode (file_of ino inode own)) (list_all (is_inode others) (inodes_in others))) where
-      has_later : (n : ℕ) → ino < n → has_key n (inodes_in (Inode ino inode ∷ (own ++ others))) ≡ has_key n (inodes_in others)
+    ap (list_all (is_inode whole)) (own_inodes ino own others is.pieces)
+    ∙ others_inodes ino whole others others same is.greater in
+    let first : is_inode whole (ino, inode) ≡ is_file_of ino inode (file_of ino inode own) =
+    rw (own_alone ino own others is.greater) refl in
+    rw (owned, inodes, first)
+    (swap_and (list_all (is_owned others) others) (is_file_of ino inode (file_of ino inode own))
+    (list_all (is_inode others) (inodes_in others))) where
+      has_later : (n : ℕ) → ino < n → has_key n (inodes_in (Inode ino inode ∷ (own ++ others)))
+          ≡ has_key n (inodes_in others)
       has_later n less =
           let apart : (ino == n) ≡ false = ne_eqb ino n (λ same. omega (arith, same, less)) in
           rw (apart, own_inodes ino own others is.pieces) refl
@@ -138,15 +162,18 @@ pub record IsReading (parts left : List FilePart) (files : List (ℕ × File)) :
 pub IsReading-none : (parts : List FilePart) → is_ascending (map file_key parts) ≡ true → IsReading parts parts []
 IsReading-none parts ascending = record { ascending = ascending; sound = refl; told = refl }
 
-pub IsReading-all : (parts left : List FilePart) (files : List (ℕ × File)) → length left ≡ 0 → IsReading parts left files → Some files ≡ then_some (are_files parts) (files_in parts)
+pub IsReading-all : (parts left : List FilePart) (files : List (ℕ × File)) → length left ≡ 0
+    → IsReading parts left files → Some files ≡ then_some (are_files parts) (files_in parts)
 unfolding are_files
-IsReading-all parts [] files none is = rw (is.sound, is.told) (ap (λ (all : List (ℕ × File)). Some all) (sym (append-nil files)))
+IsReading-all parts [] files none is =
+    rw (is.sound, is.told) (ap (λ (all : List (ℕ × File)). Some all) (sym (append-nil files)))
 IsReading-all parts (part ∷ left) files none is = absurd (omega arith)
 
 unsound : (parts : List FilePart) → are_files parts ≡ false → None ≡ then_some (are_files parts) (files_in parts)
 unsound parts h = rw h refl
 
-no_inode : (ino : ℕ) (parts : List FilePart) → AllByRecursion (IsBehind ino) parts → has_key ino (inodes_in parts) ≡ false
+no_inode : (ino : ℕ) (parts : List FilePart) → AllByRecursion (IsBehind ino) parts
+    → has_key ino (inodes_in parts) ≡ false
 no_inode ino [] are = refl
 no_inode ino (PieceOf other piece ∷ parts) are = no_inode ino parts are.1
 no_inode ino (Inode other inode ∷ parts) are =
@@ -154,7 +181,9 @@ no_inode ino (Inode other inode ∷ parts) are =
     rw apart (no_inode ino parts are.1)
 
 -- a piece that stands in front has no file
-pub IsReading-orphan : (parts left : List FilePart) (ino : ℕ) (piece : Piece) (first : FilePart) (behind : List FilePart) (files : List (ℕ × File)) → IsReading parts left files → left ≡ first ∷ behind → first ≡ PieceOf ino piece
+pub IsReading-orphan : (parts left : List FilePart) (ino : ℕ) (piece : Piece) (first : FilePart)
+    (behind : List FilePart) (files : List (ℕ × File)) → IsReading parts left files → left ≡ first ∷ behind
+    → first ≡ PieceOf ino piece
     → None ≡ then_some (are_files parts) (files_in parts)
 unfolding is_ascending are_files
 IsReading-orphan parts left ino piece first behind files is begins here =
@@ -163,15 +192,20 @@ IsReading-orphan parts left ino piece first behind files is begins here =
     let none = no_inode ino behind (all_behind (file_key (PieceOf ino piece)) behind (omega arith) ascends) in
     unsound parts (is.sound ∙ rw stands (rw none refl))
 
-told_sound : (ino : ℕ) (inode : InodeItem) (own : List FilePart) (file : File) → file_told ino inode own ≡ Some file → (is_file_of ino inode (file_of ino inode own) ≡ true) × (file_of ino inode own ≡ file)
+told_sound : (ino : ℕ) (inode : InodeItem) (own : List FilePart) (file : File) → file_told ino inode own ≡ Some file
+    → (is_file_of ino inode (file_of ino inode own) ≡ true) × (file_of ino inode own ≡ file)
 told_sound ino inode own file h = cases (is_file_of ino inode (file_of ino inode own)) refl h where
-  cases : (b : Bool) → is_file_of ino inode (file_of ino inode own) ≡ b → then_some b (file_of ino inode own) ≡ Some file → (is_file_of ino inode (file_of ino inode own) ≡ true) × (file_of ino inode own ≡ file)
+  cases : (b : Bool) → is_file_of ino inode (file_of ino inode own) ≡ b
+      → then_some b (file_of ino inode own) ≡ Some file → (is_file_of ino inode (file_of ino inode own) ≡ true)
+      × (file_of ino inode own ≡ file)
   cases true e k = (e, cc)
   cases false e k = absurd cc
 
-told_unsound : (ino : ℕ) (inode : InodeItem) (own : List FilePart) → file_told ino inode own ≡ None → is_file_of ino inode (file_of ino inode own) ≡ false
+told_unsound : (ino : ℕ) (inode : InodeItem) (own : List FilePart) → file_told ino inode own ≡ None
+    → is_file_of ino inode (file_of ino inode own) ≡ false
 told_unsound ino inode own h = cases (is_file_of ino inode (file_of ino inode own)) refl h where
-  cases : (b : Bool) → is_file_of ino inode (file_of ino inode own) ≡ b → then_some b (file_of ino inode own) ≡ None → is_file_of ino inode (file_of ino inode own) ≡ false
+  cases : (b : Bool) → is_file_of ino inode (file_of ino inode own) ≡ b → then_some b (file_of ino inode own) ≡ None
+      → is_file_of ino inode (file_of ino inode own) ≡ false
   cases true e k = absurd cc
   cases false e k = e
 
@@ -182,28 +216,33 @@ pub record IsNext (left : List FilePart) (one : FileItems) (others : List FilePa
   pub stands : left ≡ Inode one.ino one.inode ∷ (map (PieceOf one.ino) one.pieces ++ others)
   pub other : StartsOther one.ino others
 
-next_front : (left : List FilePart) (one : FileItems) (others : List FilePart) → is_ascending (map file_key left) ≡ true → IsNext left one others
+next_front : (left : List FilePart) (one : FileItems) (others : List FilePart) → is_ascending (map file_key left) ≡ true
+    → IsNext left one others
     → IsFront one.ino (map (PieceOf one.ino) one.pieces) others
 unfolding is_ascending
 next_front left one others ascending next =
     let own : List FilePart = map (PieceOf one.ino) one.pieces in
-    let ascends : is_ascending (map file_key (Inode one.ino one.inode ∷ (own ++ others))) ≡ true = rw next.stands at ascending in
+    let ascends : is_ascending (map file_key (Inode one.ino one.inode ∷ (own ++ others))) ≡ true =
+    rw next.stands at ascending in
     let behind = all_behind (file_key (Inode one.ino one.inode)) (own ++ others) (omega arith) ascends in
     record {
       pieces = own_pieces one.ino one.pieces;
-      greater = greater_others one.ino others (all_later (IsBehind one.ino) own others behind) (ascending-behind (Inode one.ino one.inode ∷ own) others ascends) next.other;
+      greater = greater_others one.ino others (all_later (IsBehind one.ino) own others behind)
+          (ascending-behind (Inode one.ino one.inode ∷ own) others ascends) next.other;
     }
 
 abbrev own_of : FileItems → List FilePart
 own_of one = map (PieceOf one.ino) one.pieces
 
-pub IsReading-broken : (parts left : List FilePart) (files : List (ℕ × File)) (one : FileItems) (others : List FilePart) → IsReading parts left files → IsNext left one others
+pub IsReading-broken : (parts left : List FilePart) (files : List (ℕ × File)) (one : FileItems) (others : List FilePart)
+    → IsReading parts left files → IsNext left one others
     → None ≡ file_told one.ino one.inode (own_of one) → None ≡ then_some (are_files parts) (files_in parts)
 IsReading-broken parts left files one others is next none =
     let sound = front_sound one.ino one.inode (own_of one) others (next_front left one others is.ascending next) in
     unsound parts (is.sound ∙ rw (next.stands, sound, told_unsound one.ino one.inode (own_of one) (sym none)) refl)
 
-pub IsReading-more : (parts left : List FilePart) (files : List (ℕ × File)) (one : FileItems) (others : List FilePart) (file : File) → IsReading parts left files → IsNext left one others
+pub IsReading-more : (parts left : List FilePart) (files : List (ℕ × File)) (one : FileItems) (others : List FilePart)
+    (file : File) → IsReading parts left files → IsNext left one others
     → Some file ≡ file_told one.ino one.inode (own_of one) → IsReading parts others (files ++ (one.ino, file) ∷ [])
 IsReading-more parts left files one others file is next told =
     let in_front = next_front left one others is.ascending next in
@@ -212,69 +251,93 @@ IsReading-more parts left files one others file is next told =
     record {
       ascending = ascending-behind (Inode one.ino one.inode ∷ own_of one) others (rw next.stands at is.ascending);
       sound = is.sound ∙ rw (next.stands, front_sound one.ino one.inode (own_of one) others in_front, both.0) refl;
-      told = is.told ∙ rw (next.stands, front_files one.ino one.inode (own_of one) others in_front, both.1) (sym (append_assoc files here (files_in others)));
+      told = is.told ∙ rw (next.stands, front_files one.ino one.inode (own_of one) others in_front, both.1)
+          (sym (append_assoc files here (files_in others)));
     }
 
 -- ---- what is kept of files, and what stands behind them
 
-others_apart : (one : FileItems) (files : List FileItems) (rest : List FilePart) → starts_apart (one ∷ files) rest ≡ true → StartsOther one.ino (kept_parts files rest)
+others_apart : (one : FileItems) (files : List FileItems) (rest : List FilePart)
+    → starts_apart (one ∷ files) rest ≡ true → StartsOther one.ino (kept_parts files rest)
 others_apart one [] [] h = tt
 others_apart one [] (Inode other inode ∷ rest) h = absurd cc
 others_apart one [] (PieceOf other piece ∷ rest) h =
-    let apart : (other == one.ino) ≡ false = ne_eqb other one.ino (λ same. eqb-false one.ino other (not-true (one.ino == other) h) (sym same)) in
+    let apart : (other == one.ino) ≡ false =
+    ne_eqb other one.ino (λ same. eqb-false one.ino other (not-true (one.ino == other) h) (sym same)) in
     ap (λ (same : Bool). is_some (then_some same piece)) apart
 others_apart one (next ∷ files) rest h = refl
 
-later_apart : (one : FileItems) (files : List FileItems) (rest : List FilePart) → starts_apart (one ∷ files) rest ≡ true → starts_apart files rest ≡ true
+later_apart : (one : FileItems) (files : List FileItems) (rest : List FilePart) → starts_apart (one ∷ files) rest ≡ true
+    → starts_apart files rest ≡ true
 later_apart one [] [] h = refl
 later_apart one [] (Inode other inode ∷ rest) h = absurd cc
 later_apart one [] (PieceOf other piece ∷ rest) h = refl
 later_apart one (next ∷ files) rest h = h
 
 -- the files that are left, with what stands behind them
-pub record IsKept (parts : List FilePart) (left : List FileItems) (rest : List FilePart) (files : List (ℕ × File)) : Type 0 where
+pub record IsKept (parts : List FilePart) (left : List FileItems) (rest : List FilePart)
+    (files : List (ℕ × File)) : Type 0 where
   pub reading : IsReading parts (kept_parts left rest) files
   pub apart : starts_apart left rest ≡ true
 
-pub IsKept-none : (parts : List FilePart) (left : List FileItems) (rest : List FilePart) → parts ≡ kept_parts left rest → is_ascending (map file_key parts) ≡ true → starts_apart left rest ≡ true
+pub IsKept-none : (parts : List FilePart) (left : List FileItems) (rest : List FilePart) → parts ≡ kept_parts left rest
+    → is_ascending (map file_key parts) ≡ true → starts_apart left rest ≡ true
     → IsKept parts left rest []
 IsKept-none parts left rest is ascending apart = record {
   reading = subst (λ (those : List FilePart). IsReading parts those []) is (IsReading-none parts ascending);
   apart = apart;
 }
 
-next_of : (one : FileItems) (left : List FileItems) (rest : List FilePart) → starts_apart (one ∷ left) rest ≡ true → IsNext (kept_parts (one ∷ left) rest) one (kept_parts left rest)
+next_of : (one : FileItems) (left : List FileItems) (rest : List FilePart) → starts_apart (one ∷ left) rest ≡ true
+    → IsNext (kept_parts (one ∷ left) rest) one (kept_parts left rest)
 next_of one left rest apart = record { stands = refl; other = others_apart one left rest apart }
 
-pub IsKept-more : (parts : List FilePart) (one : FileItems) (left : List FileItems) (rest : List FilePart) (files : List (ℕ × File)) (file : File) → IsKept parts (one ∷ left) rest files
-    → Some file ≡ file_told one.ino one.inode (map (PieceOf one.ino) one.pieces) → IsKept parts left rest (files ++ (one.ino, file) ∷ [])
+pub IsKept-more : (parts : List FilePart) (one : FileItems) (left : List FileItems) (rest : List FilePart)
+    (files : List (ℕ × File)) (file : File) → IsKept parts (one ∷ left) rest files
+    → Some file ≡ file_told one.ino one.inode (map (PieceOf one.ino) one.pieces)
+    → IsKept parts left rest (files ++ (one.ino, file) ∷ [])
 IsKept-more parts one left rest files file kept told = record {
-  reading = IsReading-more parts (kept_parts (one ∷ left) rest) files one (kept_parts left rest) file kept.reading (next_of one left rest kept.apart) told;
+  reading = IsReading-more parts (kept_parts (one ∷ left) rest) files one (kept_parts left rest) file kept.reading
+      (next_of one left rest kept.apart) told;
   apart = later_apart one left rest kept.apart;
 }
 
-pub IsKept-broken : (parts : List FilePart) (one : FileItems) (left : List FileItems) (rest : List FilePart) (files : List (ℕ × File)) → IsKept parts (one ∷ left) rest files
-    → None ≡ file_told one.ino one.inode (map (PieceOf one.ino) one.pieces) → None ≡ then_some (are_files parts) (files_in parts)
+pub IsKept-broken : (parts : List FilePart) (one : FileItems) (left : List FileItems) (rest : List FilePart)
+    (files : List (ℕ × File)) → IsKept parts (one ∷ left) rest files
+    → None ≡ file_told one.ino one.inode (map (PieceOf one.ino) one.pieces)
+    → None ≡ then_some (are_files parts) (files_in parts)
 IsKept-broken parts one left rest files kept none =
-    IsReading-broken parts (kept_parts (one ∷ left) rest) files one (kept_parts left rest) kept.reading (next_of one left rest kept.apart) none
+    IsReading-broken parts (kept_parts (one ∷ left) rest) files one (kept_parts left rest) kept.reading
+    (next_of one left rest kept.apart) none
 
-pub IsKept-all : (parts rest : List FilePart) (files : List (ℕ × File)) → length rest ≡ 0 → IsKept parts [] rest files → Some files ≡ then_some (are_files parts) (files_in parts)
+pub IsKept-all : (parts rest : List FilePart) (files : List (ℕ × File)) → length rest ≡ 0 → IsKept parts [] rest files
+    → Some files ≡ then_some (are_files parts) (files_in parts)
 IsKept-all parts rest files none kept = IsReading-all parts rest files none kept.reading
 
-pub IsKept-orphan : (parts rest : List FilePart) (files : List (ℕ × File)) → (length rest ≡ 0 → ⊥) → IsKept parts [] rest files → None ≡ then_some (are_files parts) (files_in parts)
+pub IsKept-orphan : (parts rest : List FilePart) (files : List (ℕ × File)) → (length rest ≡ 0 → ⊥)
+    → IsKept parts [] rest files → None ≡ then_some (are_files parts) (files_in parts)
 IsKept-orphan parts [] files some kept = absurd (some refl)
 IsKept-orphan parts (Inode ino inode ∷ behind) files some kept = let apart = kept.apart in absurd cc
-IsKept-orphan parts (PieceOf ino piece ∷ behind) files some kept = IsReading-orphan parts (PieceOf ino piece ∷ behind) ino piece (PieceOf ino piece) behind files kept.reading refl refl
+IsKept-orphan parts (PieceOf ino piece ∷ behind) files some kept =
+    IsReading-orphan parts (PieceOf ino piece ∷ behind) ino piece (PieceOf ino piece) behind files kept.reading refl
+    refl
 
 -- ---- one file alone
 
 pub pieces_in-own : (ino : ℕ) (pieces : List Piece) → pieces_in ino (map (PieceOf ino) pieces) ≡ pieces
 pieces_in-own ino [] = refl
-pieces_in-own ino (piece ∷ pieces) = rw (eq-eqb ino ino refl) (ap (λ (others : List Piece). piece ∷ others) (pieces_in-own ino pieces))
+pieces_in-own ino (piece ∷ pieces) =
+    rw (eq-eqb ino ino refl) (ap (λ (others : List Piece). piece ∷ others) (pieces_in-own ino pieces))
 
 -- the file of what its items say, where it is not judged yet
 abbrev pub whole_file : FileItems → File
-whole_file one = record { size = one.inode.size; generation = one.inode.generation; transid = one.inode.transid; pieces = one.pieces }
+whole_file one = record {
+  size = one.inode.size;
+  generation = one.inode.generation;
+  transid = one.inode.transid;
+  pieces = one.pieces;
+}
 
-pub file_told-judged : (one : FileItems) (sound : Bool) → is_file_of one.ino one.inode (whole_file one) ≡ sound → then_some sound (whole_file one) ≡ file_told one.ino one.inode (map (PieceOf one.ino) one.pieces)
+pub file_told-judged : (one : FileItems) (sound : Bool) → is_file_of one.ino one.inode (whole_file one) ≡ sound
+    → then_some sound (whole_file one) ≡ file_told one.ino one.inode (map (PieceOf one.ino) one.pieces)
 file_told-judged one sound is = rw (pieces_in-own one.ino one.pieces, is) refl

@@ -23,7 +23,8 @@ pub const LEAST_INODE: u64 = 257;
 /// The first number past those of files (this project's own).
 pub const INODES_END: u64 = 1 << 48;
 
-/// The files of a subvolume, as its items tell them; `None` exactly where the items do not fit each other (rule `file`).
+/// The files of a subvolume, as its items tell them; `None` exactly where the items do not fit each other (rule
+/// `file`).
 pub fn read_files(alloc: Global, parts: FileParts) -> Result<Option<FileList>, NoMemory>
     requires ascending { IsTrue (is_ascending (map file_key parts)) }
     ensures { IfOk result (λ files. files ≡ then_some (are_files parts) (files_in parts)) }
@@ -74,7 +75,8 @@ fn is_file_of(ino: Ino, inode: &InodeItem, file: &File) -> bool
     }
 }
 
-// The bytes of a file's pieces; none where it is not of whole sectors or larger than the largest, or its pieces do not fit it.
+// The bytes of a file's pieces; none where it is not of whole sectors or larger than the largest, or its pieces do not
+// fit it.
 #[tactic(auto, unfolding(qg_image::specs::FilesOf::is_file))]
 fn bytes_of_file(file: &File) -> Option<u64>
     ensures { result ≡ then_some (is_file file.now) (pieces_bytes file.now.pieces) }

@@ -91,7 +91,8 @@ fn put_piece(
     piece: Piece,
 ) -> Result<(), AllocError>
     requires alone { rest.old ≡ [] }
-    ensures ok { OnOk result (kept_parts files.new.items rest.new ≡ kept_parts files.old.items [] ++ PieceOf ino piece ∷ []) }
+    ensures ok { OnOk result (kept_parts files.new.items rest.new ≡ kept_parts files.old.items [] ++ PieceOf ino piece
+        ∷ []) }
     ensures err { OnErr result ((files.new.items ≡ files.old.items) × (rest.new ≡ [])) }
     ensures apart { IsTrue (starts_apart files.new.items rest.new) }
 {

@@ -1,5 +1,6 @@
 -- One piece added after another.
-use Rattle.std.proofs.Common.{◌≡◌, ℕ, ◌+◌, ◌<◌, ◌≤◌, min, List, [], ◌∷◌, ◌++◌, length, take, drop, get_or, subst, Result, Ok, Err, sym, ap, ◌∙◌, arith, append_assoc}
+use Rattle.std.proofs.Common.{◌≡◌, ℕ, ◌+◌, ◌<◌, ◌≤◌, min, List, [], ◌∷◌, ◌++◌, length, take, drop, get_or, subst}
+use Rattle.std.proofs.Common.{Result, Ok, Err, sym, ap, ◌∙◌, arith, append_assoc}
 use Rattle.std.specs.Prelude.{IsErr}
 use Rattle.std.specs.List.{flat_map}
 use Rattle.std.proofs.Math.Seq.{take-append-add}
@@ -12,7 +13,8 @@ both : (old mid new front back : List ℕ) → mid ≡ old ++ front → new ≡ 
 both old mid new front back first second = second ∙ ap (λ (xs : List ℕ). xs ++ back) first ∙ append_assoc old front back
 
 -- a piece was added, and then a front of another
-pub front_after : {old mid new front back : List ℕ} {done : Unit {0}} → Adds (Ok done) old mid front → AddsFront mid new back → AddsFront old new (front ++ back)
+pub front_after : {old mid new front back : List ℕ} {done : Unit {0}} → Adds (Ok done) old mid front
+    → AddsFront mid new back → AddsFront old new (front ++ back)
 front_after {old} {mid} {new} {front} {back} whole part = record {
   count = length front + part.count;
   added =
@@ -21,7 +23,8 @@ front_after {old} {mid} {new} {front} {back} whole part = record {
 }
 
 -- what would have come after a piece was not reached
-pub front_before : {old new front : List ℕ} (back : List ℕ) → AddsFront old new front → AddsFront old new (front ++ back)
+pub front_before : {old new front : List ℕ} (back : List ℕ) → AddsFront old new front
+    → AddsFront old new (front ++ back)
 front_before {old} {new} {front} back part =
     let count = min part.count (length front) in
     let same : take part.count front ≡ take count (front ++ back) =
@@ -29,20 +32,24 @@ front_before {old} {new} {front} back part =
     record { count = count; added = part.added ∙ ap (λ (xs : List ℕ). old ++ xs) same }
 
 -- a piece was added, and then another, whose result is passed on
-pub then_added : {old mid new front back : List ℕ} {done : Unit {0}} (result : Result (Unit {0}) NoMemory) → Adds (Ok done) old mid front → Adds result mid new back
+pub then_added : {old mid new front back : List ℕ} {done : Unit {0}} (result : Result (Unit {0}) NoMemory)
+    → Adds (Ok done) old mid front → Adds result mid new back
     → Adds result old new (front ++ back)
-then_added {old} {mid} {new} {front} {back} (Ok x) whole last = record { ok = both old mid new front back whole.ok last.ok; no_memory = tt }
+then_added {old} {mid} {new} {front} {back} (Ok x) whole last =
+    record { ok = both old mid new front back whole.ok last.ok; no_memory = tt }
 then_added (Err fault) whole last = record { ok = tt; no_memory = front_after whole last.no_memory }
 
 -- memory was refused, and that is passed on
-pub stopped : {old new piece : List ℕ} (result : Result (Unit {0}) NoMemory) → IsErr result → AddsFront old new piece → Adds result old new piece
+pub stopped : {old new piece : List ℕ} (result : Result (Unit {0}) NoMemory) → IsErr result → AddsFront old new piece
+    → Adds result old new piece
 stopped (Ok x) is part = absurd (cc)
 stopped (Err fault) is part = record { ok = tt; no_memory = part }
 
 -- ---- one piece for each item of a list
 
 -- what the items before a place have, and a front of what is added for the item there
-pub front_of_items : {X : Type 0} (f : X → List ℕ) (items : List X) (place : ℕ) (item : X) {old mid new : List ℕ} → place < length items → item ≡ get_or items place item
+pub front_of_items : {X : Type 0} (f : X → List ℕ) (items : List X) (place : ℕ) (item : X) {old mid new : List ℕ}
+    → place < length items → item ≡ get_or items place item
     → mid ≡ old ++ flat_map f (take place items) → AddsFront mid new (f item) → AddsFront old new (flat_map f items)
 front_of_items {X} f items place item {old} {mid} {new} within is whole part =
     let before = flat_map f (take place items) in
@@ -59,9 +66,12 @@ front_of_items {X} f items place item {old} {mid} {new} within is whole part =
     subst (AddsFront old new) split (front_before behind (front_after done part))
 
 -- what all items have, and then the last piece
-pub after_items : {X : Type 0} (f : X → List ℕ) (items : List X) (place : ℕ) {old mid new back : List ℕ} (result : Result (Unit {0}) NoMemory)
-    → length items ≤ place → mid ≡ old ++ flat_map f (take place items) → Adds result mid new back → Adds result old new (flat_map f items ++ back)
+pub after_items : {X : Type 0} (f : X → List ℕ) (items : List X) (place : ℕ) {old mid new back : List ℕ}
+    (result : Result (Unit {0}) NoMemory)
+    → length items ≤ place → mid ≡ old ++ flat_map f (take place items) → Adds result mid new back
+    → Adds result old new (flat_map f items ++ back)
 after_items {X} f items place {old} {mid} {new} {back} result past whole last =
-    let all : mid ≡ old ++ flat_map f items = whole ∙ ap (λ (xs : List X). old ++ flat_map f xs) (take_all place items past) in
+    let all : mid ≡ old ++ flat_map f items = whole
+    ∙ ap (λ (xs : List X). old ++ flat_map f xs) (take_all place items past) in
     let done : Adds (Ok tt) old mid (flat_map f items) = record { ok = all; no_memory = tt } in
     then_added result done last

@@ -1,5 +1,6 @@
 -- What is read behind the first word of a line.
-use Rattle.std.proofs.Common.{◌≡◌, ℕ, ◌+◌, ◌*◌, ◌<◌, ◌^◌, List, [], ◌∷◌, ◌++◌, length, get_or, All, Option, Some, None, true, refl, sym, ap, ◌∙◌, arith, append_assoc, lit<}
+use Rattle.std.proofs.Common.{◌≡◌, ℕ, ◌+◌, ◌*◌, ◌<◌, ◌^◌, List, [], ◌∷◌, ◌++◌, length, get_or, All, Option, Some, None}
+use Rattle.std.proofs.Common.{true, refl, sym, ap, ◌∙◌, arith, append_assoc, lit<}
 use Rattle.std.specs.Prelude.{codes, ◌&&◌}
 use Rattle.std.specs.List.{flat_map}
 use Rattle.std.proofs.lemmas.Bool.{and_parts, and_from}
@@ -15,7 +16,8 @@ use Rattle.qg_script.proofs.Parting.{number_at}
 -- ---- results
 
 -- nothing was read of a text that no command has
-pub reads_none : {text : List ℕ} (found : Option Command) → found ≡ None → ((command : Command) → IsTextOf text command → ⊥) → Reads text found
+pub reads_none : {text : List ℕ} (found : Option Command) → found ≡ None
+    → ((command : Command) → IsTextOf text command → ⊥) → Reads text found
 reads_none None is none = record { command = tt; none = none }
 reads_none (Some command) is none = absurd cc
 
@@ -33,7 +35,8 @@ same_pair : {sub ino first second : ℕ} → ◌≡◌ {A = ℕ × ℕ} (sub, in
 same_pair {sub} {ino} {first} {second} is = (ap (λ (pair : ℕ × ℕ). pair.0) is, ap (λ (pair : ℕ × ℕ). pair.1) is)
 
 -- other numbers of a text than those of a file are read as a file's where they are
-pub file_at : {count : ℕ} {text numbers others : List ℕ} (sub ino : ℕ) → AreNumbers count text numbers → AreNumbers count text others
+pub file_at : {count : ℕ} {text numbers others : List ℕ} (sub ino : ℕ) → AreNumbers count text numbers
+    → AreNumbers count text others
     → is_file (get_or others sub 0) (get_or others ino 0) → is_file (get_or numbers sub 0) (get_or numbers ino 0)
 file_at {count} {text} {numbers} {others} sub ino are other is =
     rw (number_at sub other are, number_at ino other are) is
@@ -57,14 +60,17 @@ ino_fits ino is = grind (arith, nat_tests)
 pub file_fits : (sub ino : ℕ) (numbers : List ℕ) → is_file sub ino → Fit numbers → Fit (sub ∷ ino ∷ numbers)
 file_fits sub ino numbers is others =
     let parts = and_parts (is_sub_word sub) (is_ino_word ino) is in
-    All-cons (λ n. n < 2 ^ 64) sub (ino ∷ numbers) (sub_fits sub parts.0) (All-cons (λ n. n < 2 ^ 64) ino numbers (ino_fits ino parts.1) others)
+    All-cons (λ n. n < 2 ^ 64) sub (ino ∷ numbers) (sub_fits sub parts.0)
+    (All-cons (λ n. n < 2 ^ 64) ino numbers (ino_fits ino parts.1) others)
 
 pub is_word-fits : (n : ℕ) → n < 2 ^ 64 → is_word n ≡ true
 is_word-fits n fits = grind (arith, nat_tests)
 
 -- a number that was read is one that a line may have
-pub word_at : {count : ℕ} {text numbers : List ℕ} (place : ℕ) → AreNumbers count text numbers → place < count → is_word (get_or numbers place 0) ≡ true
-word_at {count} {text} {numbers} place are within = is_word-fits (get_or numbers place 0) (are.fit place 0 (omega (arith, are.as_many)))
+pub word_at : {count : ℕ} {text numbers : List ℕ} (place : ℕ) → AreNumbers count text numbers → place < count
+    → is_word (get_or numbers place 0) ≡ true
+word_at {count} {text} {numbers} place are within =
+    is_word-fits (get_or numbers place 0) (are.fit place 0 (omega (arith, are.as_many)))
 
 -- one number alone
 pub one : {text : List ℕ} (numbers : List ℕ) → AreNumbers 1 text numbers → numbers ≡ get_or numbers 0 0 ∷ []
@@ -73,14 +79,16 @@ one (a ∷ []) are = refl
 one (a ∷ b ∷ numbers) are = absurd (omega (arith, are.as_many))
 
 -- two numbers one by one
-pub two : {text : List ℕ} (numbers : List ℕ) → AreNumbers 2 text numbers → numbers ≡ get_or numbers 0 0 ∷ get_or numbers 1 0 ∷ []
+pub two : {text : List ℕ} (numbers : List ℕ) → AreNumbers 2 text numbers
+    → numbers ≡ get_or numbers 0 0 ∷ get_or numbers 1 0 ∷ []
 two [] are = absurd (omega (arith, are.as_many))
 two (a ∷ []) are = absurd (omega (arith, are.as_many))
 two (a ∷ b ∷ []) are = refl
 two (a ∷ b ∷ c ∷ numbers) are = absurd (omega (arith, are.as_many))
 
 -- three numbers one by one
-pub three : {text : List ℕ} (numbers : List ℕ) → AreNumbers 3 text numbers → numbers ≡ get_or numbers 0 0 ∷ get_or numbers 1 0 ∷ get_or numbers 2 0 ∷ []
+pub three : {text : List ℕ} (numbers : List ℕ) → AreNumbers 3 text numbers
+    → numbers ≡ get_or numbers 0 0 ∷ get_or numbers 1 0 ∷ get_or numbers 2 0 ∷ []
 three [] are = absurd (omega (arith, are.as_many))
 three (a ∷ []) are = absurd (omega (arith, are.as_many))
 three (a ∷ b ∷ []) are = absurd (omega (arith, are.as_many))
@@ -88,7 +96,8 @@ three (a ∷ b ∷ c ∷ []) are = refl
 three (a ∷ b ∷ c ∷ d ∷ numbers) are = absurd (omega (arith, are.as_many))
 
 -- four numbers one by one
-pub four : {text : List ℕ} (numbers : List ℕ) → AreNumbers 4 text numbers → numbers ≡ get_or numbers 0 0 ∷ get_or numbers 1 0 ∷ get_or numbers 2 0 ∷ get_or numbers 3 0 ∷ []
+pub four : {text : List ℕ} (numbers : List ℕ) → AreNumbers 4 text numbers
+    → numbers ≡ get_or numbers 0 0 ∷ get_or numbers 1 0 ∷ get_or numbers 2 0 ∷ get_or numbers 3 0 ∷ []
 four [] are = absurd (omega (arith, are.as_many))
 four (a ∷ []) are = absurd (omega (arith, are.as_many))
 four (a ∷ b ∷ []) are = absurd (omega (arith, are.as_many))
@@ -97,7 +106,9 @@ four (a ∷ b ∷ c ∷ d ∷ []) are = refl
 four (a ∷ b ∷ c ∷ d ∷ e ∷ numbers) are = absurd (omega (arith, are.as_many))
 
 -- seven numbers one by one
-pub seven : {text : List ℕ} (numbers : List ℕ) → AreNumbers 7 text numbers → numbers ≡ get_or numbers 0 0 ∷ get_or numbers 1 0 ∷ get_or numbers 2 0 ∷ get_or numbers 3 0 ∷ get_or numbers 4 0 ∷ get_or numbers 5 0 ∷ get_or numbers 6 0 ∷ []
+pub seven : {text : List ℕ} (numbers : List ℕ) → AreNumbers 7 text numbers
+    → numbers ≡ get_or numbers 0 0 ∷ get_or numbers 1 0 ∷ get_or numbers 2 0 ∷ get_or numbers 3 0 ∷ get_or numbers 4 0
+    ∷ get_or numbers 5 0 ∷ get_or numbers 6 0 ∷ []
 seven [] are = absurd (omega (arith, are.as_many))
 seven (a ∷ []) are = absurd (omega (arith, are.as_many))
 seven (a ∷ b ∷ []) are = absurd (omega (arith, are.as_many))
@@ -115,22 +126,27 @@ abbrev pub mark : List ℕ → ℕ
 mark text = get_or text 0 0 * 256 + get_or text 1 0
 
 -- what stands behind the first word of a text are its numbers
-pub numbers_of : (word : List ℕ) {rest numbers : List ℕ} → word ++ rest ≡ word ++ flat_map then_number numbers → Fit numbers → AreNumbers (length numbers) rest numbers
-numbers_of word {rest} {numbers} same fit = record { whole = append_cancel_left word rest (flat_map then_number numbers) same; fit = fit; as_many = refl }
+pub numbers_of : (word : List ℕ) {rest numbers : List ℕ} → word ++ rest ≡ word ++ flat_map then_number numbers
+    → Fit numbers → AreNumbers (length numbers) rest numbers
+numbers_of word {rest} {numbers} same fit =
+    record { whole = append_cancel_left word rest (flat_map then_number numbers) same; fit = fit; as_many = refl }
 
-pub write_text : (sub ino off len : ℕ) → command_text (Write sub ino off len) ≡ codes "write" ++ flat_map then_number (sub ∷ ino ∷ off ∷ len ∷ [])
+pub write_text : (sub ino off len : ℕ) → command_text (Write sub ino off len) ≡ codes "write"
+    ++ flat_map then_number (sub ∷ ino ∷ off ∷ len ∷ [])
 unfolding command_text
 write_text sub ino off len = simp (append_assoc, append-nil)
 
 -- a command whose text begins with `write` is one of that word, and the numbers behind it are its own
 pub only_write : (P : Command → Type 0) (rest : List ℕ)
-    → ((sub ino off len : ℕ) → is_file sub ino → AreNumbers 4 rest (sub ∷ ino ∷ off ∷ len ∷ []) → P (Write sub ino off len))
+    → ((sub ino off len : ℕ) → is_file sub ino → AreNumbers 4 rest (sub ∷ ino ∷ off ∷ len ∷ [])
+    → P (Write sub ino off len))
     → (command : Command) → IsTextOf (codes "write" ++ rest) command → P command
 unfolding command_text is_in_grammar
 only_write P rest write (Write sub ino off len) is =
     let last = and_parts (is_sub_word sub && is_ino_word ino && is_word off) (is_word len) is.in_grammar in
     let file = and_parts (is_sub_word sub && is_ino_word ino) (is_word off) last.0 in
-    let fit = file_fits sub ino (off ∷ len ∷ []) file.0 (word_fits off (len ∷ []) file.1 (word_fits len [] last.1 none_fit)) in
+    let fit = file_fits sub ino (off ∷ len ∷ []) file.0
+    (word_fits off (len ∷ []) file.1 (word_fits len [] last.1 none_fit)) in
     write sub ino off len file.0 (numbers_of (codes "write") (is.spelled ∙ write_text sub ino off len) fit)
 only_write P rest write command is = let first = ap mark is.spelled in absurd (omega (arith, first))
 
@@ -141,7 +157,8 @@ pub write_read : {rest numbers : List ℕ} {sub ino : ℕ} → AreNumbers 4 rest
 unfolding is_in_grammar
 write_read {rest} {numbers} {sub} {ino} are of =
     let is = same_pair of.1 in
-    let behind : rest ≡ flat_map then_number (get_or numbers 0 0 ∷ get_or numbers 1 0 ∷ get_or numbers 2 0 ∷ get_or numbers 3 0 ∷ []) =
+    let behind : rest ≡ flat_map then_number (get_or numbers 0 0 ∷ get_or numbers 1 0 ∷ get_or numbers 2 0
+    ∷ get_or numbers 3 0 ∷ []) =
     are.whole ∙ ap (flat_map then_number) (four numbers are) in
     rw (is.0, is.1) (record {
       spelled = ap (λ (xs : List ℕ). codes "write" ++ xs) behind ∙ sym (write_text _ _ _ _);
@@ -151,32 +168,41 @@ write_read {rest} {numbers} {sub} {ino} are of =
 -- ---- the other commands of files, each in the same way
 
 pub clone_text : (sub ino off len to_sub to_ino to_off : ℕ)
-    → command_text (Clone sub ino off len to_sub to_ino to_off) ≡ codes "clone" ++ flat_map then_number (sub ∷ ino ∷ off ∷ len ∷ to_sub ∷ to_ino ∷ to_off ∷ [])
+    → command_text (Clone sub ino off len to_sub to_ino to_off) ≡ codes "clone"
+    ++ flat_map then_number (sub ∷ ino ∷ off ∷ len ∷ to_sub ∷ to_ino ∷ to_off ∷ [])
 unfolding command_text
 clone_text sub ino off len to_sub to_ino to_off = simp (append_assoc, append-nil)
 
 pub only_clone : (P : Command → Type 0) (rest : List ℕ)
     → ((sub ino off len to_sub to_ino to_off : ℕ) → is_file sub ino → is_file to_sub to_ino
-    → AreNumbers 7 rest (sub ∷ ino ∷ off ∷ len ∷ to_sub ∷ to_ino ∷ to_off ∷ []) → P (Clone sub ino off len to_sub to_ino to_off))
+    → AreNumbers 7 rest (sub ∷ ino ∷ off ∷ len ∷ to_sub ∷ to_ino ∷ to_off ∷ [])
+    → P (Clone sub ino off len to_sub to_ino to_off))
     → (command : Command) → IsTextOf (codes "clone" ++ rest) command → P command
 unfolding command_text is_in_grammar
 only_clone P rest clone (Clone sub ino off len to_sub to_ino to_off) is =
-    let last = and_parts (is_sub_word sub && is_ino_word ino && is_word off && is_word len && is_sub_word to_sub && is_ino_word to_ino) (is_word to_off) is.in_grammar in
-    let sixth = and_parts (is_sub_word sub && is_ino_word ino && is_word off && is_word len && is_sub_word to_sub) (is_ino_word to_ino) last.0 in
-    let fifth = and_parts (is_sub_word sub && is_ino_word ino && is_word off && is_word len) (is_sub_word to_sub) sixth.0 in
+    let last = and_parts (is_sub_word sub && is_ino_word ino && is_word off && is_word len && is_sub_word to_sub
+    && is_ino_word to_ino) (is_word to_off) is.in_grammar in
+    let sixth = and_parts (is_sub_word sub && is_ino_word ino && is_word off && is_word len && is_sub_word to_sub)
+    (is_ino_word to_ino) last.0 in
+    let fifth = and_parts (is_sub_word sub && is_ino_word ino && is_word off && is_word len)
+    (is_sub_word to_sub) sixth.0 in
     let fourth = and_parts (is_sub_word sub && is_ino_word ino && is_word off) (is_word len) fifth.0 in
     let file = and_parts (is_sub_word sub && is_ino_word ino) (is_word off) fourth.0 in
     let to_file : is_file to_sub to_ino = and_from (is_sub_word to_sub) (is_ino_word to_ino) fifth.1 sixth.1 in
     let fit =
     file_fits sub ino (off ∷ len ∷ to_sub ∷ to_ino ∷ to_off ∷ []) file.0
     (word_fits off (len ∷ to_sub ∷ to_ino ∷ to_off ∷ []) file.1
-    (word_fits len (to_sub ∷ to_ino ∷ to_off ∷ []) fourth.1 (file_fits to_sub to_ino (to_off ∷ []) to_file (word_fits to_off [] last.1 none_fit)))) in
-    clone sub ino off len to_sub to_ino to_off file.0 to_file (numbers_of (codes "clone") (is.spelled ∙ clone_text sub ino off len to_sub to_ino to_off) fit)
+    (word_fits len (to_sub ∷ to_ino ∷ to_off ∷ []) fourth.1
+    (file_fits to_sub to_ino (to_off ∷ []) to_file (word_fits to_off [] last.1 none_fit)))) in
+    clone sub ino off len to_sub to_ino to_off file.0 to_file
+    (numbers_of (codes "clone") (is.spelled ∙ clone_text sub ino off len to_sub to_ino to_off) fit)
 only_clone P rest clone command is = let first = ap mark is.spelled in absurd (omega (arith, first))
 
 pub clone_read : {rest numbers : List ℕ} {sub ino to_sub to_ino : ℕ} → AreNumbers 7 rest numbers
-    → IsReadAs sub ino (get_or numbers 0 0) (get_or numbers 1 0) → IsReadAs to_sub to_ino (get_or numbers 4 0) (get_or numbers 5 0)
-    → IsTextOf (codes "clone" ++ rest) (Clone sub ino (get_or numbers 2 0) (get_or numbers 3 0) to_sub to_ino (get_or numbers 6 0))
+    → IsReadAs sub ino (get_or numbers 0 0) (get_or numbers 1 0)
+    → IsReadAs to_sub to_ino (get_or numbers 4 0) (get_or numbers 5 0)
+    → IsTextOf (codes "clone" ++ rest) (Clone sub ino (get_or numbers 2 0) (get_or numbers 3 0) to_sub to_ino
+    (get_or numbers 6 0))
 unfolding is_in_grammar
 clone_read {rest} {numbers} {sub} {ino} {to_sub} {to_ino} are of to =
     let is = same_pair of.1 in
@@ -186,11 +212,14 @@ clone_read {rest} {numbers} {sub} {ino} {to_sub} {to_ino} are of to =
     rw (is.0, is.1, is_to.0, is_to.1) (record {
       spelled = ap (λ (xs : List ℕ). codes "clone" ++ xs) behind ∙ sym (clone_text _ _ _ _ _ _ _);
       in_grammar =
-          and_from _ _ (and_from _ _ (and_from _ _ (and_from _ _ (and_from _ _ of.0 (word_at 2 are (lit< tt))) (word_at 3 are (lit< tt))) parts.0) parts.1)
+          and_from _ _ (and_from _ _
+          (and_from _ _ (and_from _ _ (and_from _ _ of.0 (word_at 2 are (lit< tt))) (word_at 3 are (lit< tt)))
+          parts.0) parts.1)
           (word_at 6 are (lit< tt));
     })
 
-pub truncate_text : (sub ino size : ℕ) → command_text (Truncate sub ino size) ≡ codes "truncate" ++ flat_map then_number (sub ∷ ino ∷ size ∷ [])
+pub truncate_text : (sub ino size : ℕ) → command_text (Truncate sub ino size) ≡ codes "truncate"
+    ++ flat_map then_number (sub ∷ ino ∷ size ∷ [])
 unfolding command_text
 truncate_text sub ino size = simp (append_assoc, append-nil)
 
@@ -204,7 +233,8 @@ only_truncate P rest truncate (Truncate sub ino size) is =
     truncate sub ino size file.0 (numbers_of (codes "truncate") (is.spelled ∙ truncate_text sub ino size) fit)
 only_truncate P rest truncate command is = let first = ap mark is.spelled in absurd (omega (arith, first))
 
-pub truncate_read : {rest numbers : List ℕ} {sub ino : ℕ} → AreNumbers 3 rest numbers → IsReadAs sub ino (get_or numbers 0 0) (get_or numbers 1 0)
+pub truncate_read : {rest numbers : List ℕ} {sub ino : ℕ} → AreNumbers 3 rest numbers
+    → IsReadAs sub ino (get_or numbers 0 0) (get_or numbers 1 0)
     → IsTextOf (codes "truncate" ++ rest) (Truncate sub ino (get_or numbers 2 0))
 unfolding is_in_grammar
 truncate_read {rest} {numbers} {sub} {ino} are of =
@@ -222,32 +252,41 @@ pub record TellsFile (word : List ℕ) (command : ℕ → ℕ → Command) : Typ
   pub grammar : (sub ino : ℕ) → is_in_grammar (command sub ino) ≡ (is_sub_word sub && is_ino_word ino)
 
 -- the numbers behind the word are the file's
-file_numbers : {word rest : List ℕ} {command : ℕ → ℕ → Command} {sub ino : ℕ} → TellsFile word command → is_file sub ino → IsTextOf (word ++ rest) (command sub ino)
+file_numbers : {word rest : List ℕ} {command : ℕ → ℕ → Command} {sub ino : ℕ} → TellsFile word command → is_file sub ino
+    → IsTextOf (word ++ rest) (command sub ino)
     → AreNumbers 2 rest (sub ∷ ino ∷ [])
-file_numbers {word} {rest} {command} {sub} {ino} tells file is = numbers_of word (is.spelled ∙ tells.text sub ino) (file_fits sub ino [] file none_fit)
+file_numbers {word} {rest} {command} {sub} {ino} tells file is =
+    numbers_of word (is.spelled ∙ tells.text sub ino) (file_fits sub ino [] file none_fit)
 
-pub file_read : {word rest numbers : List ℕ} {command : ℕ → ℕ → Command} {sub ino : ℕ} → TellsFile word command → AreNumbers 2 rest numbers
+pub file_read : {word rest numbers : List ℕ} {command : ℕ → ℕ → Command} {sub ino : ℕ} → TellsFile word command
+    → AreNumbers 2 rest numbers
     → IsReadAs sub ino (get_or numbers 0 0) (get_or numbers 1 0) → IsTextOf (word ++ rest) (command sub ino)
 file_read {word} {rest} {numbers} {command} {sub} {ino} tells are of =
     let is = same_pair of.1 in
     let behind = are.whole ∙ ap (flat_map then_number) (two numbers are) in
-    rw (is.0, is.1) (record { spelled = ap (λ (xs : List ℕ). word ++ xs) behind ∙ sym (tells.text _ _); in_grammar = tells.grammar _ _ ∙ of.0 })
+    rw (is.0, is.1) (record {
+      spelled = ap (λ (xs : List ℕ). word ++ xs) behind ∙ sym (tells.text _ _);
+      in_grammar = tells.grammar _ _ ∙ of.0;
+    })
 
 pub unlink_tells : TellsFile (codes "unlink") Unlink
 unfolding command_text is_in_grammar
 unlink_tells = record { text = λ sub ino. simp (append_assoc, append-nil); grammar = λ sub ino. refl }
 
-pub only_unlink : (P : Command → Type 0) (rest : List ℕ) → ((sub ino : ℕ) → is_file sub ino → AreNumbers 2 rest (sub ∷ ino ∷ []) → P (Unlink sub ino))
+pub only_unlink : (P : Command → Type 0) (rest : List ℕ)
+    → ((sub ino : ℕ) → is_file sub ino → AreNumbers 2 rest (sub ∷ ino ∷ []) → P (Unlink sub ino))
     → (command : Command) → IsTextOf (codes "unlink" ++ rest) command → P command
 unfolding command_text is_in_grammar
-only_unlink P rest unlink (Unlink sub ino) is = unlink sub ino is.in_grammar (file_numbers unlink_tells is.in_grammar is)
+only_unlink P rest unlink (Unlink sub ino) is =
+    unlink sub ino is.in_grammar (file_numbers unlink_tells is.in_grammar is)
 only_unlink P rest unlink command is = let first = ap mark is.spelled in absurd (omega (arith, first))
 
 pub ls_tells : TellsFile (codes "ls") Ls
 unfolding command_text is_in_grammar
 ls_tells = record { text = λ sub ino. simp (append_assoc, append-nil); grammar = λ sub ino. refl }
 
-pub only_ls : (P : Command → Type 0) (rest : List ℕ) → ((sub ino : ℕ) → is_file sub ino → AreNumbers 2 rest (sub ∷ ino ∷ []) → P (Ls sub ino))
+pub only_ls : (P : Command → Type 0) (rest : List ℕ)
+    → ((sub ino : ℕ) → is_file sub ino → AreNumbers 2 rest (sub ∷ ino ∷ []) → P (Ls sub ino))
     → (command : Command) → IsTextOf (codes "ls" ++ rest) command → P command
 unfolding command_text is_in_grammar
 only_ls P rest ls (Ls sub ino) is = ls sub ino is.in_grammar (file_numbers ls_tells is.in_grammar is)
@@ -271,7 +310,8 @@ pub delete_text : (sub : ℕ) → command_text (Delete sub) ≡ codes "delete" +
 unfolding command_text
 delete_text sub = simp (append-nil)
 
-pub only_delete : (P : Command → Type 0) (rest : List ℕ) → ((sub : ℕ) → is_sub_word sub ≡ true → AreNumbers 1 rest (sub ∷ []) → P (Delete sub))
+pub only_delete : (P : Command → Type 0) (rest : List ℕ)
+    → ((sub : ℕ) → is_sub_word sub ≡ true → AreNumbers 1 rest (sub ∷ []) → P (Delete sub))
     → (command : Command) → IsTextOf (codes "delete" ++ rest) command → P command
 unfolding command_text is_in_grammar
 only_delete P rest delete (Delete sub) is =
@@ -283,21 +323,30 @@ pub delete_read : {rest numbers : List ℕ} {sub : ℕ} → AreNumbers 1 rest nu
 unfolding is_in_grammar
 delete_read {rest} {numbers} {sub} are of =
     let behind = are.whole ∙ ap (flat_map then_number) (one numbers are) in
-    rw (of.1) (record { spelled = ap (λ (xs : List ℕ). codes "delete" ++ xs) behind ∙ sym (delete_text _); in_grammar = of.0 })
+    rw (of.1) (record {
+      spelled = ap (λ (xs : List ℕ). codes "delete" ++ xs) behind ∙ sym (delete_text _);
+      in_grammar = of.0;
+    })
 
 pub owners_text : (address : ℕ) → command_text (Owners address) ≡ codes "owners" ++ flat_map then_number (address ∷ [])
 unfolding command_text
 owners_text address = simp (append-nil)
 
-pub only_owners : (P : Command → Type 0) (rest : List ℕ) → ((address : ℕ) → AreNumbers 1 rest (address ∷ []) → P (Owners address))
+pub only_owners : (P : Command → Type 0) (rest : List ℕ)
+    → ((address : ℕ) → AreNumbers 1 rest (address ∷ []) → P (Owners address))
     → (command : Command) → IsTextOf (codes "owners" ++ rest) command → P command
 unfolding command_text is_in_grammar
 only_owners P rest owners (Owners address) is =
-    owners address (numbers_of (codes "owners") (is.spelled ∙ owners_text address) (word_fits address [] is.in_grammar none_fit))
+    owners address (numbers_of (codes "owners") (is.spelled ∙ owners_text address)
+    (word_fits address [] is.in_grammar none_fit))
 only_owners P rest owners command is = let first = ap mark is.spelled in absurd (omega (arith, first))
 
-pub owners_read : {rest numbers : List ℕ} → AreNumbers 1 rest numbers → IsTextOf (codes "owners" ++ rest) (Owners (get_or numbers 0 0))
+pub owners_read : {rest numbers : List ℕ} → AreNumbers 1 rest numbers
+    → IsTextOf (codes "owners" ++ rest) (Owners (get_or numbers 0 0))
 unfolding is_in_grammar
 owners_read {rest} {numbers} are =
     let behind = are.whole ∙ ap (flat_map then_number) (one numbers are) in
-    record { spelled = ap (λ (xs : List ℕ). codes "owners" ++ xs) behind ∙ sym (owners_text _); in_grammar = word_at 0 are (lit< tt) }
+    record {
+      spelled = ap (λ (xs : List ℕ). codes "owners" ++ xs) behind ∙ sym (owners_text _);
+      in_grammar = word_at 0 are (lit< tt);
+    }

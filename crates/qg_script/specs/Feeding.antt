@@ -1,5 +1,6 @@
 -- What was taken of a source, as callers see it (this project's own).
-use Rattle.std.specs.Prelude.{◌≡◌, ◌≢◌, ℕ, ◌+◌, ◌-◌, ◌<◌, ◌≤◌, List, ◌∷◌, ◌++◌, length, take, drop, slice_index, All, Contains, Option}
+use Rattle.std.specs.Prelude.{◌≡◌, ◌≢◌, ℕ, ◌+◌, ◌-◌, ◌<◌, ◌≤◌, List, ◌∷◌, ◌++◌, length, take, drop, slice_index, All}
+use Rattle.std.specs.Prelude.{Contains, Option}
 use Rattle.std.specs.List.{AllWithin}
 use Rattle.std.specs.Io.KnownBytes.{prepend_known, IsAtEnd}
 use Rattle.qg_grammar.specs.ScriptText.{longest_script}
@@ -15,7 +16,8 @@ pub record IsWithinLimit (feeding : Feeding) : Type 0 where
   pub held : length feeding.rest ≤ feeding.taken
   pub handed_out : feeding.taken ≤ longest_script + length feeding.rest
 
--- what a feed holds lies between two places of a buffer of so many bytes, which is no longer than the longest script asks for
+-- what a feed holds lies between two places of a buffer of so many bytes, which is no longer than the longest script
+-- asks for
 pub record IsFed (size handed filled : ℕ) (feeding : Feeding) : Type 0 where
   pub order : handed ≤ filled
   pub bound : filled ≤ size

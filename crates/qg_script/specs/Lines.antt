@@ -27,7 +27,8 @@ pub record IsOver (old new : Option (List ℕ)) (held : List ℕ) : Type 0 where
   pub same : new ≡ old
   pub none_held : held ≡ []
 
--- the count of what was taken rose by as many bytes as the source lost; what it has left is told after the call exactly where it was before
+-- the count of what was taken rose by as many bytes as the source lost; what it has left is told after the call exactly
+-- where it was before
 abbrev pub CountsTaken : Option (List ℕ) → Option (List ℕ) → ℕ → ℕ → Type 0
 CountsTaken None None before now = ⊤
 CountsTaken None (Some new) before now = ⊥

@@ -1,16 +1,20 @@
 -- What a call that reads a line does (this project's own).
-use Rattle.std.specs.Prelude.{◌≡◌, ℕ, ◌≤◌, ◌<◌, List, length, Option, Result, Err, IfOk, IfSome, IfNone, IsOkAnd, IsSomeAnd, OnErr, OnSome}
+use Rattle.std.specs.Prelude.{◌≡◌, ℕ, ◌≤◌, ◌<◌, List, length, Option, Result, Err, IfOk, IfSome, IfNone, IsOkAnd}
+use Rattle.std.specs.Prelude.{IsSomeAnd, OnErr, OnSome}
 use Rattle.qg_script.specs.declared.fault.LineFault.{LineFault}
 use Rattle.qg_script.specs.declared.fault.LineFault.TheVariants.{TooLong}
 use Rattle.qg_script.specs.declared.line.Line.{Line}
-use Rattle.qg_script.specs.Feeding.{Feeding, IsWithinLimit, IsTooLong, HoldsLine, HandsOutHeld, handed_out, most_to_come}
+use Rattle.qg_script.specs.Feeding.{Feeding, IsWithinLimit, IsTooLong, HoldsLine, HandsOutHeld, handed_out}
+use Rattle.qg_script.specs.Feeding.{most_to_come}
 use Rattle.qg_script.specs.LineBytes.{line_bytes}
 use Rattle.qg_script.specs.Lines.{pending, TakesLine, IsOver, CountsTaken}
 
 -- the result of a call, by the feed and what its source has left: before the call, and once the line is let go
-pub record ReadsLine (result : Result (Option Line) LineFault) (old new : Feeding) (before after : Option (List ℕ)) : Type 0 where
+pub record ReadsLine (result : Result (Option Line) LineFault) (old new : Feeding)
+    (before after : Option (List ℕ)) : Type 0 where
   -- the line is the first of what was pending, and there is none exactly where nothing was
-  pub line : IfOk result (λ found. IfSome found (λ line. TakesLine (pending old before) (pending new after) (line_bytes line)))
+  pub line : IfOk result (λ found. IfSome found (λ line. TakesLine (pending old before) (pending new after)
+      (line_bytes line)))
   pub over : IfOk result (λ found. IfNone found (IsOver (pending old before) (pending new after) new.rest))
   -- no byte is lost where there is no line
   pub err : OnErr result (pending new after ≡ pending old before)
@@ -24,7 +28,8 @@ pub record ReadsLine (result : Result (Option Line) LineFault) (old new : Feedin
   pub within : IsWithinLimit new
   pub shrinks : IfOk result (λ found. OnSome found (most_to_come new < most_to_come old))
 
--- a line ends at a place of what is held, and once it is handed out no byte past the longest script is, and less is to come
+-- a line ends at a place of what is held, and once it is handed out no byte past the longest script is, and less is to
+-- come
 pub record EndsWithin (old new : Feeding) (end : ℕ) : Type 0 where
   pub bound : end ≤ length new.rest
   pub within : IsWithinLimit (handed_out new end)

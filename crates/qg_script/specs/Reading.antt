@@ -1,9 +1,11 @@
 -- How a line is read from its front (this project's own).
-use Rattle.std.specs.Prelude.{◌≡◌, ◌≢◌, ℕ, ◌<◌, ◌^◌, List, [], ◌∷◌, ◌++◌, length, All, Option, IfSome, IfNone, IsTrue, codes}
+use Rattle.std.specs.Prelude.{◌≡◌, ◌≢◌, ℕ, ◌<◌, ◌^◌, List, [], ◌∷◌, ◌++◌, length, All, Option, IfSome, IfNone, IsTrue}
+use Rattle.std.specs.Prelude.{codes}
 use Rattle.std.specs.List.{flat_map}
 use Rattle.qg_num.specs.declared.command.Command.{Command}
 use Rattle.qg_num.specs.declared.counters.Which.{Which}
-use Rattle.qg_grammar.specs.ScriptText.{command_text, is_in_grammar, is_limit_word, inherit_text, maximum_text, then_group, then_number, then_word, which_text}
+use Rattle.qg_grammar.specs.ScriptText.{command_text, is_in_grammar, is_limit_word, inherit_text, maximum_text}
+use Rattle.qg_grammar.specs.ScriptText.{then_group, then_number, then_word, which_text}
 
 -- what may stand behind a word: nothing, or what begins with a space
 abbrev pub IsBehindWord : List ℕ → Type 0

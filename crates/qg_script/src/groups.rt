@@ -80,8 +80,8 @@ fn groups_of(alloc: Global, text: &[u8]) -> Result<Option<GroupList>, NoMemory>
     Ok(Some(groups))
 }
 
-/// The groups that a snapshot's group is put into: those behind the word `inherit`, of which there is one at least, or none where the
-/// text is empty; `None` for any other text.
+/// The groups that a snapshot's group is put into: those behind the word `inherit`, of which there is one at least, or
+/// none where the text is empty; `None` for any other text.
 pub(crate) fn inherited(alloc: Global, text: &[u8]) -> Result<Option<GroupList>, NoMemory>
     ensures found { IfOk result (λ found. IfSome found (IsInherited text.now)) }
     ensures none { IfOk result (λ found. IfNone found ((groups : List ℕ) → IsInherited text.now groups → ⊥)) }

@@ -25,8 +25,8 @@ fn newline_from(bytes: &[u8], from: usize) -> Option<usize>
     None
 }
 
-// Where the next line ends in what the feed then holds: at its first newline, or at the end of it; `None` exactly where nothing is
-// pending.
+// Where the next line ends in what the feed then holds: at its first newline, or at the end of it; `None` exactly where
+// nothing is pending.
 fn line_end<S: Source>(feed: &mut Feed, source: &mut S) -> Result<Option<usize>, LineFault>
     ensures ends { IfOk result (λ found. IfSome found (EndsWithin feed.old feed.new)) }
     ensures line { IfOk result (λ found. IfSome found (λ end. TakesLine
@@ -63,9 +63,9 @@ fn line_end<S: Source>(feed: &mut Feed, source: &mut S) -> Result<Option<usize>,
     }
 }
 
-/// The next line of what is pending, which is what the feed holds and then what the source has left; `None` exactly where that is
-/// nothing (this project's own). A line that does not end within the first 67108864 bytes of the script is too long. The feed lends
-/// the line, and takes nothing more before it is let go.
+/// The next line of what is pending, which is what the feed holds and then what the source has left; `None` exactly
+/// where that is nothing (this project's own). A line that does not end within the first 67108864 bytes of the script
+/// is too long. The feed lends the line, and takes nothing more before it is let go.
 pub fn next_line<'a, S: Source>(
     feed: &'a mut Feed,
     source: &mut S,

@@ -216,8 +216,8 @@ fn command_of(alloc: Global, text: &[u8]) -> Result<Option<Command>, NoMemory>
     }
 }
 
-/// The command that has this line, and `None` exactly where there is none (this project's own). Only a line that begins with the word
-/// of a snapshot, whose list of groups it keeps, takes memory.
+/// The command that has this line, and `None` exactly where there is none (this project's own). Only a line that begins
+/// with the word of a snapshot, whose list of groups it keeps, takes memory.
 pub fn parse_line(alloc: Global, line: &[u8]) -> Result<Option<Command>, NoMemory>
     ensures found { IfOk result (λ found. IfSome found (IsLineOf line.now)) }
     ensures none { IfOk result (λ found. IfNone found ((command : Command) → IsLineOf line.now command → ⊥)) }

@@ -18,15 +18,24 @@ use Rattle.qg_shape.proofs.Weights.{sum_by-same}
 abbrev pub pointer_bytes : Pointer → ℕ
 pointer_bytes _ = 33
 
-filled : (nodesize : ℕ) (header : Header) (pointers : List Pointer) → 101 ≤ nodesize → Fills (capacity nodesize) (sum_by pointer_bytes pointers) → IsFilled nodesize (Inner header pointers)
+filled : (nodesize : ℕ) (header : Header) (pointers : List Pointer) → 101 ≤ nodesize
+    → Fills (capacity nodesize) (sum_by pointer_bytes pointers) → IsFilled nodesize (Inner header pointers)
 filled nodesize header pointers wide fills =
     let weighs = sum_by-same 33 pointers in
     record { fits = omega (arith, weighs, fills.fits); full = omega (arith, weighs, fills.full) }
 
-pub IsSplit-inner : (nodesize address : ℕ) (header told : Header) (all front rest : List Pointer) → 101 ≤ nodesize → told ≡ header → IsCut pointer_bytes (capacity nodesize) all front rest
-    → IsSplit nodesize address (Inner header all) (Inner header front) (Inner (record { address = address; generation = told.generation; owner = told.owner; level = told.level }) rest)
+pub IsSplit-inner : (nodesize address : ℕ) (header told : Header) (all front rest : List Pointer) → 101 ≤ nodesize
+    → told ≡ header → IsCut pointer_bytes (capacity nodesize) all front rest
+    → IsSplit nodesize address (Inner header all) (Inner header front)
+    (Inner (record { address = address; generation = told.generation; owner = told.owner; level = told.level })
+    rest)
 IsSplit-inner nodesize address header told all front rest wide same cut =
-    let made : Header = record { address = address; generation = told.generation; owner = told.owner; level = told.level } in
+    let made : Header = record {
+      address = address;
+      generation = told.generation;
+      owner = told.owner;
+      level = told.level;
+    } in
     record {
       whole = ap (λ (pointers : List Pointer). Inner header pointers) cut.whole;
       alike = tt;
@@ -35,9 +44,11 @@ IsSplit-inner nodesize address header told all front rest wide same cut =
       rest_filled = filled nodesize made rest wide cut.rest_fills;
     }
 
-pub IsJoined-inner : (nodesize : ℕ) (header header' : Header) (left right new_left new_right : List Pointer) (joined : Result Joined NoMemory) → 101 ≤ nodesize
+pub IsJoined-inner : (nodesize : ℕ) (header header' : Header) (left right new_left new_right : List Pointer)
+    (joined : Result Joined NoMemory) → 101 ≤ nodesize
     → IfOk joined (λ joined. AreJoined pointer_bytes (capacity nodesize) (left ++ right) new_left new_right joined)
-    → IfOk joined (λ joined. IsJoined nodesize (Inner header left) (Inner header' right) (Inner header new_left) (Inner header' new_right) joined)
+    → IfOk joined (λ joined. IsJoined nodesize (Inner header left) (Inner header' right) (Inner header new_left)
+    (Inner header' new_right) joined)
 IsJoined-inner nodesize header header' left right new_left new_right (Ok Whole) wide one =
     let weighs = sum_by-same 33 (left ++ right) in
     record {

@@ -15,7 +15,8 @@ pub record AreSamples (size : ℕ) (items : List Item) (count : ℕ) : Type 0 wh
 pub AreSamples-none : (size : ℕ) → AreSamples size [] 0
 AreSamples-none size = record { counted = refl; short = All-nil (λ item. length item.body ≤ 1024); bytes = omega arith }
 
-pub AreSamples-more : (size : ℕ) (items : List Item) (count : ℕ) (item : Item) → length item.body ≡ size → size ≤ 1024 → AreSamples size items count → AreSamples size (items ++ item ∷ []) (count + 1)
+pub AreSamples-more : (size : ℕ) (items : List Item) (count : ℕ) (item : Item) → length item.body ≡ size → size ≤ 1024
+    → AreSamples size items count → AreSamples size (items ++ item ∷ []) (count + 1)
 AreSamples-more size items count item long least are = record {
   counted = length-append items (item ∷ []) ∙ omega (arith, are.counted);
   short = All-push (λ item. length item.body ≤ 1024) items item are.short (omega (arith, long, least));

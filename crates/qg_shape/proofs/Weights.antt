@@ -12,8 +12,10 @@ sum_by-same n [] = omega arith
 sum_by-same n (x ∷ xs) = sum_by-cons (λ _. n) x xs ∙ rw (sum_by-same n xs) (omega arith)
 
 -- the items or pointers of two nodes use what both use
-pub used_bytes-whole_of : (left right : Node) → AreAlike left right → used_bytes (whole_of left right) ≡ used_bytes left + used_bytes right
+pub used_bytes-whole_of : (left right : Node) → AreAlike left right
+    → used_bytes (whole_of left right) ≡ used_bytes left + used_bytes right
 used_bytes-whole_of (Leaf header items) (Leaf header' others) alike = sum_by-append item_bytes items others
 used_bytes-whole_of (Leaf header items) (Inner header' pointers) alike = absurd alike
 used_bytes-whole_of (Inner header pointers) (Leaf header' items) alike = absurd alike
-used_bytes-whole_of (Inner header pointers) (Inner header' others) alike = rw (length-append pointers others) (omega arith)
+used_bytes-whole_of (Inner header pointers) (Inner header' others) alike =
+    rw (length-append pointers others) (omega arith)

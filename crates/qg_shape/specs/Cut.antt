@@ -36,4 +36,5 @@ pub record IsOne {A : Type 0} (weight : A → ℕ) (room : ℕ) (all new_left ne
 -- what became of two lists, by what was answered
 abbrev pub AreJoined : {A : Type 0} → (A → ℕ) → ℕ → List A → List A → List A → Joined → Type 0
 AreJoined weight room all new_left new_right Whole = IsOne weight room all new_left new_right
-AreJoined weight room all new_left new_right Parted = (room < sum_by weight all) × IsCut weight room all new_left new_right
+AreJoined weight room all new_left new_right Parted = (room < sum_by weight all)
+    × IsCut weight room all new_left new_right

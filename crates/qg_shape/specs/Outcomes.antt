@@ -7,7 +7,8 @@ use Rattle.qg_shape.specs.declared.joining.Joined.TheVariants.{Whole, Parted}
 use Rattle.qg_shape.specs.Parts.{AreAlike, whole_of, emptied}
 use Rattle.qg_shape.specs.Filled.{Fits, IsFilled}
 
--- a node kept a front of its items or pointers, and a node at another address has the rest, with the same header else; both are filled
+-- a node kept a front of its items or pointers, and a node at another address has the rest, with the same header else;
+-- both are filled
 pub record IsSplit (nodesize address : ℕ) (old front rest : Node) : Type 0 where
   pub whole : whole_of front rest ≡ old
   pub alike : AreAlike front rest

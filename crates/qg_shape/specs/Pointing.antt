@@ -12,4 +12,8 @@ first_key (key ∷ keys) = key
 
 -- the pointer that leads to a node
 abbrev pub pointer_to : Node → Pointer
-pointer_to node = record { key = first_key (own_keys node); child = (header_of node).address; generation = (header_of node).generation }
+pointer_to node = record {
+  key = first_key (own_keys node);
+  child = (header_of node).address;
+  generation = (header_of node).generation;
+}

@@ -7,7 +7,8 @@ use crate::part::Weighed;
 
 /// Where a list is cut that takes `total`, too much for one node. `newest` is the index of what was put in last.
 ///
-/// Where keys come in ascending, what is put in last is the last one. The front gets no more then, so it is left as full as can be. Else both parts get about a half.
+/// Where keys come in ascending, what is put in last is the last one. The front gets no more then, so it is left as
+/// full as can be. Else both parts get about a half.
 pub(crate) fn cut_index<T: Weighed>(list: &[T], room: u64, total: u64, newest: usize) -> usize
     requires light { All (λ x. T.weight x ≤ 1049) list.now }
     requires total { total ≡ sum_by T.weight list.now }
@@ -44,7 +45,8 @@ fn longest_front<T: Weighed>(list: &[T], most: u64) -> usize
     unreachable!()
 }
 
-/// How many of a list, from its first on, take about as many bytes as are aimed at: one more or one less comes no nearer.
+/// How many of a list, from its first on, take about as many bytes as are aimed at: one more or one less comes no
+/// nearer.
 pub(crate) fn nearest_front<T: Weighed>(list: &[T], aim: u64) -> usize
     requires light { All (λ x. T.weight x ≤ 1049) list.now }
     requires heavy { aim < sum_by T.weight list.now }

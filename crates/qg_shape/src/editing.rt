@@ -1,5 +1,6 @@
 // A node with one item or pointer more, less or changed.
-ghost use Rattle.std.specs.Prelude.{◌≡◌, ◌+◌, ◌≤◌, ◌<◌, length, insert, remove, slice_get, slice_set, Some, OnOk, OnErr};
+ghost use Rattle.std.specs.Prelude.{◌≡◌, ◌+◌, ◌≤◌, ◌<◌, length, insert, remove, slice_get, slice_set, Some, OnOk};
+ghost use Rattle.std.specs.Prelude.{OnErr};
 ghost use Rattle.qg_node.specs.declared.item.Item.{Item};
 ghost use Rattle.qg_node.specs.Nodes.{own_items, own_pointers};
 ghost use Rattle.qg_shape.specs.Parts.{IsInner, IsLeaf, with_items, with_pointers};
@@ -7,7 +8,8 @@ ghost use Rattle.qg_shape.specs.Parts.{IsInner, IsLeaf, with_items, with_pointer
 use qg_node::{Body, Item, Node, Pointer};
 use qg_num::NoMemory;
 
-/// Puts an item into a leaf, in front of the one at a place or at the end. Where memory is refused, the leaf stays as it was and the item is dropped.
+/// Puts an item into a leaf, in front of the one at a place or at the end. Where memory is refused, the leaf stays as
+/// it was and the item is dropped.
 pub fn insert_item(node: &mut Node, place: usize, item: Item) -> Result<(), NoMemory>
     requires leaf { IsLeaf node.old }
     requires place { place ≤ length (own_items node.old) }

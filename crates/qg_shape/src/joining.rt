@@ -21,8 +21,8 @@ pub enum Joined {
     Parted,
 }
 
-/// Joins two neighbours of one level, of which one isn't a quarter full: into the left one where that fits, and else both take about a half. Where memory is refused, both stay
-/// as they were.
+/// Joins two neighbours of one level, of which one isn't a quarter full: into the left one where that fits, and else
+/// both take about a half. Where memory is refused, both stay as they were.
 pub fn join(left: &mut Node, right: &mut Node, nodesize: u32) -> Result<Joined, NoMemory>
     requires size { IsNodeSize nodesize }
     requires alike { AreAlike left.old right.old }
@@ -125,7 +125,8 @@ fn move_right<T: Part>(
     Ok(())
 }
 
-// Moves so many from the front of the right list to the end of the left one. Where memory is refused, both stay as they were.
+// Moves so many from the front of the right list to the end of the left one. Where memory is refused, both stay as they
+// were.
 fn move_left<T: Part>(
     left: &mut Sequence<T>,
     right: &mut Sequence<T>,

@@ -20,7 +20,8 @@ pub fn find_item(items: &[Item], key: Key) -> Result<usize, usize>
     }
 }
 
-/// The place of the pointer whose child may have a key: the last one whose key isn't greater, or the first where each key is.
+/// The place of the pointer whose child may have a key: the last one whose key isn't greater, or the first where each
+/// key is.
 pub fn child_for(pointers: &[Pointer], key: Key) -> usize
     requires some { 0 < length pointers.now }
     requires ascending { IsTrue (is_ascending (map (λ pointer. pointer.key) pointers.now)) }

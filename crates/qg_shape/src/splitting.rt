@@ -12,10 +12,11 @@ use crate::part::Part;
 use qg_node::{HEADER_BYTES, Header, Node};
 use qg_num::{Address, NoMemory, Sequence};
 
-/// Cuts a node in two that has too much by an item at most: it keeps a front, and the answer has the rest, at another address. Where memory is refused, it stays as it was.
+/// Cuts a node in two that has too much by an item at most: it keeps a front, and the answer has the rest, at another
+/// address. Where memory is refused, it stays as it was.
 ///
-/// `newest` is where the item or pointer stands that was put in last. Where that is the last one, as where keys come in ascending, the front is left as full as can be; else
-/// both parts take about a half.
+/// `newest` is where the item or pointer stands that was put in last. Where that is the last one, as where keys come in
+/// ascending, the front is left as full as can be; else both parts take about a half.
 pub fn split(
     node: &mut Node,
     nodesize: u32,

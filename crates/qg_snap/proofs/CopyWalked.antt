@@ -1,6 +1,7 @@
 -- The copy of a root, by another subvolume and of the generation to come, is a root: the walk meets no failure
 -- there, and finds the same items.
-use Rattle.std.proofs.Common.{◌≡◌, ℕ, zero, suc, ◌-◌, ◌<◌, ◌≤◌, Bool, true, List, [], ◌∷◌, Option, Some, None, refl, sym, ap, ◌∙◌}
+use Rattle.std.proofs.Common.{◌≡◌, ℕ, zero, suc, ◌-◌, ◌<◌, ◌≤◌, Bool, true, List, [], ◌∷◌, Option, Some, None, refl}
+use Rattle.std.proofs.Common.{sym, ap, ◌∙◌}
 use Rattle.std.specs.Prelude.{◌&&◌, Ok, nat_le, nat_lt}
 use Rattle.std.specs.List.{list_all}
 use Rattle.std.specs.Option.{option_and_then}
@@ -20,7 +21,8 @@ use Rattle.qg_image.specs.declared.failure.Failure.{Failure}
 use Rattle.qg_image.specs.declared.tree.Tree.TheVariants.{Files}
 use Rattle.qg_image.specs.Failure.{first_failure, unless}
 use Rattle.qg_image.specs.Among.{found_there}
-use Rattle.qg_image.specs.Walk.{found_failure, is_item_of, node_failure, pointers_failure, root_expected, shape_failure, walk_failure, way_failure}
+use Rattle.qg_image.specs.Walk.{found_failure, is_item_of, node_failure, pointers_failure, root_expected, shape_failure}
+use Rattle.qg_image.specs.Walk.{walk_failure, way_failure}
 use Rattle.qg_machine.specs.Step.{copy_of}
 use Rattle.qg_walk.proofs.Failures.{kept-none, neither}
 use Rattle.qg_descent.specs.Tree.{found_in}
@@ -83,7 +85,8 @@ root_none = root_expected None None
 
 module _ (super : Super) (generation copy address at : ℕ) (number : is_subvolume_number copy ≡ true)
     (some : 0 < generation) (by : generation ≤ super.generation) where
-  pub way_copied : (root : Node) → way_failure Files super root_none address (copy_of generation copy address root) ≡ None
+  pub way_copied : (root : Node) → way_failure Files super root_none address (copy_of generation copy address root)
+      ≡ None
   unfolding way_failure
   way_copied (Leaf header items) =
       four_none (is_subvolume_number copy) (true && nat_lt 0 generation && nat_le generation super.generation) address

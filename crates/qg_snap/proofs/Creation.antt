@@ -22,7 +22,8 @@ use Rattle.qg_image.specs.declared.tree.Tree.TheVariants.{Files}
 use Rattle.qg_image.specs.Among.{found_there}
 use Rattle.qg_image.specs.Failure.{unless}
 use Rattle.qg_image.specs.ItemsUnder.{is_way, nodes_of}
-use Rattle.qg_image.specs.Walk.{found_failure, is_item_of, node_failure, pointers_failure, root_expected, shape_failure, walk_failure, way_failure}
+use Rattle.qg_image.specs.Walk.{found_failure, is_item_of, node_failure, pointers_failure, root_expected, shape_failure}
+use Rattle.qg_image.specs.Walk.{walk_failure, way_failure}
 use Rattle.qg_machine.specs.Layout.{IsTreeOf, IsWhole, super_to_come}
 use Rattle.qg_machine.specs.Layout.{found_in as found_by}
 use Rattle.qg_machine.specs.Step.{CreatesSubvolume, empty_leaf}
@@ -66,7 +67,8 @@ module _ (super : Super) (generation sub address : ℕ) (number : is_subvolume_n
     leaf-walked depth =
         let judge = node_failure Files super in
         let walk = walk_failure judge (found_in nodes) depth in
-        ap (λ (o : Option Node). found_failure judge walk (root_expected None None) address (found_there o address)) here
+        ap (λ (o : Option Node). found_failure judge walk (root_expected None None) address (found_there o address))
+        here
         ∙ both_none (judge (root_expected None None) address leaf) (pointers_failure walk 0 None []) judged refl
 
     pub leaf-way : (depth : ℕ)
@@ -75,7 +77,8 @@ module _ (super : Super) (generation sub address : ℕ) (number : is_subvolume_n
     leaf-way depth =
         let judge = way_failure Files super in
         let walk = walk_failure judge (found_in nodes) depth in
-        ap (λ (o : Option Node). found_failure judge walk (root_expected None None) address (found_there o address)) here
+        ap (λ (o : Option Node). found_failure judge walk (root_expected None None) address (found_there o address))
+        here
         ∙ both_none (judge (root_expected None None) address leaf) (pointers_failure walk 0 None []) way_none refl
 
 -- ---- a state that has it

@@ -1,5 +1,6 @@
 -- What the calls of a snapshot do, where nodes, disk and book hold a state.
-use Rattle.std.proofs.Common.{◌≡◌, ℕ, ◌+◌, ◌<◌, ◌^◌, true, false, List, [], ◌∷◌, Option, Some, None, arith, refl, sym, ap, subst, ◌∙◌}
+use Rattle.std.proofs.Common.{◌≡◌, ℕ, ◌+◌, ◌<◌, ◌^◌, true, false, List, [], ◌∷◌, Option, Some, None, arith, refl, sym}
+use Rattle.std.proofs.Common.{ap, subst, ◌∙◌}
 use Rattle.std.specs.Prelude.{not}
 use Rattle.std.specs.Option.{option_map}
 use Rattle.std.proofs.lemmas.Option.{same_Some}
@@ -46,7 +47,8 @@ use Rattle.qg_snap.proofs.Copied.{nothing_else}
 use Rattle.qg_snap.proofs.Held.{IsDone, holds-then}
 use Rattle.qg_snap.proofs.CopyWalked.{copy-level}
 use Rattle.qg_snap.proofs.More.{OneMore}
-use Rattle.qg_snap.proofs.Putting.{address-low, counts-made, exchanged, no-node, no-value, nodes-small, noted-refs, number-fits}
+use Rattle.qg_snap.proofs.Putting.{address-low, counts-made, exchanged, no-node, no-value, nodes-small, noted-refs}
+use Rattle.qg_snap.proofs.Putting.{number-fits}
 use Rattle.qg_snap.proofs.Referred.{free-none, free-slot, free-state}
 use Rattle.qg_snap.proofs.Room.{can-give}
 use Rattle.qg_snap.proofs.Snapped.{copy-address, copy-tree, more, owes-children}

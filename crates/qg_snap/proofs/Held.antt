@@ -23,7 +23,8 @@ use Rattle.qg_tree_refs.specs.Exchange.{Exchanges, Gives, times}
 use Rattle.qg_tree_refs.specs.Following.{coming_of}
 use Rattle.qg_tree_refs.specs.Settled.{IsSettled}
 use Rattle.qg_forest.specs.Standing.{HoldsState, IsKnownRun}
-use Rattle.qg_snap.proofs.Copied.{bare-then, counts-then, known-then, marks-then, nodes-then, nothing_else, settled-then}
+use Rattle.qg_snap.proofs.Copied.{bare-then, counts-then, known-then, marks-then, nodes-then, nothing_else}
+use Rattle.qg_snap.proofs.Copied.{settled-then}
 use Rattle.qg_snap.proofs.Homed.{home-then}
 use Rattle.qg_snap.proofs.More.{OneMore, agrees-more, next-is}
 use Rattle.qg_snap.proofs.Named.{extents-then, numbers-then}

@@ -1,5 +1,6 @@
 -- With one subvolume more, each node that is not full is reached by its owner still.
-use Rattle.std.proofs.Common.{◌≡◌, ◌≢◌, ℕ, ◌≤◌, true, false, List, map, Option, Some, None, arith, refl, sym, ap, subst, ◌∙◌, inl, inr}
+use Rattle.std.proofs.Common.{◌≡◌, ◌≢◌, ℕ, ◌≤◌, true, false, List, map, Option, Some, None, arith, refl, sym, ap, subst}
+use Rattle.std.proofs.Common.{◌∙◌, inl, inr}
 use Rattle.std.specs.List.Sorted.{IsStrictlyIncreasing}
 use Rattle.std.specs.Option.{option_map}
 use Rattle.std.proofs.lemmas.Bool.{true≢false}
@@ -33,7 +34,8 @@ module _ (before : State) (whole : IsWhole before) where
   pub tree_at : (owner : ℕ) (subvolume : Subvolume) → value_at owner before.subvolumes ≡ Some subvolume
       → IsTreeOf before subvolume
   tree_at owner subvolume there =
-      each-there (λ (entry : ℕ × Subvolume). IsTreeOf before entry.1) owner subvolume before.subvolumes whole.trees there
+      each-there (λ (entry : ℕ × Subvolume). IsTreeOf before entry.1) owner subvolume before.subvolumes whole.trees
+      there
 
   -- what a subvolume's tree reaches is a node of the layout
   pub tree-reached : (subvolume : Subvolume) → IsTreeOf before subvolume → (q : ℕ)

@@ -1,5 +1,5 @@
--- What a book knows once a node was told as made, and references were given: what it knew, and of what came that it is of
--- the generation to come.
+-- What a book knows once a node was told as made, and references were given: what it knew, and of what came that it is
+-- of the generation to come.
 use Rattle.std.proofs.Common.{◌≡◌, ℕ, Bool, true, false, List, Option, Some, None, refl, sym, ap, ◌∙◌, inl, inr}
 use Rattle.std.specs.Prelude.{◌⊎◌, if◌then◌else◌, ◌==◌}
 use Rattle.std.specs.Option.{option_or}

@@ -64,7 +64,8 @@ module _ (before after : State) (sub : ℕ) (more : OneMore before after sub) wh
         ≡ times (way_to more.made.root sub ∷ []) at reference
         + times (flat_map root_owes (map root_entry before.subvolumes)) at reference
     roots_more =
-        let table = ap (λ (table : List (ℕ × Subvolume)). times (flat_map root_owes (map root_entry table)) at reference)
+        let table = ap (λ (table : List (ℕ × Subvolume)). times (flat_map root_owes (map root_entry table)) at
+        reference)
         more.subvolumes in
         let first = times-mapped root_entry root_owes (with_value sub more.made more.others) at reference in
         let comes = times-with (λ (entry : ℕ × Subvolume). root_owes (root_entry entry)) sub more.made at reference

@@ -1,5 +1,6 @@
 -- A snapshot is one subvolume more: its root is a copy of the source's, and its files are the source's.
-use Rattle.std.proofs.Common.{◌≡◌, ◌≢◌, ℕ, ◌≤◌, Bool, true, false, List, [], ◌∷◌, ◌++◌, map, Option, Some, None, arith, refl, sym, ap, ◌∙◌}
+use Rattle.std.proofs.Common.{◌≡◌, ◌≢◌, ℕ, ◌≤◌, Bool, true, false, List, [], ◌∷◌, ◌++◌, map, Option, Some, None, arith}
+use Rattle.std.proofs.Common.{refl, sym, ap, ◌∙◌}
 use Rattle.std.specs.Prelude.{is_none}
 use Rattle.std.specs.List.{AllByRecursion, Contains, flat_map}
 use Rattle.std.specs.List.Sorted.{IsStrictlyIncreasing}
@@ -162,13 +163,15 @@ module _ (before after : State) (sub copy : ℕ) (parents : List ℕ) (snap : Sn
     by_next : next_generation before ≤ (super_to_come after).generation
     by_next = let same = next-is before after copy more in omega (arith, same)
 
-    source_under : (is_way Files (super_to_come after) (found_in after.layout) (root_expected None None) snap.source.root
+    source_under : (is_way Files (super_to_come after) (found_in after.layout)
+        (root_expected None None) snap.source.root
         ≡ true)
         × (items_below (nodes_of (found_in after.layout)) (level_of (node_at after.layout snap.source.root))
         snap.source.root
         ≡ Some source_tree.items)
     source_under =
-        when_some (is_way Files (super_to_come after) (found_in after.layout) (root_expected None None) snap.source.root)
+        when_some (is_way Files (super_to_come after) (found_in after.layout)
+        (root_expected None None) snap.source.root)
         (items_below (nodes_of (found_in after.layout)) (level_of (node_at after.layout snap.source.root))
         snap.source.root)
         source_tree.items source_tree.under

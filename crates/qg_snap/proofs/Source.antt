@@ -16,7 +16,8 @@ use Rattle.qg_image.specs.declared.failure.Failure.{Failure}
 use Rattle.qg_image.specs.declared.tree.Tree.TheVariants.{Files}
 use Rattle.qg_image.specs.Failure.{first_failure}
 use Rattle.qg_image.specs.Among.{found_there}
-use Rattle.qg_image.specs.Walk.{deepest, found_failure, is_generation, node_failure, pointers_failure, root_expected, shape_failure, walk_failure, way_failure}
+use Rattle.qg_image.specs.Walk.{deepest, found_failure, is_generation, node_failure, pointers_failure, root_expected}
+use Rattle.qg_image.specs.Walk.{shape_failure, walk_failure, way_failure}
 use Rattle.qg_machine.specs.Layout.{IsReached, IsTreeOf, IsWhole, found_in, super_to_come}
 use Rattle.qg_machine.specs.Refusals.{root_level}
 use Rattle.qg_walk.specs.Standing.{form_failure}

@@ -9,8 +9,8 @@ use Rattle.qg_descent.specs.Tree.{Root}
 use Rattle.qg_tree_refs.specs.Heavier.{BookGetsHeavier}
 use Rattle.qg_tree_refs.specs.declared.tree_refs.TreeRefs.{TreeRefs}
 
--- a book stays that of its subvolume, node size and generation to come, and what it knows of an address it knew before, or
--- that is of the generation to come
+-- a book stays that of its subvolume, node size and generation to come, and what it knows of an address it knew before,
+-- or that is of the generation to come
 pub record BookGoesOn (old new : TreeRefs) : Type 0 where
   pub tree : new.tree ≡ old.tree
   pub nodesize : new.nodesize ≡ old.nodesize
@@ -18,8 +18,8 @@ pub record BookGoesOn (old new : TreeRefs) : Type 0 where
   pub known : (at : ℕ) (what : What) → what_in (book_of new.refs at) ≡ Some what
       → (what_in (book_of old.refs at) ≡ Some what) ⊎ (what.generation ≡ old.next)
 
--- over any disk, a tree begins as this one, in a slot that was free, and at most one slot fewer is free. The book goes on,
--- and gets heavier by at most so many bytes
+-- over any disk, a tree begins as this one, in a slot that was free, and at most one slot fewer is free. The book goes
+-- on, and gets heavier by at most so many bytes
 pub record BeginsTree (old new : Ground) (before after : TreeRefs) (most : ℕ) (wanted tree : Root) : Type 0 where
   pub is : tree ≡ wanted
   pub free : IsTrue (is_free_slot old.space tree.address)

@@ -26,11 +26,12 @@ use qg_tree_refs::TreeRefs;
 use std::alloc::Global;
 use std::sync::ledger::Ledger;
 
-/// A new subvolume without files (btrfs-subvolume(8), "create"): an empty leaf in a free slot is its root. Nothing is read.
+/// A new subvolume without files (btrfs-subvolume(8), "create"): an empty leaf in a free slot is its root. Nothing is
+/// read.
 ///
 /// `book` is that of the new subvolume, whose number nothing is owed by, and `next` is the generation to come. `Image`
-/// comes with `refs` and the leaf's address where something has a reference to it already. After an `Err` nothing of it is
-/// of use.
+/// comes with `refs` and the leaf's address where something has a reference to it already. After an `Err` nothing of it
+/// is of use.
 pub fn create<D: Disk, L: Ledger>(
     alloc: Global,
     land: &mut Ground,
@@ -57,7 +58,8 @@ pub fn create<D: Disk, L: Ledger>(
     // Over any disk.
     ensures begun { IfOk result (λ tree. BeginsTree land.old land.new book.old book.new node_bytes
         (record { address = tree.address; height = 0; owner = sub; next = next }) tree) }
-    ensures rests { LeavesBe land.old land.new (D.history disk.old) (D.history disk.new) (D.size disk.old) (D.size disk.new)
+    ensures rests { LeavesBe land.old land.new (D.history disk.old) (D.history disk.new) (D.size disk.old)
+        (D.size disk.new)
         next }
     ensures cause { HasCause BlockFault.Disk (D.faults disk.old) (D.faults disk.new) result }
     ensures reads { reads.new ≤ reads.old + 1 }

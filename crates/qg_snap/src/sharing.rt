@@ -33,8 +33,8 @@ pub(crate) fn keyed_children(
 
 /// Gives references to what others refer to, in this order.
 ///
-/// `Image` comes with `refs` and an address where nothing has a reference, or where this one is there as often as one may
-/// be.
+/// `Image` comes with `refs` and an address where nothing has a reference, or where this one is there as often as one
+/// may be.
 pub(crate) fn give_all(book: &mut TreeRefs, owings: &[Owing]) -> Result<(), BlockFault>
     ensures given { OnOk result (Gives (book_of book.old.refs) (book_of book.new.refs) (owings_told owings.now)) }
     ensures proper { CanGive (book_of book.old.refs) (owings_told owings.now) → BreaksNone result }

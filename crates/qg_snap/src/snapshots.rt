@@ -25,12 +25,13 @@ use qg_tree_refs::TreeRefs;
 use std::alloc::Global;
 use std::sync::ledger::Ledger;
 
-/// A subvolume that begins as `source` is (btrfs-subvolume(8), "snapshot"): the source's root node is copied to a free slot,
-/// with the new subvolume as owner, and each child gets a keyed reference of the new subvolume. Nothing below is read.
+/// A subvolume that begins as `source` is (btrfs-subvolume(8), "snapshot"): the source's root node is copied to a free
+/// slot, with the new subvolume as owner, and each child gets a keyed reference of the new subvolume. Nothing below is
+/// read.
 ///
-/// `book` is that of the new subvolume, whose number nothing is owed by. `Image` comes where the source's root is not what
-/// is expected of it, and with `refs` where a child has no reference, or the new one already. After an `Err` nothing of it
-/// is of use.
+/// `book` is that of the new subvolume, whose number nothing is owed by. `Image` comes where the source's root is not
+/// what is expected of it, and with `refs` where a child has no reference, or the new one already. After an `Err`
+/// nothing of it is of use.
 pub fn snapshot<D: Disk, L: Ledger>(
     alloc: Global,
     land: &mut Ground,
@@ -60,7 +61,8 @@ pub fn snapshot<D: Disk, L: Ledger>(
     ensures begun { IfOk result (λ tree. BeginsTree land.old land.new book.old book.new
         (node_bytes + capacity land.old.space.sizes.nodesize)
         (record source.now { address = tree.address; owner = copy }) tree) }
-    ensures rests { LeavesBe land.old land.new (D.history disk.old) (D.history disk.new) (D.size disk.old) (D.size disk.new)
+    ensures rests { LeavesBe land.old land.new (D.history disk.old) (D.history disk.new) (D.size disk.old)
+        (D.size disk.new)
         source.now.next }
     ensures cause { HasCause BlockFault.Disk (D.faults disk.old) (D.faults disk.new) result }
     ensures reads { reads.new ≤ reads.old + 2 }

@@ -1,5 +1,6 @@
 -- The least number that passes a test.
-use Rattle.std.proofs.Common.{◌≡◌, ℕ, zero, suc, ◌+◌, ◌<◌, ◌≤◌, Bool, true, false, Some, None, refl, sym, ap, subst, ◌∙◌, arith, inl, inr}
+use Rattle.std.proofs.Common.{◌≡◌, ℕ, zero, suc, ◌+◌, ◌<◌, ◌≤◌, Bool, true, false, Some, None, refl, sym, ap, subst}
+use Rattle.std.proofs.Common.{◌∙◌, arith, inl, inr}
 use Rattle.std.proofs.lemmas.Bool.{cases_Bool, cases_eq}
 use Rattle.std.proofs.lemmas.Option.{none-some}
 use Rattle.qg_image.specs.Space.{least}
@@ -10,33 +11,39 @@ least_here test from count passes =
     let Gives : Bool → Type 0 = λ b. (elim b [ true ↦ Some from | false ↦ least test (from + 1) count ]) ≡ Some from in
     subst Gives (sym passes) refl
 
-least_later : (test : ℕ → Bool) (from count : ℕ) → test from ≡ false → least test from (suc count) ≡ least test (from + 1) count
+least_later : (test : ℕ → Bool) (from count : ℕ) → test from ≡ false
+    → least test from (suc count) ≡ least test (from + 1) count
 unfolding least
 least_later test from count fails =
-    let Gives : Bool → Type 0 = λ b. (elim b [ true ↦ Some from | false ↦ least test (from + 1) count ]) ≡ least test (from + 1) count in
+    let Gives : Bool → Type 0 = λ b. (elim b [ true ↦ Some from | false ↦ least test (from + 1) count ])
+    ≡ least test (from + 1) count in
     subst Gives (sym fails) refl
 
 least_zero : (test : ℕ → Bool) (from : ℕ) → least test from zero ≡ None
 unfolding least
 least_zero test from = refl
 
-pub least_none : (test : ℕ → Bool) (from count : ℕ) → ((k : ℕ) → from ≤ k → k < from + count → test k ≡ false) → least test from count ≡ None
+pub least_none : (test : ℕ → Bool) (from count : ℕ) → ((k : ℕ) → from ≤ k → k < from + count → test k ≡ false)
+    → least test from count ≡ None
 least_none test from zero all = least_zero test from
 least_none test from (suc count) all =
     least_later test from count (all from (omega arith) (omega arith))
     ∙ least_none test (from + 1) count (λ k low high. all k (omega (arith, low)) (omega (arith, high)))
 
-pub least_some : (test : ℕ → Bool) (from count k : ℕ) → from ≤ k → k < from + count → test k ≡ true → ((j : ℕ) → from ≤ j → j < k → test j ≡ false) → least test from count ≡ Some k
+pub least_some : (test : ℕ → Bool) (from count k : ℕ) → from ≤ k → k < from + count → test k ≡ true
+    → ((j : ℕ) → from ≤ j → j < k → test j ≡ false) → least test from count ≡ Some k
 least_some test from zero k low high passes before = absurd (omega (arith, low, high))
 least_some test from (suc count) k low high passes before = elim (cases_eq from k) [
   | inl is ↦ least_here test from count (subst (λ n. test n ≡ true) (sym is) passes) ∙ ap (λ n. Some n) is
   | inr less ↦
       least_later test from count (before from (omega arith) (omega (arith, low, less)))
-      ∙ least_some test (from + 1) count k (omega (arith, low, less)) (omega (arith, high)) passes (λ j low' high'. before j (omega (arith, low')) high')
+      ∙ least_some test (from + 1) count k (omega (arith, low, less)) (omega (arith, high)) passes
+      (λ j low' high'. before j (omega (arith, low')) high')
 ]
 
 -- tests that answer alike
-pub least_alike : (test other : ℕ → Bool) (from count : ℕ) → ((k : ℕ) → test k ≡ other k) → least test from count ≡ least other from count
+pub least_alike : (test other : ℕ → Bool) (from count : ℕ) → ((k : ℕ) → test k ≡ other k)
+    → least test from count ≡ least other from count
 least_alike test other from zero alike = least_zero test from ∙ sym (least_zero other from)
 least_alike test other from (suc count) alike = elim (cases_Bool (test from)) [
   | inl is ↦ least_here test from count is ∙ sym (least_here other from count (sym (alike from) ∙ is))
@@ -57,12 +64,14 @@ least_passes test from (suc count) k is = elim (cases_Bool (test from)) [
 ]
 
 -- where none is the least, none passes
-pub none_passes : (test : ℕ → Bool) (from count : ℕ) → least test from count ≡ None → (k : ℕ) → from ≤ k → k < from + count → test k ≡ false
+pub none_passes : (test : ℕ → Bool) (from count : ℕ) → least test from count ≡ None → (k : ℕ) → from ≤ k
+    → k < from + count → test k ≡ false
 none_passes test from zero none k low less = absurd (omega (arith, low, less))
 none_passes test from (suc count) none k low less = elim (cases_Bool (test from)) [
   | inl passes ↦ absurd (none-some from (sym none ∙ least_here test from count passes))
   | inr fails ↦ elim (cases_eq from k) [
     | inl is ↦ ap test (sym is) ∙ fails
-    | inr other ↦ none_passes test (from + 1) count (sym (least_later test from count fails) ∙ none) k (omega (arith, low, other)) (omega (arith, less))
+    | inr other ↦ none_passes test (from + 1) count (sym (least_later test from count fails) ∙ none) k
+        (omega (arith, low, other)) (omega (arith, less))
   ]
 ]

@@ -1,5 +1,7 @@
--- What the present state has of an image: how many slots, and how many bytes of runs. Addresses and lengths are in bytes.
-use Rattle.std.proofs.Common.{◌≡◌, ℕ, ◌+◌, ◌*◌, ◌<◌, ◌≤◌, Bool, true, false, List, [], ◌∷◌, ◌++◌, map, length, get_or, take, refl, sym, ap, subst, ◌∙◌, arith, inl, inr, cond}
+-- What the present state has of an image: how many slots, and how many bytes of runs. Addresses and lengths are in
+-- bytes.
+use Rattle.std.proofs.Common.{◌≡◌, ℕ, ◌+◌, ◌*◌, ◌<◌, ◌≤◌, Bool, true, false, List, [], ◌∷◌, ◌++◌, map, length, get_or}
+use Rattle.std.proofs.Common.{take, refl, sym, ap, subst, ◌∙◌, arith, inl, inr, cond}
 use Rattle.std.specs.List.{Contains, count_by, filter, range_with_len, sum_by}
 use Rattle.std.proofs.lemmas.Bool.{cases_Bool}
 use Rattle.std.proofs.lemmas.List.{append-nil, map-append}
@@ -38,7 +40,12 @@ pub taken_slots-le-slots : (holding : Holding) → taken_slots holding ≤ holdi
 unfolding taken_slots
 taken_slots-le-slots holding =
     let places = map (slot_at holding.sizes) (range_with_len 0 holding.sizes.slots) in
-    omega (arith, count_by-le-length (has_slot holding) places, length-map-range_with_len (slot_at holding.sizes) 0 holding.sizes.slots)
+    omega (
+      arith,
+      count_by-le-length (has_slot holding) places,
+      length-map-range_with_len
+          (slot_at holding.sizes) 0 holding.sizes.slots,
+    )
 
 -- each that it has is one of the image
 pub taken-slot : (sizes : Sizes) (runs : List Run) (slots : List Slot) → SlotsFit sizes → length slots ≡ sizes.slots
@@ -81,7 +88,8 @@ bytes_of_present (run ∷ runs) =
     elim (cases_Bool run.present) [
       | inl is ↦
           let here = ap (λ b. cond b run.extent.bytes 0) is in
-          let there = ap bytes_of (where_first (λ run. run.present) run runs is) ∙ sum_by-cons (λ (extent : Element). extent.bytes) run.extent (present_of runs) in
+          let there = ap bytes_of (where_first (λ run. run.present) run runs is)
+          ∙ sum_by-cons (λ (extent : Element). extent.bytes) run.extent (present_of runs) in
           omega (arith, rest, sums, here, there)
       | inr absent ↦
           let here = ap (λ b. cond b run.extent.bytes 0) absent in
@@ -105,7 +113,8 @@ bytes_from sizes from (run ∷ runs) within apart =
     omega (arith, rest, sums, here, apart.1)
 
 -- so they have no more than the data area
-pub bytes_within : (sizes : Sizes) (runs : List Run) → LieApart sizes data_begin runs → sum_by bytes_if_present runs ≤ sizes.sectors * sector
+pub bytes_within : (sizes : Sizes) (runs : List Run) → LieApart sizes data_begin runs
+    → sum_by bytes_if_present runs ≤ sizes.sectors * sector
 bytes_within sizes runs apart = omega (arith, bytes_from sizes data_begin runs (omega arith) apart)
 
 -- ---- the runs of the present state, one after the other

@@ -1,6 +1,7 @@
--- What the present state and the last commit hold of an image, and what is free of it (this project's own). Addresses and lengths are
--- in bytes.
-use Rattle.std.specs.Prelude.{ℕ, ◌+◌, ◌≤◌, Bool, IsTrue, ◌&&◌, not, List, [], ◌∷◌, ◌++◌, map, Option, ◌==◌, nat_le, if◌then◌else◌}
+-- What the present state and the last commit hold of an image, and what is free of it (this project's own). Addresses
+-- and lengths are in bytes.
+use Rattle.std.specs.Prelude.{ℕ, ◌+◌, ◌≤◌, Bool, IsTrue, ◌&&◌, not, List, [], ◌∷◌, ◌++◌, map, Option, ◌==◌, nat_le}
+use Rattle.std.specs.Prelude.{if◌then◌else◌}
 use Rattle.std.specs.List.{list_any, filter, count_by, range_with_len}
 use Rattle.std.specs.Option.{option_map}
 use Rattle.qg_super.specs.declared.sizes.Sizes.{Sizes}
@@ -28,7 +29,8 @@ is_clear sizes extents address bytes = is_run sizes address bytes && not (list_a
 
 -- the run of so many bytes with the least address that overlaps none of some extents
 unfoldable pub first_clear : Sizes → List Element → ℕ → Option ℕ
-first_clear sizes extents bytes = option_map sector_at (least (λ k. is_clear sizes extents (sector_at k) bytes) 0 sizes.sectors)
+first_clear sizes extents bytes =
+    option_map sector_at (least (λ k. is_clear sizes extents (sector_at k) bytes) 0 sizes.sectors)
 
 -- a run of whole sectors is free
 abbrev pub is_free_run : Holding → ℕ → ℕ → Bool
@@ -49,12 +51,14 @@ has_run holding address bytes = list_any (is_that_run address bytes) holding.run
 -- from an address on runs of whole sectors ascend, each ended where the next one begins or before
 abbrev pub AscendApart : Sizes → ℕ → List Element → Type 0
 AscendApart sizes from [] = Unit {0}
-AscendApart sizes from (run ∷ later) = IsTrue (is_run sizes run.address run.bytes) × (from ≤ run.address) × AscendApart sizes (run.address + run.bytes) later
+AscendApart sizes from (run ∷ later) = IsTrue (is_run sizes run.address run.bytes) × (from ≤ run.address)
+    × AscendApart sizes (run.address + run.bytes) later
 
 -- ascending runs, with this one
 abbrev pub with_run : Element → List Element → List Element
 with_run run [] = run ∷ []
-with_run run (first ∷ later) = if nat_le run.address first.address then run ∷ first ∷ later else first ∷ with_run run later
+with_run run (first ∷ later) = if nat_le run.address first.address then run ∷ first ∷ later else first
+    ∷ with_run run later
 
 -- the same without a run
 abbrev pub without_run : ℕ → ℕ → List Element → List Element
@@ -72,11 +76,13 @@ without_runs gone runs = filter (λ run. not (is_one_of gone run)) runs
 
 -- a node slot is free
 unfoldable pub is_free_slot : Holding → ℕ → Bool
-is_free_slot holding address = is_slot holding.sizes address && not (list_any (λ slot. slot == address) (holding.slots ++ holding.held_slots))
+is_free_slot holding address = is_slot holding.sizes address
+    && not (list_any (λ slot. slot == address) (holding.slots ++ holding.held_slots))
 
 -- the free slot with the least address
 unfoldable pub first_slot : Holding → Option ℕ
-first_slot holding = option_map (slot_at holding.sizes) (least (λ k. is_free_slot holding (slot_at holding.sizes k)) 0 holding.sizes.slots)
+first_slot holding = option_map (slot_at holding.sizes)
+    (least (λ k. is_free_slot holding (slot_at holding.sizes k)) 0 holding.sizes.slots)
 
 -- the free slots, ascending
 unfoldable pub free_list : Holding → List ℕ
@@ -84,7 +90,8 @@ free_list holding = filter (is_free_slot holding) (map (slot_at holding.sizes) (
 
 -- how many slots are free
 unfoldable pub free_slots : Holding → ℕ
-free_slots holding = count_by (is_free_slot holding) (map (slot_at holding.sizes) (range_with_len 0 holding.sizes.slots))
+free_slots holding = count_by (is_free_slot holding)
+    (map (slot_at holding.sizes) (range_with_len 0 holding.sizes.slots))
 
 -- the present state holds a slot
 abbrev pub has_slot : Holding → ℕ → Bool

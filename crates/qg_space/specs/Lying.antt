@@ -1,5 +1,6 @@
 -- How what is held lies, as it is kept (this project's own). Addresses and lengths are in bytes.
-use Rattle.std.specs.Prelude.{◌≡◌, ℕ, ◌+◌, ◌≤◌, Bool, ◌&&◌, ◌||◌, true, false, not, List, [], ◌∷◌, map, length, take, if◌then◌else◌, IsTrue}
+use Rattle.std.specs.Prelude.{◌≡◌, ℕ, ◌+◌, ◌≤◌, Bool, ◌&&◌, ◌||◌, true, false, not, List, [], ◌∷◌, map, length, take}
+use Rattle.std.specs.Prelude.{if◌then◌else◌, IsTrue}
 use Rattle.std.specs.List.{AllWithin, filter, count_by}
 use Rattle.qg_super.specs.declared.sizes.Sizes.{Sizes}
 use Rattle.qg_super.specs.Places.{data_begin, is_run, is_served, slot_at}
@@ -41,12 +42,13 @@ run_of_both extent = record { extent = extent; present = true; held = true }
 abbrev pub end_of : Element → ℕ
 end_of extent = extent.address + extent.bytes
 
--- from an address on runs ascend, each of them whole sectors that the present state or the last commit holds, and ended where the
--- next one begins or before
+-- from an address on runs ascend, each of them whole sectors that the present state or the last commit holds, and ended
+-- where the next one begins or before
 abbrev pub LieApart : Sizes → ℕ → List Run → Type 0
 LieApart sizes from [] = Unit {0}
 LieApart sizes from (run ∷ runs) =
-    IsTrue (is_run sizes run.extent.address run.extent.bytes) × (from ≤ run.extent.address) × IsTrue (run.present || run.held) × LieApart sizes (end_of run.extent) runs
+    IsTrue (is_run sizes run.extent.address run.extent.bytes) × (from ≤ run.extent.address)
+    × IsTrue (run.present || run.held) × LieApart sizes (end_of run.extent) runs
 
 -- extents follow one another from an address on, with nothing between them
 abbrev pub ArePacked : ℕ → List Element → Type 0
@@ -73,7 +75,8 @@ pub record SameBefore (place : ℕ) (old new : List Run) : Type 0 where
 -- the addresses of slots that pass a test; the first of them has this number
 abbrev pub slots_where : (Slot → Bool) → Sizes → ℕ → List Slot → List ℕ
 slots_where test sizes k [] = []
-slots_where test sizes k (slot ∷ slots) = if test slot then slot_at sizes k ∷ slots_where test sizes (k + 1) slots else slots_where test sizes (k + 1) slots
+slots_where test sizes k (slot ∷ slots) = if test slot then slot_at sizes k ∷ slots_where test sizes
+    (k + 1) slots else slots_where test sizes (k + 1) slots
 
 -- neither the present state nor the last commit holds a slot
 abbrev pub is_unused : Slot → Bool
@@ -95,7 +98,8 @@ holding_of sizes runs slots = record {
   held_slots = slots_where (λ slot. slot.held) sizes 0 slots;
 }
 
--- the runs lie apart, and the first ones, so many, are packed; each slot is there, so many are unused, and none before a number is
+-- the runs lie apart, and the first ones, so many, are packed; each slot is there, so many are unused, and none before
+-- a number is
 pub record IsSound (sizes : Sizes) (runs : List Run) (packed : ℕ) (slots : List Slot) (unused first : ℕ) : Type 0 where
   pub served : IsTrue (is_served sizes)
   pub apart : LieApart sizes data_begin runs

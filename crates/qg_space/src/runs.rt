@@ -1,5 +1,6 @@
 // Runs of sectors that the present state or the last commit holds.
-ghost use Rattle.std.specs.Prelude.{◌≡◌, ℕ, ◌+◌, ◌*◌, ◌<◌, ◌≤◌, ◌%◌, ◌&&◌, ◌≢◌, map, length, take, slice_index_or, IsTrue, IfOk, OnOk, OnErr};
+ghost use Rattle.std.specs.Prelude.{◌≡◌, ℕ, ◌+◌, ◌*◌, ◌<◌, ◌≤◌, ◌%◌, ◌&&◌, ◌≢◌, map, length, take, slice_index_or};
+ghost use Rattle.std.specs.Prelude.{IsTrue, IfOk, OnOk, OnErr};
 ghost use Rattle.std.specs.List.{All, AllWithin, Contains, filter, list_any};
 ghost use Rattle.std.specs.List.Sorted.{IsNonDecreasingBy};
 ghost use Rattle.qg_super.specs.declared.sizes.Sizes.{Sizes};
@@ -7,8 +8,10 @@ ghost use Rattle.qg_super.specs.Places.{is_served, data_begin, sector};
 ghost use Rattle.qg_image.specs.declared.element.Element.{Element};
 ghost use Rattle.qg_image.specs.Counts.{bytes_of};
 ghost use Rattle.qg_space.specs.Run.{Run};
-ghost use Rattle.qg_space.specs.Holding.{AscendApart, is_clear, first_clear, is_that_run, with_run, without_run, without_runs};
-ghost use Rattle.qg_space.specs.Lying.{LieApart, extents_of, present_of, held_of, given_back, is_used, with_held, run_of_both, end_of_last, IsFront, SameBefore};
+ghost use Rattle.qg_space.specs.Holding.{AscendApart, is_clear, first_clear, is_that_run, with_run, without_run};
+ghost use Rattle.qg_space.specs.Holding.{without_runs};
+ghost use Rattle.qg_space.specs.Lying.{LieApart, extents_of, present_of, held_of, given_back, is_used, with_held};
+ghost use Rattle.qg_space.specs.Lying.{run_of_both, end_of_last, IsFront, SameBefore};
 
 use crate::run::Run;
 use qg_image::Element;
@@ -16,7 +19,8 @@ use qg_num::{Address, Sequence};
 use qg_super::{DATA_BEGIN, Sizes};
 use std::alloc::{AllocError, Global};
 
-/// The runs of extents, each held by the present state and by the last commit, and how many of the first ones are packed.
+/// The runs of extents, each held by the present state and by the last commit, and how many of the first ones are
+/// packed.
 pub(crate) fn runs_of_both(
     alloc: Global,
     sizes: &Sizes,
@@ -99,7 +103,8 @@ pub(crate) fn packed_runs(sizes: &Sizes, runs: &[Run], known: usize) -> usize
     requires known { IsFront runs.now known }
     ensures front { IsFront runs.now result }
     ensures most { (run : Run) → result < length runs.now
-        → (slice_index_or runs.now result run).extent.address ≢ end_of_last data_begin (take result (extents_of runs.now)) }
+        → (slice_index_or runs.now result run).extent.address ≢ end_of_last data_begin
+        (take result (extents_of runs.now)) }
 {
     let mut end = end_of_first(sizes, runs, known);
     for number in known..runs.len() {
@@ -112,7 +117,8 @@ pub(crate) fn packed_runs(sizes: &Sizes, runs: &[Run], known: usize) -> usize
     runs.len()
 }
 
-/// Puts in a run that overlaps none of those there, held by the present state. The answer is how many runs lie before it.
+/// Puts in a run that overlaps none of those there, held by the present state. The answer is how many runs lie before
+/// it.
 pub(crate) fn put_run(
     sizes: &Sizes,
     runs: &mut Vec<Run>,
@@ -132,8 +138,8 @@ pub(crate) fn put_run(
     Ok(place)
 }
 
-/// Takes a run of so many bytes from the present state. It stays while the last commit holds it. The answer is how many runs lie before
-/// it.
+/// Takes a run of so many bytes from the present state. It stays while the last commit holds it. The answer is how many
+/// runs lie before it.
 pub(crate) fn take_out_run(sizes: &Sizes, runs: &mut Vec<Run>, at: Address, bytes: u64) -> usize
     requires apart { LieApart sizes.now data_begin runs.old.items }
     requires there { IsTrue (list_any (is_that_run at bytes) (present_of runs.old.items)) }
@@ -151,8 +157,8 @@ pub(crate) fn take_out_run(sizes: &Sizes, runs: &mut Vec<Run>, at: Address, byte
     place
 }
 
-/// Takes some runs from the present state. Each stays while the last commit holds it. So many of the first runs were packed, and the
-/// answer is how many are.
+/// Takes some runs from the present state. Each stays while the last commit holds it. So many of the first runs were
+/// packed, and the answer is how many are.
 pub(crate) fn take_out_runs(
     sizes: &Sizes,
     runs: &mut Vec<Run>,
@@ -260,7 +266,8 @@ pub(crate) fn present_runs(alloc: Global, runs: &[Run]) -> Result<Sequence<Eleme
 
 /// Drops the runs that the present state doesn't hold, and has the last commit hold the others.
 pub(crate) fn commit_runs(runs: &mut Vec<Run>)
-    ensures apart { (sizes : Sizes) (from : ℕ) → LieApart sizes from runs.old.items → LieApart sizes from runs.new.items }
+    ensures apart { (sizes : Sizes) (from : ℕ) → LieApart sizes from runs.old.items
+        → LieApart sizes from runs.new.items }
     ensures present { present_of runs.new.items ≡ present_of runs.old.items }
     ensures held { held_of runs.new.items ≡ present_of runs.old.items }
 {

@@ -1,5 +1,6 @@
 // Node slots, by what holds them.
-ghost use Rattle.std.specs.Prelude.{◌≡◌, ◌<◌, ◌≤◌, true, false, map, length, take, replicate, IfOk, MatchOption, IsTrue};
+ghost use Rattle.std.specs.Prelude.{◌≡◌, ◌<◌, ◌≤◌, true, false, map, length, take, replicate, IfOk, MatchOption};
+ghost use Rattle.std.specs.Prelude.{IsTrue};
 ghost use Rattle.std.specs.List.{AllWithin, HoldsAt, count_by};
 ghost use Rattle.qg_super.specs.Places.{is_served, is_slot, slot_at};
 ghost use Rattle.qg_space.specs.Lying.{slots_where, is_unused, committed_slot};

@@ -1,10 +1,13 @@
 // What is free of an image.
-ghost use Rattle.std.specs.Prelude.{◌≡◌, ◌*◌, ◌<◌, ◌≤◌, ◌==◌, ℕ, min, take, length, IfOk, IfSome, IfNone, IsOk, OnOk, OnErr, IsTrue};
+ghost use Rattle.std.specs.Prelude.{◌≡◌, ◌*◌, ◌<◌, ◌≤◌, ◌==◌, ℕ, min, take, length, IfOk, IfSome, IfNone, IsOk, OnOk};
+ghost use Rattle.std.specs.Prelude.{OnErr, IsTrue};
 ghost use Rattle.std.specs.List.{All, Contains, IsDistinct, list_all};
 ghost use Rattle.qg_super.specs.Places.{data_begin, is_served, is_slot, sector, slot_at};
 ghost use Rattle.qg_image.specs.Table.{with_number};
 ghost use Rattle.qg_image.specs.Counts.{bytes_of};
-ghost use Rattle.qg_space.specs.Holding.{nothing_held, AscendApart, is_free_run, first_run, has_run, with_run, without_run, without_runs, is_free_slot, first_slot, free_list, free_slots, has_slot, taken_slots, without_slot};
+ghost use Rattle.qg_space.specs.Holding.{nothing_held, AscendApart, is_free_run, first_run, has_run, with_run};
+ghost use Rattle.qg_space.specs.Holding.{without_run, without_runs, is_free_slot, first_slot, free_list, free_slots};
+ghost use Rattle.qg_space.specs.Holding.{has_slot, taken_slots, without_slot};
 
 use crate::run::Run;
 use crate::runs::{
@@ -21,8 +24,8 @@ use qg_super::{SECTOR, Sizes};
 use std::alloc::Global;
 use std::marker::Model;
 
-/// The runs of sectors and the node slots that the present state and the last commit hold (this project's own). What neither holds is
-/// free.
+/// The runs of sectors and the node slots that the present state and the last commit hold (this project's own). What
+/// neither holds is free.
 #[derive(Drop)]
 pub struct Space {
     sizes: Sizes,
@@ -46,10 +49,15 @@ impl Model for Space {
 }
 
 impl Space {
-    /// Of an image with so many node slots of so many bytes, and so many data sectors of 4096 bytes, nothing is held yet.
+    /// Of an image with so many node slots of so many bytes, and so many data sectors of 4096 bytes, nothing is held
+    /// yet.
     pub fn new(alloc: Global, slots: u64, nodesize: u32, sectors: u64) -> Result<Space, NoMemory>
         requires { IsTrue (is_served (record { nodesize = nodesize; slots = slots; sectors = sectors })) }
-        ensures { IfOk result (λ space. space ≡ nothing_held (record { nodesize = nodesize; slots = slots; sectors = sectors })) }
+        ensures { IfOk result (λ space. space ≡ nothing_held (record {
+          nodesize = nodesize;
+          slots = slots;
+          sectors = sectors;
+        })) }
     {
         Ok(Space {
             sizes: Sizes {
@@ -105,8 +113,8 @@ impl Space {
         Ok(())
     }
 
-    /// The present state gives back a run of so many sectors, whole as it was taken. It is free once the last commit doesn't hold it
-    /// either.
+    /// The present state gives back a run of so many sectors, whole as it was taken. It is free once the last commit
+    /// doesn't hold it either.
     pub fn give_run(&mut self, at: Address, sectors: u64)
         requires { IsTrue (has_run self.old at (sectors * sector)) }
         ensures { self.new ≡ record self.old { runs = without_run at (sectors * sector) self.old.runs } }
@@ -116,8 +124,8 @@ impl Space {
         self.packed = self.packed.min(place);
     }
 
-    /// The present state gives back some runs, each whole as it was taken. Each is free once the last commit doesn't hold it either. More
-    /// than one go by one pass over all.
+    /// The present state gives back some runs, each whole as it was taken. Each is free once the last commit doesn't
+    /// hold it either. More than one go by one pass over all.
     pub fn give_runs(&mut self, extents: &[Element])
         requires { All (Contains self.old.runs) extents.now }
         ensures { self.new ≡ record self.old { runs = without_runs extents.now self.old.runs } }
@@ -133,7 +141,8 @@ impl Space {
         sectors <= self.sizes.sectors && has_run(&self.sizes, &self.runs, at, sectors * SECTOR)
     }
 
-    /// The present state takes the free slot with the least address. The answer is its address, and none exactly where no slot is free.
+    /// The present state takes the free slot with the least address. The answer is its address, and none exactly where
+    /// no slot is free.
     pub fn take_slot(&mut self) -> Result<Option<Address>, NoMemory>
         ensures slot { IfOk result (λ slot. slot ≡ first_slot self.old) }
         ensures taken { IfOk result (λ slot. IfSome slot (λ address.

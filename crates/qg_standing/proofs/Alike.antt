@@ -1,5 +1,6 @@
 -- Trees that stand do so where the same is told.
-use Rattle.std.proofs.Common.{◌≡◌, ℕ, ◌+◌, ◌≤◌, false, List, ◌∷◌, ◌++◌, length, get_or, map, Option, Some, None, arith, refl, sym, ap, subst, ◌∙◌, inl, inr}
+use Rattle.std.proofs.Common.{◌≡◌, ℕ, ◌+◌, ◌≤◌, false, List, ◌∷◌, ◌++◌, length, get_or, map, Option, Some, None, arith}
+use Rattle.std.proofs.Common.{refl, sym, ap, subst, ◌∙◌, inl, inr}
 use Rattle.std.specs.Prelude.{◌⊎◌, ◌↔◌, ⊤, IsTrue, nat_lt, if◌then◌else◌}
 use Rattle.std.specs.List.{All, Contains, filter_map, flat_map, list_any}
 use Rattle.std.specs.Option.{option_map}
@@ -29,7 +30,9 @@ use Rattle.qg_descent.specs.Tree.{IsTree, Reaches, Root, super_of}
 use Rattle.qg_tree_edits.specs.Counting.{ways}
 use Rattle.qg_tree_edits.specs.Rooting.{IsRooted}
 use Rattle.qg_fs_tree.specs.declared.fs_tree.FsTree.{FsTree}
-use Rattle.qg_fs_tree.specs.Standing.{IsAtHome, IsBeside, IsKnownExtent, IsReachedBy, IsSubvolume, Stands, every_slot, items_in, layout_in, name_told, names_elsewhere, names_times, nodes_of, roots_of, trees_of}
+use Rattle.qg_fs_tree.specs.Standing.{IsAtHome, IsBeside, IsKnownExtent, IsReachedBy, IsSubvolume, Stands, every_slot}
+use Rattle.qg_fs_tree.specs.Standing.{items_in, layout_in, name_told, names_elsewhere, names_times, nodes_of, roots_of}
+use Rattle.qg_fs_tree.specs.Standing.{trees_of}
 use Rattle.qg_standing.specs.Committing.{StandsStill}
 use Rattle.qg_standing.specs.Knowing.{IsSameButClean}
 

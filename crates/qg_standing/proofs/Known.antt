@@ -1,6 +1,7 @@
 -- What the book of trees that stand knows: the root of the one at hand, and nothing of a generation past the one to
 -- come.
-use Rattle.std.proofs.Common.{◌≡◌, ℕ, ◌<◌, ◌≤◌, List, ◌++◌, length, get_or, Option, Some, None, arith, refl, sym, ap, subst, ◌∙◌, inl, inr}
+use Rattle.std.proofs.Common.{◌≡◌, ℕ, ◌<◌, ◌≤◌, List, ◌++◌, length, get_or, Option, Some, None, arith, refl, sym, ap}
+use Rattle.std.proofs.Common.{subst, ◌∙◌, inl, inr}
 use Rattle.std.specs.Prelude.{◌⊎◌, All}
 use Rattle.std.specs.List.{Contains, filter_map}
 use Rattle.std.proofs.lemmas.Bool.{cases_lt}
@@ -29,7 +30,8 @@ use Rattle.qg_tree_refs.specs.Following.{references_to}
 use Rattle.qg_tree_refs.specs.Settled.{what_of}
 use Rattle.qg_forest.proofs.Referring.{OwesChild, OwesRoot, OwesRun, counted-by, referred-counted}
 use Rattle.qg_fs_tree.specs.declared.fs_tree.FsTree.{FsTree}
-use Rattle.qg_fs_tree.specs.Standing.{IsReachedBy, IsSubvolume, Stands, items_in, layout_in, name_of, name_told, names_elsewhere, names_times, nodes_of, roots_of, trees_of}
+use Rattle.qg_fs_tree.specs.Standing.{IsReachedBy, IsSubvolume, Stands, items_in, layout_in, name_of, name_told}
+use Rattle.qg_fs_tree.specs.Standing.{names_elsewhere, names_times, nodes_of, roots_of, trees_of}
 use Rattle.qg_fs_tree.proofs.Before.{known_of, names_there}
 use Rattle.qg_fs_tree.proofs.Counts.{node-there}
 use Rattle.qg_fs_tree.proofs.Fixed.{elsewhere_name, tree_below}
@@ -43,7 +45,8 @@ use Rattle.qg_fs_layout.proofs.Held.{met-referred}
 use Rattle.qg_fs_layout.proofs.Moved.{fresh-told}
 use Rattle.qg_fs_layout.proofs.Nodes.{nodes-ascend, reached-by}
 use Rattle.qg_fs_layout.proofs.Roots.{root-tree, roots-ascend}
-use Rattle.qg_fs_layout.proofs.Trees.{branch, items-at_hand, met-slot, next-same, numbers-apart, root-reached, root-there, sized, tree-stands}
+use Rattle.qg_fs_layout.proofs.Trees.{branch, items-at_hand, met-slot, next-same, numbers-apart, root-reached}
+use Rattle.qg_fs_layout.proofs.Trees.{root-there, sized, tree-stands}
 use Rattle.qg_standing.specs.Knowing.{KnowsRoot, generation_in}
 use Rattle.qg_standing.proofs.Later.{generation-low}
 

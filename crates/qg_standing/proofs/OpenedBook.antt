@@ -1,9 +1,11 @@
 -- An image that was just opened: the extents that its files name, the owners of its nodes, and where references lead.
-use Rattle.std.proofs.Common.{◌≡◌, ℕ, ◌<◌, ◌≤◌, Bool, true, false, List, [], ◌∷◌, ◌++◌, map, Option, Some, None, arith, refl, sym, ap, subst, ◌∙◌, ◌↔◌, inl, inr}
+use Rattle.std.proofs.Common.{◌≡◌, ℕ, ◌<◌, ◌≤◌, Bool, true, false, List, [], ◌∷◌, ◌++◌, map, Option, Some, None, arith}
+use Rattle.std.proofs.Common.{refl, sym, ap, subst, ◌∙◌, ◌↔◌, inl, inr}
 use Rattle.std.specs.Prelude.{IsTrue, ◌==◌, unwrap_or}
 use Rattle.std.specs.List.{All, Contains, filter_map, find, flat_map}
 use Rattle.std.proofs.lemmas.Bool.{cases_Bool, cond-false, cond-true, eq-eqb, eqb-true, or_cases, true≢false}
-use Rattle.std.proofs.lemmas.List.Elements.{All-from_recursion, Contains-append_cases, Contains-append_left, Contains-append_right}
+use Rattle.std.proofs.lemmas.List.Elements.{All-from_recursion, Contains-append_cases, Contains-append_left}
+use Rattle.std.proofs.lemmas.List.Elements.{Contains-append_right}
 use Rattle.qg_device.specs.History.{Event, content}
 use Rattle.qg_num.specs.declared.piece.Piece.{Piece}
 use Rattle.qg_node.specs.declared.item.Item.{Item}
@@ -26,7 +28,8 @@ use Rattle.qg_image.specs.Space.{present_extents}
 use Rattle.qg_image.specs.State.{Layout, Placed, Subvolume, layout_of, node_at}
 use Rattle.qg_image.proofs.Contained.{contains_cases, contains_here, contains_later, none_contained}
 use Rattle.qg_image.specs.declared.tree.Tree.TheVariants.{Files}
-use Rattle.qg_image.specs.ImageState.{extent_parts, items_of_root, roots_in, state_in, subvolume_in, subvolume_roots, subvolumes_in}
+use Rattle.qg_image.specs.ImageState.{extent_parts, items_of_root, roots_in, state_in, subvolume_in, subvolume_roots}
+use Rattle.qg_image.specs.ImageState.{subvolumes_in}
 use Rattle.qg_image.specs.Verdict.{extent_set}
 use Rattle.qg_reach.proofs.Distinct.{apart_same}
 use Rattle.qg_reach.proofs.ExtentSets.{extent_set_same}
@@ -45,9 +48,11 @@ use Rattle.qg_tree_edits.proofs.Ways.{ways-some}
 use Rattle.qg_tree_refs.specs.Following.{references_to}
 use Rattle.qg_forest.proofs.Extents.{among-one}
 use Rattle.qg_forest.proofs.Homes.{owner-reaches}
-use Rattle.qg_forest.proofs.Referring.{OwesChild, OwesRoot, child-counted, extents-named, owed-referred, referred-owed, root-counted}
+use Rattle.qg_forest.proofs.Referring.{OwesChild, OwesRoot, child-counted, extents-named, owed-referred, referred-owed}
+use Rattle.qg_forest.proofs.Referring.{root-counted}
 use Rattle.qg_fs_tree.specs.declared.fs_tree.FsTree.{FsTree}
-use Rattle.qg_fs_tree.specs.Standing.{IsAtHome, IsKnownExtent, IsReachedBy, extents_named, items_in, layout_in, name_told, names_elsewhere, names_times, nodes_of, trees_of}
+use Rattle.qg_fs_tree.specs.Standing.{IsAtHome, IsKnownExtent, IsReachedBy, extents_named, items_in, layout_in}
+use Rattle.qg_fs_tree.specs.Standing.{name_told, names_elsewhere, names_times, nodes_of, trees_of}
 use Rattle.qg_fs_tree.proofs.Counts.{branch, single-way}
 use Rattle.qg_fs_tree.proofs.FewNames.{names-few}
 use Rattle.qg_descent.proofs.BranchItems.{from-leaf, in-leaf}
@@ -57,14 +62,18 @@ use Rattle.qg_fs_tree.proofs.Places.{slot-once}
 use Rattle.qg_fs_tree.proofs.Reached.{reached-some}
 use Rattle.qg_fs_tree.proofs.Sound.{told-formed}
 use Rattle.qg_fs_layout.specs.Laying.{IsMet, names_in}
-use Rattle.qg_fs_layout.proofs.Extents.{TellsExtent, from-files, from-layout, from-present, in-files, in-layout, in-present, own-extent}
+use Rattle.qg_fs_layout.proofs.Extents.{TellsExtent, from-files, from-layout, from-present, in-files, in-layout}
+use Rattle.qg_fs_layout.proofs.Extents.{in-present, own-extent}
 use Rattle.qg_fs_layout.proofs.Nodes.{value-reached}
 use Rattle.qg_fs_layout.proofs.Reach.{in-reaches, reaches-root}
 use Rattle.qg_fs_layout.proofs.Roots.{root-tree}
 use Rattle.qg_standing.specs.Opening.{IsOpened, IsSoundImage, opened_tree}
 use Rattle.qg_standing.proofs.Dated.{told-low}
-use Rattle.qg_standing.proofs.Opened.{branch-opened, by-met, drafted-there, entry-tree, hand-opened, items-opened, met-by, next-opened, other-number, others-ascend, own-opened, placed-opened, root-opened, rooted-opened, same-entry, tree-entry}
-use Rattle.qg_standing.proofs.OpenedLayout.{entry-is, layout-opened, node-laid, nodes-opened, root_told_by, roots-are, roots-opened}
+use Rattle.qg_standing.proofs.Opened.{branch-opened, by-met, drafted-there, entry-tree, hand-opened, items-opened}
+use Rattle.qg_standing.proofs.Opened.{met-by, next-opened, other-number, others-ascend, own-opened, placed-opened}
+use Rattle.qg_standing.proofs.Opened.{root-opened, rooted-opened, same-entry, tree-entry}
+use Rattle.qg_standing.proofs.OpenedLayout.{entry-is, layout-opened, node-laid, nodes-opened, root_told_by, roots-are}
+use Rattle.qg_standing.proofs.OpenedLayout.{roots-opened}
 use Rattle.qg_standing.proofs.Recorded.{extent-known, node-known}
 
 -- ---- the first that passes a test
@@ -440,7 +449,8 @@ module _ (fs : FsTree) (super : Super) (events : List Event) (table : IsTable fs
           (rooted-opened fs super events sound opened (TOP_LEVEL, root) top)
 
       -- a piece that another tree tells
-      elsewhere_named : (entry : ℕ × RootItem) (has : Contains (subvolume_roots (roots_in super (content events))) entry)
+      elsewhere_named : (entry : ℕ × RootItem)
+          (has : Contains (subvolume_roots (roots_in super (content events))) entry)
           → Contains fs.others.items (opened_tree super entry) → (item : Item) → Contains (items_by entry) item
           → (name : ℕ × Piece) → name_told item ≡ Some name → Contains (names_elsewhere fs (Some events)) name
       unfolding names_elsewhere

@@ -30,7 +30,8 @@ use Rattle.qg_fs_layout.proofs.Roots.{root-tree, roots-ascend, tree-root}
 use Rattle.qg_gathered.proofs.Laid.{IsLaid, entry_of, laid}
 use Rattle.qg_gathered.proofs.Sorted.{ascends_of}
 use Rattle.qg_standing.specs.Opening.{IsOpened, IsSoundImage, opened_nodes, opened_tree}
-use Rattle.qg_standing.proofs.Opened.{drafted-there, entry-tree, lies-opened, listed-there, node-met, other-number, others-ascend, placed-opened, reached-listed, tree-entry}
+use Rattle.qg_standing.proofs.Opened.{drafted-there, entry-tree, lies-opened, listed-there, node-met, other-number}
+use Rattle.qg_standing.proofs.Opened.{others-ascend, placed-opened, reached-listed, tree-entry}
 use Rattle.qg_standing.proofs.Recorded.{node-mark}
 
 -- tables of the same keys, whose entries at a key are one

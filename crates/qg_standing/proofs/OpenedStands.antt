@@ -1,5 +1,6 @@
 -- The trees of a sound image that was just opened stand.
-use Rattle.std.proofs.Common.{◌≡◌, ℕ, ◌+◌, ◌<◌, Bool, true, false, List, get_or, Option, Some, None, arith, refl, sym, ap, subst, ◌∙◌, inr}
+use Rattle.std.proofs.Common.{◌≡◌, ℕ, ◌+◌, ◌<◌, Bool, true, false, List, get_or, Option, Some, None, arith, refl, sym}
+use Rattle.std.proofs.Common.{ap, subst, ◌∙◌, inr}
 use Rattle.std.specs.Prelude.{IsTrue, nat_lt}
 use Rattle.std.specs.List.{Contains, filter_map}
 use Rattle.std.proofs.lemmas.Bool.{lt-ltb, ltb-true}
@@ -33,8 +34,10 @@ use Rattle.qg_fs_tree.specs.Standing.{IsBeside, Stands, layout_in, name_told, na
 use Rattle.qg_fs_tree.proofs.Before.{index_among}
 use Rattle.qg_fs_layout.specs.Laying.{IsMet, names_in}
 use Rattle.qg_standing.specs.Opening.{IsOpened, IsSoundImage, StandsOpened}
-use Rattle.qg_standing.proofs.Opened.{items-opened, met-slot, next-opened, no-fresh-opened, other-number, others-ascend, placed-opened, rooted-opened, slot-met, slot-opened, tree-entry}
-use Rattle.qg_standing.proofs.OpenedBook.{extents-opened, few-opened, home-opened, known-opened, met-referred, owed-opened, referred-met, rooted-hand, runs-opened}
+use Rattle.qg_standing.proofs.Opened.{items-opened, met-slot, next-opened, no-fresh-opened, other-number, others-ascend}
+use Rattle.qg_standing.proofs.Opened.{placed-opened, rooted-opened, slot-met, slot-opened, tree-entry}
+use Rattle.qg_standing.proofs.OpenedBook.{extents-opened, few-opened, home-opened, known-opened, met-referred}
+use Rattle.qg_standing.proofs.OpenedBook.{owed-opened, referred-met, rooted-hand, runs-opened}
 use Rattle.qg_standing.proofs.OpenedLayout.{layout-opened}
 use Rattle.qg_standing.proofs.Dated.{told-low}
 

@@ -13,7 +13,8 @@ use Rattle.qg_image.specs.declared.part.ExtentPart.TheVariants.{DataRecord, Node
 use Rattle.qg_image.specs.ItemMeaning.{some_passes}
 use Rattle.qg_image.specs.declared.element.Element.{Element}
 use Rattle.qg_image.specs.State.{Layout, Placed}
-use Rattle.qg_image.specs.Owed.{Agrees, What, agrees_at, are_references, is_record, is_recorded_once, layout_extents, node_flags, owed_to, reference_told, what_at}
+use Rattle.qg_image.specs.Owed.{Agrees, What, agrees_at, are_references, is_record, is_recorded_once, layout_extents}
+use Rattle.qg_image.specs.Owed.{node_flags, owed_to, reference_told, what_at}
 use Rattle.qg_image.specs.Owed.What.{Data, Block}
 use Rattle.qg_refs.specs.declared.kept.What.{What as Known}
 use Rattle.qg_refs.specs.Book.{Book, full_in, what_in}

@@ -1,5 +1,6 @@
 -- Trees that a commit wrote stand.
-use Rattle.std.proofs.Common.{◌≡◌, ℕ, ◌+◌, ◌<◌, ◌≤◌, Bool, true, false, List, [], ◌∷◌, ◌++◌, length, get_or, map, Option, Some, None, arith, refl, sym, ap, subst, ◌∙◌, inl, inr}
+use Rattle.std.proofs.Common.{◌≡◌, ℕ, ◌+◌, ◌<◌, ◌≤◌, Bool, true, false, List, [], ◌∷◌, ◌++◌, length, get_or, map}
+use Rattle.std.proofs.Common.{Option, Some, None, arith, refl, sym, ap, subst, ◌∙◌, inl, inr}
 use Rattle.std.specs.Prelude.{◌↔◌, ◌||◌, IsSome, IsTrue, ◌==◌, nat_lt, if◌then◌else◌}
 use Rattle.std.specs.List.{Contains, cons_option, filter_map, flat_map, list_any}
 use Rattle.std.specs.List.Sorted.{IsStrictlyIncreasing}
@@ -41,7 +42,9 @@ use Rattle.qg_tree_refs.specs.declared.tree_refs.TreeRefs.{TreeRefs}
 use Rattle.qg_tree_refs.specs.Following.{references_to}
 use Rattle.qg_tree_refs.specs.Settled.{IsSettled, what_of}
 use Rattle.qg_fs_tree.specs.declared.fs_tree.FsTree.{FsTree}
-use Rattle.qg_fs_tree.specs.Standing.{AreNamed, CanTurn, IsAtHome, IsBeside, IsKnownExtent, IsReachedBy, IsSubvolume, Stands, every_slot, extents_named, items_in, layout_in, name_told, names_elsewhere, names_times, nodes_of, placed_at, roots_of, trees_of, ways_in}
+use Rattle.qg_fs_tree.specs.Standing.{AreNamed, CanTurn, IsAtHome, IsBeside, IsKnownExtent, IsReachedBy, IsSubvolume}
+use Rattle.qg_fs_tree.specs.Standing.{Stands, every_slot, extents_named, items_in, layout_in, name_told}
+use Rattle.qg_fs_tree.specs.Standing.{names_elsewhere, names_times, nodes_of, placed_at, roots_of, trees_of, ways_in}
 use Rattle.qg_fs_tree.proofs.Before.{index_among, known_of, other_stands}
 use Rattle.qg_fs_tree.proofs.Beside.{mark_of}
 use Rattle.qg_fs_tree.proofs.Lists.{from-mapped, has-mapped}

@@ -18,7 +18,8 @@ use Rattle.qg_image.specs.Owed.{Agrees, homeless}
 use Rattle.qg_image.specs.Space.{present_extents}
 use Rattle.qg_image.specs.State.{layout_of}
 use Rattle.qg_image.specs.declared.tree.Tree.TheVariants.{Files}
-use Rattle.qg_image.specs.ImageState.{addresses_of, extent_parts, items_of_root, level_in, nodes_of_root, roots_in, state_in, subvolume_roots}
+use Rattle.qg_image.specs.ImageState.{addresses_of, extent_parts, items_of_root, level_in, nodes_of_root, roots_in}
+use Rattle.qg_image.specs.ImageState.{state_in, subvolume_roots}
 use Rattle.qg_image.specs.ItemsUnder.{items_under, nodes_under}
 use Rattle.qg_image.specs.Verdict.{extent_set, space_failure}
 use Rattle.qg_image.specs.Walk.{are_by, is_item_of, node_found, root_told, tree_failure}

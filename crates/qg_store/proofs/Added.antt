@@ -1,9 +1,11 @@
 -- What is kept fits together where a subvolume was added, whose number comes next.
-use Rattle.std.proofs.Common.{◌≡◌, ℕ, ◌+◌, ◌^◌, ◌<◌, ◌≤◌, Bool, true, false, List, [], ◌∷◌, ◌++◌, ◌*◌, arith, length, map, Option, Some, None, refl, sym, ap, subst, ◌∙◌, inl, inr}
+use Rattle.std.proofs.Common.{◌≡◌, ℕ, ◌+◌, ◌^◌, ◌<◌, ◌≤◌, Bool, true, false, List, [], ◌∷◌, ◌++◌, ◌*◌, arith, length}
+use Rattle.std.proofs.Common.{map, Option, Some, None, refl, sym, ap, subst, ◌∙◌, inl, inr}
 use Rattle.std.specs.Prelude.{◌⊎◌, ◌||◌, ◌&&◌, ◌==◌, IfSome, is_some, nat_le, nat_lt, not}
 use Rattle.std.specs.List.{All, Contains}
 use Rattle.std.specs.List.Sorted.{IsPermutation, IsStrictlyIncreasing}
-use Rattle.std.proofs.lemmas.Bool.{cases_eq, cond-false, eq-eqb, eqb-true, le-leb, le-ltb, leb-false, lt-ltb, ltb-false, ne_eqb}
+use Rattle.std.proofs.lemmas.Bool.{cases_eq, cond-false, eq-eqb, eqb-true, le-leb, le-ltb, leb-false, lt-ltb, ltb-false}
+use Rattle.std.proofs.lemmas.Bool.{ne_eqb}
 use Rattle.std.proofs.lemmas.List.{length-append, length-map, map-append}
 use Rattle.std.proofs.lemmas.List.Elements.{All-contains, Contains-append_cases, Contains-append_left}
 use Rattle.std.proofs.lemmas.List.Sorted.{IsPermutation-append_left}
@@ -118,7 +120,8 @@ module _ (old : Kept) (relations sub : ℕ) (comes : sub ≡ number_next old) (f
     few_parts =
         few_by (nat_le most_subvolumes (length old.snapshots))
         (is_some (quota_of old.quota) && nat_le most_groups (length (groups_in (quota_of old.quota))))
-        (nat_lt most_relations (length (pairs_in (quota_of old.quota)) + relations)) (nat_le (2 ^ 48) (number_next old)) few
+        (nat_lt most_relations (length (pairs_in (quota_of old.quota)) + relations)) (nat_le (2 ^ 48) (number_next old))
+        few
 
     pub few-subvolumes : length old.snapshots < most_subvolumes
     few-subvolumes = leb-false most_subvolumes (length old.snapshots) few_parts.subvolumes
@@ -211,7 +214,8 @@ module _ (old new : Kept) (relations sub snapshot : ℕ) (tree : Root) (fits : I
   number_known number has =
       let entry = from-mapped (λ (e : ℕ × ℕ). e.0) old.snapshots number has in
       subst (λ (n : ℕ). is_subvolume_number n ≡ true) entry.2
-      (All-contains (λ (e : ℕ × ℕ). is_subvolume_number e.0 ≡ true) old.snapshots entry.0 fits.subvolumes.numbers entry.1)
+      (All-contains (λ (e : ℕ × ℕ). is_subvolume_number e.0 ≡ true) old.snapshots entry.0 fits.subvolumes.numbers
+      entry.1)
 
   earlier_less : (entry : ℕ × ℕ) → Contains added.earlier entry → entry.0 < sub
   earlier_less entry has =
@@ -264,10 +268,12 @@ module _ (old new : Kept) (relations sub snapshot : ℕ) (tree : Root) (fits : I
     few = many_less;
     ascending = subst (λ (table : List (ℕ × ℕ)). IsStrictlyIncreasing (keys_of table)) (sym snapshots_put)
         (increasing-with sub added.earlier earlier_up snapshot);
-    numbers = all-of (λ (e : ℕ × ℕ). is_subvolume_number e.0 ≡ true) new.snapshots (λ entry has. elim (entry_cases entry has) [
-      | inl own ↦ subst (λ (e : ℕ × ℕ). is_subvolume_number e.0 ≡ true) own (number-good old relations sub comes few)
-      | inr there ↦ number_known entry.0 (earlier_listed entry there)
-    ]);
+    numbers = all-of (λ (e : ℕ × ℕ). is_subvolume_number e.0 ≡ true) new.snapshots
+        (λ entry has. elim (entry_cases entry has) [
+          | inl own ↦ subst (λ (e : ℕ × ℕ). is_subvolume_number e.0 ≡ true) own
+              (number-good old relations sub comes few)
+          | inr there ↦ number_known entry.0 (earlier_listed entry there)
+        ]);
     top_level = listed-key TOP_LEVEL new.snapshots
         (key_kept TOP_LEVEL (key-listed TOP_LEVEL old.snapshots fits.subvolumes.top_level));
     copied = all-of (λ (e : ℕ × ℕ). e.1 ≤ new.fs.tree.next) new.snapshots (λ entry has. elim (entry_cases entry has) [
@@ -366,7 +372,8 @@ module _ (old new : Kept) (relations sub snapshot : ℕ) (tree : Root) (fits : I
         → has_key number (with_value sub grown.group before.groups) ≡ true
     own_group number has = elim (Contains-append_cases (keys_of old.snapshots) (sub ∷ []) number has) [
       | inl there ↦ key-still sub number grown.group before.groups
-          (All-contains (λ (n : ℕ). has_key n before.groups ≡ true) (keys_of old.snapshots) number fits_before.own there)
+          (All-contains (λ (n : ℕ). has_key n before.groups ≡ true) (keys_of old.snapshots) number fits_before.own
+          there)
       | inr last ↦ elim (contains_cases sub [] number last) [
         | inl own ↦ subst (λ (n : ℕ). has_key n (with_value sub grown.group before.groups) ≡ true) own
             (key-put sub grown.group before.groups)

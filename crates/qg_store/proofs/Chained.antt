@@ -34,8 +34,8 @@ use Rattle.qg_store.proofs.Synced.{held_after}
 
 -- ---- how far commits came
 
--- The calls of commits that come to these states, the earliest first, were made, where so much was held before; of those
--- of the last one perhaps no more than a front
+-- The calls of commits that come to these states, the earliest first, were made, where so much was held before; of
+-- those of the last one perhaps no more than a front
 abbrev pub MakesSoFar : Committed → List State → List Event → List Event → Type 0
 MakesSoFar held [] before after = after ≡ before
 MakesSoFar held (state ∷ []) before after =
@@ -142,7 +142,8 @@ module _ (old new : State) (before : List Event) (super : Super) (nodes : List N
 whole-events : (before : List Event) (commit : Commit)
     → with_whole commit.nodes commit.super before ≡ Synced ∷ behind commit before
 whole-events before commit =
-    with_events-append (node_events commit.super.nodesize commit.nodes) (superblock_events commit.super) (Synced ∷ before)
+    with_events-append (node_events commit.super.nodesize commit.nodes) (superblock_events commit.super)
+    (Synced ∷ before)
 
 whole-calls : (before : List Event) (commit : Commit)
     → with_commit commit.super commit.nodes (Synced ∷ before) ≡ Synced ∷ behind commit before
@@ -238,5 +239,6 @@ rests-behind old [] before after was later made = record { before = before; sync
 rests-behind old (state ∷ states) before after was later made =
     let first : Commit = record { nodes = made.1; super = made.0; state = state } in
     let then = mirrored old first before was later.0 later.1 made.2 in
-    let rest = subst (λ (events : List Event). Makes state.held states events after) (whole-calls before first) made.3 in
+    let rest = subst (λ (events : List Event). Makes state.held states events after)
+    (whole-calls before first) made.3 in
     rests-behind state states (behind first before) after then later.2 rest

@@ -1,5 +1,6 @@
 -- What was pending is committed before a structural command makes its change, and the slots that this leaves.
-use Rattle.std.proofs.Common.{◌≡◌, ℕ, zero, suc, ◌+◌, ◌*◌, ◌^◌, ◌<◌, ◌≤◌, Bool, true, false, List, [], ◌∷◌, ◌++◌, length, Option, Some, None, arith, refl, sym, ap, subst, ◌∙◌, inl, inr}
+use Rattle.std.proofs.Common.{◌≡◌, ℕ, zero, suc, ◌+◌, ◌*◌, ◌^◌, ◌<◌, ◌≤◌, Bool, true, false, List, [], ◌∷◌, ◌++◌}
+use Rattle.std.proofs.Common.{length, Option, Some, None, arith, refl, sym, ap, subst, ◌∙◌, inl, inr}
 use Rattle.std.specs.Prelude.{◌⊎◌, ◌||◌, IfOk, MatchBool, MatchOption, OnOk, Result, Ok, Err}
 use Rattle.std.proofs.lemmas.Bool.{cond-true, le-ltb, lt-ltb}
 use Rattle.std.proofs.lemmas.List.Folds.{list_any-append}
@@ -53,10 +54,12 @@ weight-alone held refs =
     bytes-alike (records_in refs ++ records_in refs) (records_in refs)
     (λ one. list_any-append (same_record one) (records_in refs) (records_in refs)
     ∙ or_same (is_among (records_in refs) one)) in
-    let less : records_bytes (records_in refs) ≤ records_bytes (records_in held ++ records_in refs) = no-less held refs in
+    let less : records_bytes (records_in refs) ≤ records_bytes (records_in held ++ records_in refs) =
+    no-less held refs in
     omega (arith, once, less)
 
-module _ (old new : Kept) (leaves : LeavesRoom old new) (sizes : sizes_of new.superblock ≡ sizes_of old.superblock) where
+module _ (old new : Kept) (leaves : LeavesRoom old new)
+    (sizes : sizes_of new.superblock ≡ sizes_of old.superblock) where
   book_less : book_weight new ≤ book_weight old
   book_less =
       let same : book_weight new ≡ weight_of old.fs.refs.refs old.fs.refs.refs =
@@ -121,8 +124,8 @@ pub room-same : (kept : Kept) (copies : ℕ) → structural_need_of kept copies 
 room-same kept copies enough =
     record { free = left-none copies (filled_by kept) (free_slots kept.fs.land.space) enough }
 
--- What a change leaves, which makes the extent tree's items so much heavier at the most, and those of the root and quota
--- trees so much, and takes so many slots
+-- What a change leaves, which makes the extent tree's items so much heavier at the most, and those of the root and
+-- quota trees so much, and takes so many slots
 pub room-grown : (old new : Kept) (copies k took more others : ℕ) → IsFitted old → IsFitted new → HasRoom old copies
     → new.superblock ≡ old.superblock → book_weight new ≤ book_weight old + more
     → root_weight new + quota_weight new ≤ root_weight old + quota_weight old + others
@@ -137,7 +140,8 @@ room-grown old new copies k took more others fits fits_new room same heavier bes
     ≤ filled_by old + k =
     fills-more old.superblock.nodesize (book_weight old + root_weight old + quota_weight old)
     (book_weight new + root_weight new + quota_weight new) k (large old fits) bytes in
-    let size = ap (λ (s : Super). nodes_filled s.nodesize (book_weight new + root_weight new + quota_weight new)) same in
+    let size = ap (λ (s : Super). nodes_filled s.nodesize (book_weight new + root_weight new + quota_weight new))
+    same in
     left-second copies (filled_by old) (filled_by new) k took (commit_need new) (free_slots old.fs.land.space)
     (free_slots new.fs.land.space) room.free (omega (arith, filled, size)) (need-few new fits_new) taken small
 
@@ -193,7 +197,8 @@ module _ (kept : Kept) (state : State) (events : List Event) (history : Option (
   early_told : kept.superblock.generation ≤ 2 ^ 63 → no_generation state ≡ None
   early_told early =
       let same = generation-told kept state history fits keeps in
-      ap (λ (b : Bool). refuse b why.NoGeneration) (le-ltb last_generation state.generation (omega (arith, early, same)))
+      ap (λ (b : Bool). refuse b why.NoGeneration)
+      (le-ltb last_generation state.generation (omega (arith, early, same)))
 
   unrefused : 0 < kept.pending → kept.superblock.generation ≤ 2 ^ 63 → refusal state command.Commit ≡ None
   unfolding refusal

@@ -1,6 +1,7 @@
--- What is kept is kept of a state that has one subvolume more. Where that was made without files, no node but its leaf is
--- fresh.
-use Rattle.std.proofs.Common.{◌≡◌, ◌≢◌, ℕ, ◌+◌, ◌<◌, ◌≤◌, true, false, List, [], ◌∷◌, ◌++◌, append-nil, arith, length, map, Option, Some, None, refl, sym, ap, subst, ◌∙◌, inl, inr}
+-- What is kept is kept of a state that has one subvolume more. Where that was made without files, no node but its leaf
+-- is fresh.
+use Rattle.std.proofs.Common.{◌≡◌, ◌≢◌, ℕ, ◌+◌, ◌<◌, ◌≤◌, true, false, List, [], ◌∷◌, ◌++◌, append-nil, arith, length}
+use Rattle.std.proofs.Common.{map, Option, Some, None, refl, sym, ap, subst, ◌∙◌, inl, inr}
 use Rattle.std.specs.Prelude.{◌⊎◌, ◌==◌, not}
 use Rattle.std.specs.BTreeMap.{is_at}
 use Rattle.std.specs.Ordering.{nat_cmp}
@@ -350,7 +351,8 @@ module _ (old new : Kept) (history : Option (List Event)) (bytes : ℕ) (state a
     (bare : placed.full ≡ false) (owned : (header_of placed.node).owner ≡ sub)
     (held : HoldsState new.fs.land history new.fs.refs after) (is : tree ≡ tree_of after sub)
     (reaches : (at : ℕ) → IsReachedBy new.fs history tree at
-    → (at ≡ made.root) ⊎ IsReachedBy new.fs history old.fs.tree at) (hand : new.fs.tree ≡ old.fs.tree) (others : new.fs.others.items ≡ old.fs.others.items ++ tree ∷ [])
+    → (at ≡ made.root) ⊎ IsReachedBy new.fs history old.fs.tree at) (hand : new.fs.tree ≡ old.fs.tree)
+    (others : new.fs.others.items ≡ old.fs.others.items ++ tree ∷ [])
     (known : (at : ℕ) (what : What) → what_in (book_of new.fs.refs.refs at) ≡ Some what
     → (what_in (book_of old.fs.refs.refs at) ≡ Some what) ⊎ (what.generation ≡ old.fs.tree.next)) where
   come_same : next_generation after ≡ next_generation state
@@ -396,7 +398,8 @@ module _ (old new : Kept) (history : Option (List Event)) (bytes : ℕ) (state a
   none_before : (t : Root) (at : ℕ) (node : Node) → Contains (trees_of old.fs) t → IsReachedBy new.fs history t at
       → fresh_at new.fs.land.blocks.draft at ≡ Some node → ⊥
   none_before t at node among reached fresh =
-      old-none-fresh old history bytes state (other_names state) fits keeps after new.fs held come_same next_same t among
+      old-none-fresh old history bytes state (other_names state) fits keeps after new.fs held come_same next_same t
+      among
       (still-grown old history bytes state (other_names state) fits keeps after.layout grown_so t among) table
       (keeps.idle none refl) fits_new.fitted.drafted at node reached fresh
 

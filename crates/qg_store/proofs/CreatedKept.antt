@@ -1,5 +1,6 @@
 -- What is kept where a subvolume without files was made: it fits together, and is kept of the state that this leaves.
-use Rattle.std.proofs.Common.{◌≡◌, ℕ, ◌+◌, ◌*◌, ◌<◌, ◌≤◌, true, List, [], ◌∷◌, ◌++◌, arith, length, Option, Some, None, refl, sym, ap, subst, ◌∙◌, inl, inr}
+use Rattle.std.proofs.Common.{◌≡◌, ℕ, ◌+◌, ◌*◌, ◌<◌, ◌≤◌, true, List, [], ◌∷◌, ◌++◌, arith, length, Option, Some, None}
+use Rattle.std.proofs.Common.{refl, sym, ap, subst, ◌∙◌, inl, inr}
 use Rattle.std.specs.Prelude.{◌⊎◌, not}
 use Rattle.std.specs.List.{Contains}
 use Rattle.std.specs.Option.{option_map}
@@ -41,7 +42,8 @@ use Rattle.qg_fs_tree.proofs.Lists.{has-mapped}
 use Rattle.qg_fs_laws.specs.Committing.{AreShortPieces}
 use Rattle.qg_fs_laws.specs.Keeping.{other_names}
 use Rattle.qg_kept.specs.declared.kept.Kept.{Kept}
-use Rattle.qg_kept.specs.Keeping.{HoldsPending, IsFitted, IsKept, IsKeptOf, IsKeptWith, book_weight, quota_weight, root_weight}
+use Rattle.qg_kept.specs.Keeping.{HoldsPending, IsFitted, IsKept, IsKeptOf, IsKeptWith, book_weight, quota_weight}
+use Rattle.qg_kept.specs.Keeping.{root_weight}
 use Rattle.qg_store.specs.Structural.{HasRoom, IsChanged, number_next, too_many_refusal}
 use Rattle.qg_store.proofs.Added.{IsAdded, fitted-added, greater}
 use Rattle.qg_store.proofs.Committed.{large}
@@ -119,7 +121,8 @@ module _ (old new : Kept) (land : Ground) (book : TreeRefs) (before after : Opti
 
   module _ (state next : State) (keeps : IsKeptOf old state before) (none : old.pending ≡ 0) (room : HasRoom old 18)
       (table : IsTable old.fs.refs.refs) (table_book : IsTable book.refs)
-      (creates : CreatesSubvolume state sub next) (held : HoldsState land after book next) (is : tree ≡ tree_of next sub)
+      (creates : CreatesSubvolume state sub next) (held : HoldsState land after book next)
+      (is : tree ≡ tree_of next sub)
       (heavier : BookGetsHeavier (record old.fs.refs { tree = sub }) book node_bytes)
       (slots : free_slots old.fs.land.space ≤ 1 + free_slots land.space)
       (known : (at : ℕ) (what : What) → what_in (book_of book.refs at) ≡ Some what
@@ -139,7 +142,8 @@ module _ (old new : Kept) (land : Ground) (book : TreeRefs) (before after : Opti
     less : (entry : ℕ × Subvolume) → Contains state.subvolumes entry → entry.0 < sub
     less entry has =
         greater old new 0 sub 0 tree fits.fitted comes few added entry.0
-        (subst (λ (keys : List ℕ). Contains keys entry.0) (keys-kept old state before (other_names state) fits.fitted keeps)
+        (subst (λ (keys : List ℕ). Contains keys entry.0)
+        (keys-kept old state before (other_names state) fits.fitted keeps)
         (has-mapped (λ (e : ℕ × Subvolume). e.0) state.subvolumes entry has))
 
     large_number : 255 < sub
@@ -225,7 +229,8 @@ module _ (old new : Kept) (land : Ground) (book : TreeRefs) (before after : Opti
         let empty = empty-files new.fs before tree (next_generation state) sub low told_leaf in
         let keeps_now = keeps-added old new before bytes state next sub tree fits keeps none kept_then table_new less
         large_number (made_empty creates.address) (empty_leaf (next_generation state) sub creates.address)
-        (adds-created state next sub creates) held_then (All-nil (λ (file : ℕ × File). AreShortPieces file.1.pieces)) empty
+        (adds-created state next sub creates) held_then (All-nil (λ (file : ℕ × File). AreShortPieces file.1.pieces))
+        empty
         young is added.hand others
         (ap (λ (r : TreeRefs). r.tree) refs_are)
         (ap (λ (r : TreeRefs). r.held) refs_are ∙ heavier.held)
@@ -237,7 +242,8 @@ module _ (old new : Kept) (land : Ground) (book : TreeRefs) (before after : Opti
               keeps_now;
           room =
               let wide = large old fits.fitted in
-              let few_bytes : node_bytes + (594 + 50 * 0) ≤ 1 * capacity old.superblock.nodesize = omega (arith, wide) in
+              let few_bytes : node_bytes + (594 + 50 * 0) ≤ 1 * capacity old.superblock.nodesize =
+              omega (arith, wide) in
               room-grown old new 18 1 1 node_bytes (594 + 50 * 0) fits.fitted kept_then.fitted room superblock weight
               weighs few_bytes (let same = space_same in omega (arith, slots, same)) (omega arith);
         }

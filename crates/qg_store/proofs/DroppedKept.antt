@@ -1,5 +1,6 @@
 -- What is kept where a subvolume went: it fits together, and is kept of the state that this leaves.
-use Rattle.std.proofs.Common.{◌≡◌, ◌≢◌, ℕ, ◌+◌, ◌*◌, ◌<◌, ◌≤◌, Bool, true, false, List, ◌∷◌, arith, length, map, Option, Some, refl, sym, ap, subst, ◌∙◌, inl, inr}
+use Rattle.std.proofs.Common.{◌≡◌, ◌≢◌, ℕ, ◌+◌, ◌*◌, ◌<◌, ◌≤◌, Bool, true, false, List, ◌∷◌, arith, length, map, Option}
+use Rattle.std.proofs.Common.{Some, refl, sym, ap, subst, ◌∙◌, inl, inr}
 use Rattle.std.specs.Prelude.{◌⊎◌, ◌==◌, IfSome, not}
 use Rattle.std.specs.List.{Contains, filter}
 use Rattle.std.proofs.lemmas.Bool.{eq-eqb}
@@ -92,7 +93,8 @@ count_names state =
 
 -- the slots are there still where another tree came to hand
 pub room-turned : (old mid : Kept) (copies : ℕ) → SameButClean old mid → HasRoom old copies → HasRoom mid copies
-room-turned old mid copies same room = subst (λ (k : Kept). HasRoom k copies) (sym same.rest) (record { free = room.free })
+room-turned old mid copies same room = subst (λ (k : Kept). HasRoom k copies) (sym same.rest)
+    (record { free = room.free })
 
 -- what is left, told by what was there before the tree was taken
 pub rest-dropped : (old taken new : Kept) (land : Ground) (book now : TreeRefs) (sub hand : ℕ)
@@ -121,8 +123,8 @@ rest-dropped old taken new land book now sub hand taken_is now_is hand_is is =
       snapshots = without_key sub old.snapshots;
     }) (now_is ∙ ap (λ (n : ℕ). record book { tree = n }) (hand_is ∙ ap (λ (k : Kept). k.fs.tree.owner) taken_is))
 
--- `land` and `book` are what the drop left; then the book stands for the tree at hand again, the tree that went is no more
--- among the others, and its number not among the snapshots
+-- `land` and `book` are what the drop left; then the book stands for the tree at hand again, the tree that went is no
+-- more among the others, and its number not among the snapshots
 module _ (old new : Kept) (land : Ground) (book : TreeRefs) (before after : Option (List Event)) (bytes left sub : ℕ)
     (fits : IsKept old before bytes) (top : old.fs.tree.owner ≡ TOP_LEVEL)
     (other : sub ≡ TOP_LEVEL → ⊥) (rests : RestsButRuns old.fs.land land after old.fs.tree.next)
@@ -346,7 +348,8 @@ module _ (old new : Kept) (land : Ground) (book : TreeRefs) (before after : Opti
     names_differ : other_names state ≡ other_names next → ⊥
     names_differ same =
         let first = count_names state in
-        let second : length (other_names next) ≡ length stay + 1 + length (quota_names state.quota) = count_names next in
+        let second : length (other_names next) ≡ length stay + 1 + length (quota_names state.quota) =
+        count_names next in
         let all = ap (λ (records : List Record). length records) same in
         let less = shorter sub went.0 state.subvolumes went.1 in
         omega (arith, first, second, all, less)
@@ -376,7 +379,8 @@ module _ (old new : Kept) (land : Ground) (book : TreeRefs) (before after : Opti
         ≤ weight_of old.fs.refs.held old.fs.refs.refs + n * capacity old.superblock.nodesize =
         subst (λ (sizes : Sizes). weight_of book.held book.refs
         ≤ weight_of old.fs.refs.held old.fs.refs.refs + n * capacity sizes.nodesize) fits.fitted.sizes
-        (held-heavier (record old.fs.refs { tree = sub }) book (n * capacity old.fs.land.space.sizes.nodesize) heavier) in
+        (held-heavier (record old.fs.refs { tree = sub }) book (n * capacity old.fs.land.space.sizes.nodesize)
+        heavier) in
         let same = ap (λ (r : TreeRefs). weight_of r.held r.refs) refs_are in
         omega (arith, heavy, same)
 

@@ -1,5 +1,6 @@
 -- What is kept fits together where a subvolume other than the top-level one went.
-use Rattle.std.proofs.Common.{◌≡◌, ◌≢◌, ℕ, ◌+◌, ◌*◌, ◌≤◌, true, List, ◌∷◌, Option, Some, None, arith, length, map, sym, ap, subst, ◌∙◌, inl, inr}
+use Rattle.std.proofs.Common.{◌≡◌, ◌≢◌, ℕ, ◌+◌, ◌*◌, ◌≤◌, true, List, ◌∷◌, Option, Some, None, arith, length, map, sym}
+use Rattle.std.proofs.Common.{ap, subst, ◌∙◌, inl, inr}
 use Rattle.std.specs.Prelude.{◌==◌, IfSome, not}
 use Rattle.std.specs.List.{All, Contains, filter}
 use Rattle.std.specs.List.Sorted.{IsPermutation, IsStrictlyIncreasing}
@@ -39,8 +40,8 @@ tree-there kept sub fits top other there none =
       | inr later ↦ All-contains (λ (t : Root). t.owner ≢ sub) kept.fs.others.items tree.0 none later tree.2
     ]
 
--- The tree of a number went from among the others, and the number from the table of snapshots; nothing else that must fit
--- changed
+-- The tree of a number went from among the others, and the number from the table of snapshots; nothing else that must
+-- fit changed
 pub record IsGone (old new : Kept) (sub : ℕ) : Type 0 where
   pub superblock : new.superblock ≡ old.superblock
   pub hand : new.fs.tree ≡ old.fs.tree

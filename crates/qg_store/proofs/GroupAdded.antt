@@ -1,6 +1,7 @@
 -- Quota where a subvolume's group was added, by its two cases: what is looked up in it, what is held, and what its tree
 -- takes. Weights are in bytes.
-use Rattle.std.proofs.Common.{◌≡◌, ℕ, ◌+◌, ◌*◌, ◌≤◌, Bool, true, false, List, [], ◌∷◌, arith, length, Option, Some, None, refl, sym, ap, subst, ◌∙◌, nat_lt}
+use Rattle.std.proofs.Common.{◌≡◌, ℕ, ◌+◌, ◌*◌, ◌≤◌, Bool, true, false, List, [], ◌∷◌, arith, length, Option, Some}
+use Rattle.std.proofs.Common.{None, refl, sym, ap, subst, ◌∙◌, nat_lt}
 use Rattle.std.specs.Prelude.{◌==◌, IfSome, MatchOption, if◌then◌else◌}
 use Rattle.std.specs.Option.{option_map}
 use Rattle.std.proofs.lemmas.Option.{none-some, same_Some}
@@ -29,7 +30,8 @@ use Rattle.qg_ground.specs.declared.ground.Ground.{Ground}
 use Rattle.qg_tree_refs.specs.declared.tree_refs.TreeRefs.{TreeRefs}
 use Rattle.qg_other_trees.specs.Trees.{quota_tree_bytes, root_tree_bytes}
 use Rattle.qg_kept.specs.declared.kept.Kept.{Kept}
-use Rattle.qg_kept.specs.Keeping.{HoldsPending, IsFitted, book_weight, commit_need, filled_by, quota_weight, root_weight}
+use Rattle.qg_kept.specs.Keeping.{HoldsPending, IsFitted, book_weight, commit_need, filled_by, quota_weight}
+use Rattle.qg_kept.specs.Keeping.{root_weight}
 use Rattle.qg_store.specs.Structural.{HasRoom, SameHeldIn}
 use Rattle.qg_store.proofs.Committed.{large, need-few}
 use Rattle.qg_file_commands.proofs.Room.{fills-more, left-second}
@@ -125,9 +127,11 @@ pub with-inherited : (generation source copy : ℕ) (parents : List ℕ) (before
     → after ≡ option_map (inherited generation source copy parents) before
     → IsWithGroupIn generation copy (length parents) before after
 with-inherited generation source copy parents before after is =
-    subst (λ (made : Option Quota). IsWithGroupIn generation copy (length parents) before made) (sym is) (by before) where
+    subst (λ (made : Option Quota). IsWithGroupIn generation copy (length parents) before made) (sym is)
+    (by before) where
       by : (quota : Option Quota)
-          → IsWithGroupIn generation copy (length parents) quota (option_map (inherited generation source copy parents) quota)
+          → IsWithGroupIn generation copy (length parents) quota
+          (option_map (inherited generation source copy parents) quota)
       by None = tt
       by (Some quota) = record {
         group = limits_of generation (value_at source quota.groups);
@@ -183,8 +187,8 @@ weighs-same many more before after subs is =
 
 -- ---- room
 
--- What a change leaves, which makes the extent tree's items so much heavier at the most, and those of the root and quota
--- trees so much, and takes so many slots
+-- What a change leaves, which makes the extent tree's items so much heavier at the most, and those of the root and
+-- quota trees so much, and takes so many slots
 pub room-grown : (old new : Kept) (copies k took more others : ℕ) → IsFitted old → IsFitted new → HasRoom old copies
     → new.superblock ≡ old.superblock → book_weight new ≤ book_weight old + more
     → root_weight new + quota_weight new ≤ root_weight old + quota_weight old + others
@@ -194,13 +198,15 @@ pub room-grown : (old new : Kept) (copies k took more others : ℕ) → IsFitted
 room-grown old new copies k took more others fits fits_new room same heavier weighs few taken small =
     let bytes : book_weight new + root_weight new + quota_weight new
     ≤ book_weight old + root_weight old + quota_weight old + k * capacity old.superblock.nodesize =
-    sums (book_weight old) (book_weight new) (root_weight old) (root_weight new) (quota_weight old) (quota_weight new) more
+    sums (book_weight old) (book_weight new) (root_weight old) (root_weight new) (quota_weight old)
+    (quota_weight new) more
     others (k * capacity old.superblock.nodesize) heavier weighs few in
     let filled : nodes_filled old.superblock.nodesize (book_weight new + root_weight new + quota_weight new)
     ≤ filled_by old + k =
     fills-more old.superblock.nodesize (book_weight old + root_weight old + quota_weight old)
     (book_weight new + root_weight new + quota_weight new) k (large old fits) bytes in
-    let size = ap (λ (s : Super). nodes_filled s.nodesize (book_weight new + root_weight new + quota_weight new)) same in
+    let size = ap (λ (s : Super). nodes_filled s.nodesize (book_weight new + root_weight new + quota_weight new))
+    same in
     left-second copies (filled_by old) (filled_by new) k took (commit_need new) (free_slots old.fs.land.space)
     (free_slots new.fs.land.space) room.free (omega (arith, filled, size)) (need-few new fits_new) taken small where
       sums : (a b c d e f more others all : ℕ) → b ≤ a + more → d + f ≤ c + e + others → more + others ≤ all
@@ -251,7 +257,8 @@ module _ (old mid new : Kept) (stamp : ℕ) (same : mid.quota ≡ old.quota) (da
   quota-created sub is = is ∙ (λ i. option_map (with_group sub (new_group (dated i))) (quota_of (same i)))
 
   pub group-created : (sub : ℕ)
-      → quota_of new.quota ≡ option_map (with_group sub (new_group stamp)) (quota_of mid.quota) → AddsGroup old new sub 0
+      → quota_of new.quota ≡ option_map (with_group sub (new_group stamp)) (quota_of mid.quota)
+      → AddsGroup old new sub 0
   group-created sub is = record {
     quota = with-created old.fs.tree.next sub (quota_of old.quota) (quota_of new.quota) (quota-created sub is);
     tracked = tracked;

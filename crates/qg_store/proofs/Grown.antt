@@ -67,7 +67,8 @@ layout-grown table address placed none q other there =
     ∙ there
 
 items_by : (a b : FsTree) (history : Option (List Event)) (tree : Root)
-    → items_below (nodes_of a history) tree.height tree.address ≡ items_below (nodes_of b history) tree.height tree.address
+    → items_below (nodes_of a history) tree.height tree.address ≡ items_below (nodes_of b history) tree.height
+    tree.address
     → items_in a history tree ≡ items_in b history tree
 items_by a b history tree same = rw same refl
 

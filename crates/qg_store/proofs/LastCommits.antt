@@ -1,5 +1,6 @@
 -- The commits of a step lead from the last one before it to that of the state that it comes to.
-use Rattle.std.proofs.Common.{◌≡◌, ◌∙◌, inl, inr, ℕ, ◌+◌, ◌<◌, Bool, true, false, List, [], ◌∷◌, ◌++◌, Option, Some, None}
+use Rattle.std.proofs.Common.{◌≡◌, ◌∙◌, inl, inr, ℕ, ◌+◌, ◌<◌, Bool, true, false, List, [], ◌∷◌, ◌++◌, Option, Some}
+use Rattle.std.proofs.Common.{None}
 use Rattle.std.proofs.Common.{arith, refl, sym, ap, subst}
 use Rattle.std.specs.Prelude.{MatchBool, MatchOption}
 use Rattle.qg_num.specs.declared.answer.Answer.{Answer}
@@ -153,7 +154,8 @@ does-changes old before changed new (Assign member parent) reply commits changes
 does-changes old before changed new (Remove member parent) reply commits changes does = does
 does-changes old before changed new (Limit group which max) reply commits changes does = does
 does-changes old before changed new (Write sub ino off len) reply commits changes does = absurd changes
-does-changes old before changed new (Clone sub ino off len to_sub to_ino to_off) reply commits changes does = absurd changes
+does-changes old before changed new (Clone sub ino off len to_sub to_ino to_off) reply commits changes does =
+    absurd changes
 does-changes old before changed new (Truncate sub ino size) reply commits changes does = absurd changes
 does-changes old before changed new (Unlink sub ino) reply commits changes does = absurd changes
 does-changes old before changed new Commit reply commits changes does = absurd changes
@@ -167,7 +169,8 @@ structural-leads committed old new given reply commits last does =
     let first = pending-leads committed old does.before does.earlier last does.first in
     let mid = last_commit committed does.earlier in
     let changed = changes-last does.before does.changed given reply does.changes in
-    let second = commit-leads mid does.changed new (last-then mid does.before does.changed first.last changed) does.second in
+    let second = commit-leads mid does.changed new (last-then mid does.before does.changed first.last changed)
+    does.second in
     subst (λ (list : List State). LeadTo committed list new) (sym does.told)
     (lead-then committed does.earlier (new ∷ []) new first.later second)
 

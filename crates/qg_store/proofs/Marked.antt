@@ -1,5 +1,6 @@
 -- What is kept, where the last snapshot of the subvolume at hand is another one: it is kept of the state that says so.
-use Rattle.std.proofs.Common.{◌≡◌, ℕ, ◌≤◌, Bool, true, false, List, [], ◌∷◌, arith, length, map, Option, Some, refl, sym, ap, subst, ◌∙◌}
+use Rattle.std.proofs.Common.{◌≡◌, ℕ, ◌≤◌, Bool, true, false, List, [], ◌∷◌, arith, length, map, Option, Some, refl}
+use Rattle.std.proofs.Common.{sym, ap, subst, ◌∙◌}
 use Rattle.std.specs.Prelude.{◌==◌, nat_lt, if◌then◌else◌}
 use Rattle.std.specs.List.Sorted.{IsPermutation, IsStrictlyIncreasing}
 use Rattle.std.proofs.lemmas.List.{length-map}
@@ -59,7 +60,8 @@ module _ (old : Kept) (stamp : ℕ) (fits : IsFitted old) (dated : stamp ≤ old
 
   before : (snapshot : ℕ) × (value_at own old.snapshots ≡ Some snapshot)
   before =
-      value-there own old.snapshots (listed-key own old.snapshots (tree-listed old fits old.fs.tree (hand-among old.fs)))
+      value-there own old.snapshots
+      (listed-key own old.snapshots (tree-listed old fits old.fs.tree (hand-among old.fs)))
 
   pub keys-marked : keys_of (with_value own stamp old.snapshots) ≡ keys_of old.snapshots
   keys-marked =

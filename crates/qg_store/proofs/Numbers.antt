@@ -1,12 +1,15 @@
 -- Lists by number without one number, and numbers that ascend with one in front of the others.
-use Rattle.std.proofs.Common.{◌≡◌, ◌≢◌, ℕ, zero, suc, ◌+◌, ◌<◌, Bool, true, false, List, [], ◌∷◌, ◌++◌, arith, drop, get_or, length, map, set, take, Option, Some, None, refl, sym, ap, subst, ◌∙◌, inl, inr}
+use Rattle.std.proofs.Common.{◌≡◌, ◌≢◌, ℕ, zero, suc, ◌+◌, ◌<◌, Bool, true, false, List, [], ◌∷◌, ◌++◌, arith, drop}
+use Rattle.std.proofs.Common.{get_or, length, map, set, take, Option, Some, None, refl, sym, ap, subst, ◌∙◌, inl, inr}
 use Rattle.std.specs.Prelude.{◌==◌, not, nat_lt, if◌then◌else◌}
 use Rattle.std.specs.List.{All, Contains, filter}
 use Rattle.std.specs.List.Sorted.{IsPermutation, IsStrictlyIncreasing}
-use Rattle.std.proofs.lemmas.Bool.{cases_Bool, cond-false, cond-true, eq-eqb, eqb-true, false≢true, le-ltb, ne_eqb, not_from_false, not_from_true, true≢false}
+use Rattle.std.proofs.lemmas.Bool.{cases_Bool, cond-false, cond-true, eq-eqb, eqb-true, false≢true, le-ltb, ne_eqb}
+use Rattle.std.proofs.lemmas.Bool.{not_from_false, not_from_true, true≢false}
 use Rattle.std.proofs.lemmas.List.Elements.{All-contains}
 use Rattle.std.proofs.lemmas.List.Kept.{AllPairs-from_increasing}
-use Rattle.std.proofs.lemmas.List.Sorted.{IsPermutation-append_comm, IsPermutation-append_left, IsPermutation-cons, IsPermutation-refl, IsPermutation-trans}
+use Rattle.std.proofs.lemmas.List.Sorted.{IsPermutation-append_comm, IsPermutation-append_left, IsPermutation-cons}
+use Rattle.std.proofs.lemmas.List.Sorted.{IsPermutation-refl, IsPermutation-trans}
 use Rattle.std.proofs.lemmas.Option.{none-some}
 use Rattle.qg_image.specs.Table.{keys_of, value_at, with_value}
 use Rattle.qg_image.proofs.Contained.{contains_cases, contains_here, contains_later, none_contained}
@@ -32,7 +35,8 @@ pub numbers-without : {A : Type 0} (number : A → ℕ) (n : ℕ) (xs : List A)
     → map number (filter (λ x. not (number x == n)) xs) ≡ filter (λ m. not (m == n)) (map number xs)
 numbers-without number n [] = refl
 numbers-without {A} number n (x ∷ xs) =
-    step_without number n x (filter (λ (y : A). not (number y == n)) xs) (filter (λ (m : ℕ). not (m == n)) (map number xs))
+    step_without number n x (filter (λ (y : A). not (number y == n)) xs)
+    (filter (λ (m : ℕ). not (m == n)) (map number xs))
     (not (number x == n)) (numbers-without number n xs)
 
 -- ---- numbers that ascend

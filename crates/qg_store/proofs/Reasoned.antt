@@ -1,5 +1,6 @@
 -- Why a structural command may be refused, told by what is kept.
-use Rattle.std.proofs.Common.{◌≡◌, ℕ, ◌+◌, ◌*◌, ◌^◌, Bool, true, false, List, [], ◌∷◌, ◌++◌, None, Some, Option, arith, refl, sym, ap, ◌∙◌}
+use Rattle.std.proofs.Common.{◌≡◌, ℕ, ◌+◌, ◌*◌, ◌^◌, Bool, true, false, List, [], ◌∷◌, ◌++◌, None, Some, Option, arith}
+use Rattle.std.proofs.Common.{refl, sym, ap, ◌∙◌}
 use Rattle.std.specs.Prelude.{◌||◌, ◌&&◌, ◌==◌, is_some, length, nat_le, nat_lt, not}
 use Rattle.std.specs.List.{list_any}
 use Rattle.std.proofs.lemmas.Bool.{eq-eqb, ne_eqb, true≢false}
@@ -18,7 +19,8 @@ use Rattle.qg_image.specs.Members.{level_of_group, next_subvolume}
 use Rattle.qg_image.specs.Need.{nodes_filled, structural_need}
 use Rattle.qg_image.specs.State.{State, is_quota_on}
 use Rattle.qg_image.specs.Verdict.{most_groups, most_relations, most_subvolumes}
-use Rattle.qg_machine.specs.Refusals.{groups_of, last_generation, no_commit, no_nodes, no_parents, no_sub, number_to_come}
+use Rattle.qg_machine.specs.Refusals.{groups_of, last_generation, no_commit, no_nodes, no_parents, no_sub}
+use Rattle.qg_machine.specs.Refusals.{number_to_come}
 use Rattle.qg_machine.specs.Refusals.{pairs_of, refusal, refuse, structural_copies, too_many_subvolumes}
 use Rattle.qg_hier.specs.Groups.{has_number}
 use Rattle.qg_groups.specs.Changing.{change_refusal, change_refusals, groups_in, is_group_command, pairs_in}
@@ -292,7 +294,8 @@ module _ (old new : Kept) (settled : IsSettledFrom old new) where
   on_same : is_some (quota_of new.quota) ≡ is_some (quota_of old.quota)
   on_same = on-recounted (quota_of old.quota) (quota_of new.quota) settled.groups
 
-  -- the number that comes next, and whether that is one too many, are the same where subvolumes, groups and relations are
+  -- the number that comes next, and whether that is one too many, are the same where subvolumes, groups and relations
+  -- are
   pub number-same : number_next new ≡ number_next old
   number-same = λ i. next_subvolume (keys_of (settled.snapshots i)) (groups_same i)
 

@@ -1,5 +1,7 @@
--- A command of quota: it is of the machine's structural commands, and what it changes is kept of the state that this leaves.
-use Rattle.std.proofs.Common.{◌≡◌, ℕ, ◌+◌, ◌*◌, ◌<◌, ◌≤◌, Bool, true, false, List, [], ◌∷◌, arith, length, map, Option, Some, None, refl, sym, ap, subst, ◌∙◌}
+-- A command of quota: it is of the machine's structural commands, and what it changes is kept of the state that this
+-- leaves.
+use Rattle.std.proofs.Common.{◌≡◌, ℕ, ◌+◌, ◌*◌, ◌<◌, ◌≤◌, Bool, true, false, List, [], ◌∷◌, arith, length, map, Option}
+use Rattle.std.proofs.Common.{Some, None, refl, sym, ap, subst, ◌∙◌}
 use Rattle.std.specs.Prelude.{◌||◌, ◌==◌, IfSome, nat_lt, not}
 use Rattle.std.specs.List.{All, Contains}
 use Rattle.std.specs.List.Sorted.{IsStrictlyIncreasing}
@@ -107,7 +109,8 @@ copies-other kept given on = refl
 
 -- ---- why it is refused, as it was asked
 
-pub asked-so : (kept : Kept) (quota : Option Quota) (seen : List (ℕ × ℕ)) (given : Command) (found answer : Option Refusal)
+pub asked-so : (kept : Kept) (quota : Option Quota) (seen : List (ℕ × ℕ)) (given : Command)
+    (found answer : Option Refusal)
     → seen ≡ kept.snapshots → found ≡ change_refusal quota (keys_of seen) given → found ≡ answer
     → change_refusal quota (keys_of kept.snapshots) given ≡ answer
 asked-so kept quota seen given found answer same asked is =
@@ -154,7 +157,8 @@ module _ (stamp : ℕ) (live : List ℕ) where
       → (sub : ℕ) × Contains live sub × ((sub, new_group stamp) ≡ entry)
   made_from entry has = from-mapped (λ (sub : ℕ). (sub, new_group stamp)) live entry has
 
-  pub groups-on : length live ≤ most_groups → IsStrictlyIncreasing live → All (λ sub. is_subvolume_number sub ≡ true) live
+  pub groups-on : length live ≤ most_groups → IsStrictlyIncreasing live
+      → All (λ sub. is_subvolume_number sub ≡ true) live
       → IsSound (hierarchy_of (quota_for stamp live)) → AreGroups stamp live (quota_for stamp live)
   groups-on few up numbers sound = record {
     few = let same = length-map {B = ℕ × Group} live (λ (sub : ℕ). (sub, new_group stamp)) in omega (arith, same, few);
@@ -339,8 +343,8 @@ few_more kept _ = omega arith
 abbrev pub with_tracked : Kept → Option QuotaState → Kept
 with_tracked old quota = record old { quota = quota }
 
--- Quota was changed by a command of quota that isn't refused: what is looked up agrees with it, no more is held than was,
--- and nothing where nothing was
+-- Quota was changed by a command of quota that isn't refused: what is looked up agrees with it, no more is held than
+-- was, and nothing where nothing was
 pub record IsRegrouped (old : Kept) (given : Command) (quota : Option QuotaState) : Type 0 where
   pub changed : quota_of quota
       ≡ quota_changed old.fs.tree.next (keys_of old.snapshots) given (quota_of old.quota)
@@ -362,7 +366,8 @@ regrouped-so old new given stamp dated changed tracked most none = record {
 }
 
 module _ (old : Kept) (given : Command) (quota : Option QuotaState) (fits : IsFitted old)
-    (free : change_refusal (quota_of old.quota) (keys_of old.snapshots) given ≡ None) (regrouped : IsRegrouped old given quota)
+    (free : change_refusal (quota_of old.quota) (keys_of old.snapshots) given ≡ None)
+    (regrouped : IsRegrouped old given quota)
   where
     numbers : All (λ sub. is_subvolume_number sub ≡ true) (keys_of old.snapshots)
     numbers =
@@ -372,7 +377,8 @@ module _ (old : Kept) (given : Command) (quota : Option QuotaState) (fits : IsFi
         (All-contains (λ (e : ℕ × ℕ). is_subvolume_number e.0 ≡ true) old.snapshots entry.0 fits.subvolumes.numbers
         entry.1))
 
-    sound_now : (made : Quota) → quota_changed old.fs.tree.next (keys_of old.snapshots) given (quota_of old.quota) ≡ Some made
+    sound_now : (made : Quota) → quota_changed old.fs.tree.next (keys_of old.snapshots) given (quota_of old.quota)
+        ≡ Some made
         → IsSound (hierarchy_of made)
     sound_now made is = sound-tracked quota made (regrouped.changed ∙ is) regrouped.tracked
 
@@ -427,7 +433,8 @@ module _ (old : Kept) (given : Command) (quota : Option QuotaState) (fits : IsFi
 
     -- ---- the state
 
-    module _ (state : State) (history : Option (List Event)) (keeps : IsKeptOf old state history) (none : old.pending ≡ 0)
+    module _ (state : State) (history : Option (List Event)) (keeps : IsKeptOf old state history)
+        (none : old.pending ≡ 0)
         (group : is_group_command given ≡ true) (room : HasRoom old (group_copies old given)) where
       abbrev changed : State
       changed = record state {

@@ -12,18 +12,28 @@ use Rattle.qg_reach.specs.Fits.{first_fits}
 use Rattle.qg_reach.proofs.SpaceRule.{Keeps-space, ends_by_later, member_fits}
 use Rattle.qg_space.specs.Holding.{AscendApart}
 
-first_is : (sizes : Sizes) (x : Element) (later : List Element) → first_fits sizes (x ∷ later) ≡ true → is_extent sizes x ≡ true
+first_is : (sizes : Sizes) (x : Element) (later : List Element) → first_fits sizes (x ∷ later) ≡ true
+    → is_extent sizes x ≡ true
 first_is sizes x [] fits = fits
-first_is sizes x (next ∷ later) fits = (and_parts (is_extent sizes x) (nat_le (x.address + x.bytes) next.address) fits).0
+first_is sizes x (next ∷ later) fits =
+    (and_parts (is_extent sizes x) (nat_le (x.address + x.bytes) next.address) fits).0
 
 -- from an address on that none begins before
-apart_from : (sizes : Sizes) (from : ℕ) (extents : List Element) → space_failure sizes extents ≡ None → ((y : Element) → Contains extents y → from ≤ y.address) → AscendApart sizes from extents
+apart_from : (sizes : Sizes) (from : ℕ) (extents : List Element) → space_failure sizes extents ≡ None
+    → ((y : Element) → Contains extents y → from ≤ y.address) → AscendApart sizes from extents
 apart_from sizes from [] none low = tt
 apart_from sizes from (x ∷ later) none low =
     let keeps = Keeps-space sizes x later none in
-    let run = (and_parts (is_run sizes x.address x.bytes) (nat_le x.bytes longest_extent) (first_is sizes x later keeps.fits)).0 in
-    (run, low x (contains_here x later), apart_from sizes (x.address + x.bytes) later keeps.rest (λ y has. ends_by_later sizes x later y none has))
+    let run = (and_parts (is_run sizes x.address x.bytes) (nat_le x.bytes longest_extent)
+    (first_is sizes x later keeps.fits)).0 in (
+      run,
+      low x (contains_here x later),
+      apart_from sizes (x.address + x.bytes) later keeps.rest
+          (λ y has. ends_by_later sizes x later y none has),
+    )
 
 -- in the data area
-pub extents-apart : (sizes : Sizes) (extents : List Element) → space_failure sizes extents ≡ None → AscendApart sizes data_begin extents
-extents-apart sizes extents none = apart_from sizes data_begin extents none (λ y has. (member_fits sizes extents y none has).begin)
+pub extents-apart : (sizes : Sizes) (extents : List Element) → space_failure sizes extents ≡ None
+    → AscendApart sizes data_begin extents
+extents-apart sizes extents none =
+    apart_from sizes data_begin extents none (λ y has. (member_fits sizes extents y none has).begin)

@@ -7,7 +7,8 @@ use Rattle.qg_image.specs.FilesOf.{inodes_end, least_inode}
 use Rattle.qg_grammar.specs.ScriptText.{is_in_grammar, is_ino_word, is_sub_word, is_word}
 
 -- the inode of a write has a number of a file
-pub inode_told : (sub ino off len : ℕ) → is_in_grammar (Write sub ino off len) ≡ true → (least_inode ≤ ino) × (ino < inodes_end)
+pub inode_told : (sub ino off len : ℕ) → is_in_grammar (Write sub ino off len) ≡ true
+    → (least_inode ≤ ino) × (ino < inodes_end)
 unfolding is_in_grammar
 inode_told sub ino off len numbers =
     let to_len = and_parts (is_sub_word sub && is_ino_word ino && is_word off) (is_word len) numbers in
@@ -17,7 +18,8 @@ inode_told sub ino off len numbers =
     (leb-true least_inode ino both.0, ltb-true ino inodes_end both.1)
 
 -- the inode that a clone goes to has a number of a file
-pub target_told : (sub ino off len to_sub to_ino to_off : ℕ) → is_in_grammar (Clone sub ino off len to_sub to_ino to_off) ≡ true → (least_inode ≤ to_ino) × (to_ino < inodes_end)
+pub target_told : (sub ino off len to_sub to_ino to_off : ℕ)
+    → is_in_grammar (Clone sub ino off len to_sub to_ino to_off) ≡ true → (least_inode ≤ to_ino) × (to_ino < inodes_end)
 unfolding is_in_grammar
 target_told sub ino off len to_sub to_ino to_off numbers =
     let source = is_sub_word sub && is_ino_word ino && is_word off && is_word len in

@@ -1,5 +1,6 @@
 -- A snapshot adds a subvolume to the state in which its source was marked.
-use Rattle.std.proofs.Common.{◌≡◌, ℕ, zero, suc, ◌<◌, ◌≤◌, true, false, List, Option, Some, refl, sym, ap, ◌∙◌, inl, inr}
+use Rattle.std.proofs.Common.{◌≡◌, ℕ, zero, suc, ◌<◌, ◌≤◌, true, false, List, Option, Some, refl, sym, ap, ◌∙◌, inl}
+use Rattle.std.proofs.Common.{inr}
 use Rattle.std.specs.Prelude.{◌⊎◌, slice_get}
 use Rattle.std.proofs.lemmas.Option.{same_Some}
 use Rattle.qg_device.specs.History.{Event}
@@ -68,7 +69,8 @@ pub copy-reach : (nodes : ℕ → Option Node) (generation copy address at : ℕ
 unfolding Reaches
 copy-reach nodes generation copy address at root there here zero q reaches = inl reaches
 copy-reach nodes generation copy address at root there here (suc level) q (inl top) = inl top
-copy-reach nodes generation copy address at root there here (suc level) q (inr (node, is, place, pointer, has, reaches)) =
+copy-reach nodes generation copy address at root there here (suc level) q
+    (inr (node, is, place, pointer, has, reaches)) =
     let same = same_Some node (copy_of generation copy address root) (sym is ∙ here) in
     inr (inr (
       root,
@@ -86,7 +88,8 @@ trees_alike : (fs : FsTree) (history : Option (List Event)) (a b : Root)
 trees_alike fs history a b same = rw same refl
 
 -- the new tree has the files of the one that it was copied from
-pub copy-files : (fs : FsTree) (history : Option (List Event)) (super : Super) (generation copy : ℕ) (tree source : Root)
+pub copy-files : (fs : FsTree) (history : Option (List Event)) (super : Super) (generation copy : ℕ)
+    (tree source : Root)
     (root : Node) (files : List (ℕ × File)) → is_subvolume_number copy ≡ true → 0 < generation
     → generation ≤ super.generation → tree.height ≡ source.height → nodes_of fs history source.address ≡ Some root
     → nodes_of fs history tree.address ≡ Some (copy_of generation copy tree.address root)
@@ -95,7 +98,8 @@ copy-files fs history super generation copy tree source root files number some b
   items =
       trees_alike fs history tree source
       (ap (λ (level : ℕ). items_below (nodes_of fs history) level tree.address) height
-      ∙ copy-items super generation copy tree.address source.address number some by (nodes_of fs history) root there here
+      ∙ copy-items super generation copy tree.address source.address number some by (nodes_of fs history) root there
+      here
       source.height)
       ∙ has.items;
   writable = has.writable;

@@ -1,6 +1,7 @@
 -- What is kept where a snapshot of the subvolume at hand was made: it fits together, and is kept of the state that this
 -- leaves.
-use Rattle.std.proofs.Common.{◌≡◌, ℕ, ◌+◌, ◌*◌, ◌<◌, ◌≤◌, List, [], ◌∷◌, ◌++◌, arith, length, Option, Some, None, refl, sym, ap, subst, ◌∙◌, inl, inr}
+use Rattle.std.proofs.Common.{◌≡◌, ℕ, ◌+◌, ◌*◌, ◌<◌, ◌≤◌, List, [], ◌∷◌, ◌++◌, arith, length, Option, Some, None, refl}
+use Rattle.std.proofs.Common.{sym, ap, subst, ◌∙◌, inl, inr}
 use Rattle.std.specs.Prelude.{◌⊎◌}
 use Rattle.std.specs.List.{Contains}
 use Rattle.std.proofs.lemmas.List.{length-append}
@@ -273,7 +274,8 @@ module _ (old new : Kept) (land : Ground) (book : TreeRefs) (before after : Opti
     made_files =
         subst (λ (m : Subvolume). HasFiles new.fs before tree m.files) (sym source_is)
         (copy-files new.fs before (record old.superblock { generation = next_generation state }) (next_generation state)
-        copy tree old.fs.tree snap.root keeps.mine.files (number-good old (length parents) copy comes few) (omega arith) (omega arith)
+        copy tree old.fs.tree snap.root keeps.mine.files (number-good old (length parents) copy comes few) (omega arith)
+        (omega arith)
         height told_root told_copy
         (files-grown old before bytes state (other_names state) fits keeps next new.fs held_then come_next next_same
         old.fs.tree (hand-among old.fs)
@@ -357,7 +359,8 @@ module _ (old new : Kept) (land : Ground) (book : TreeRefs) (before after : Opti
 
     young : AreYoung new.fs before
     young =
-        young-added source_marked new before bytes state_then next copy tree marked_kept marked_keeps none table kept_then
+        young-added source_marked new before bytes state_then next copy tree marked_kept marked_keeps none table
+        kept_then
         made placed adds refl owned held_then is reaches added.hand others known_then
 
     keeps_now : IsKeptWith new next before (other_names state_then)

@@ -25,7 +25,8 @@ abbrev to_third : Super → List Node → List Event → List Event
 to_third super nodes events = Wrote second_place (super_text second_place super) ∷ Synced ∷ to_second super nodes events
 
 -- each commit made sure of what the disk held three times
-pub synced-Makes : (held : Committed) (commits : List State) (before after : List Event) → Makes held commits before after → AreSynced commits (synced before) (synced after)
+pub synced-Makes : (held : Committed) (commits : List State) (before after : List Event)
+    → Makes held commits before after → AreSynced commits (synced before) (synced after)
 synced-Makes held [] before after made = ap synced made
 synced-Makes held (state ∷ states) before after made = (
   moment_after (to_first made.0 made.1 before),
@@ -42,8 +43,15 @@ held_after held [] = held
 held_after held (state ∷ states) = held_after state.held states
 
 -- commits, and then more of them
-pub Makes-append : (held : Committed) (first more : List State) (before mid after : List Event) → Makes held first before mid → Makes (held_after held first) more mid after
+pub Makes-append : (held : Committed) (first more : List State) (before mid after : List Event)
+    → Makes held first before mid → Makes (held_after held first) more mid after
     → Makes held (first ++ more) before after
-Makes-append held [] more before mid after made later = subst (λ (events : List Event). Makes held more events after) made later
-Makes-append held (state ∷ states) more before mid after made later =
-    (made.0, made.1, made.2, Makes-append state.held states more (with_commit made.0 made.1 before) mid after made.3 later)
+Makes-append held [] more before mid after made later =
+    subst (λ (events : List Event). Makes held more events after) made later
+Makes-append held (state ∷ states) more before mid after made later = (
+  made.0,
+  made.1,
+  made.2,
+  Makes-append state.held states more (with_commit made.0 made.1 before) mid after made.3
+      later,
+)

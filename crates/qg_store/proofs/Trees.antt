@@ -49,7 +49,8 @@ without-none n (entry ∷ table) none =
     (ap not (ne_eqb entry.0 n (none entry (contains_here entry table))))
 
 -- what was put goes
-put_gone : {A : Type 0} (n : ℕ) (value : A) (rest : List (ℕ × A)) → without_key n ((n, value) ∷ rest) ≡ without_key n rest
+put_gone : {A : Type 0} (n : ℕ) (value : A) (rest : List (ℕ × A))
+    → without_key n ((n, value) ∷ rest) ≡ without_key n rest
 put_gone n value rest = cond-false (not (n == n)) ((n, value) ∷ without_key n rest) (without_key n rest)
     (ap not (eq-eqb n n refl))
 

@@ -63,9 +63,9 @@ pub record CommitsBy (old : State) (command : Command) (committed : State) (even
   pub are : AreCommitsOf old command commits
   pub leaves : LeavesOneOf (length events) committed commits after
 
--- The machine answers a command so, and what is kept is that of the state that it comes to. The disk was made to hold what
--- the command commits, of which a crash in the midst of it left one or the last commit before it, and rests in the last
--- of these: the next command begins over that
+-- The machine answers a command so, and what is kept is that of the state that it comes to. The disk was made to hold
+-- what the command commits, of which a crash in the midst of it left one or the last commit before it, and rests in the
+-- last of these: the next command begins over that
 pub record StillRests (old : State) (command : Command) (reply : Answer) (committed : State) (kept : Kept)
     (events : List Event) (history : Option (List Event)) : Type 0 where
   pub commits : List State
@@ -75,8 +75,9 @@ pub record StillRests (old : State) (command : Command) (reply : Answer) (commit
   pub rests : Rests (last_commit committed commits) made.after
   pub last : IsLastCommit (last_commit committed commits) answered.new
 
--- A command that began where the disk rested in the last commit outlives crashes: what one leaves stands for that commit,
--- or for one that the command makes, whatever is answered; and where the command is answered, the disk rests again
+-- A command that began where the disk rested in the last commit outlives crashes: what one leaves stands for that
+-- commit, or for one that the command makes, whatever is answered; and where the command is answered, the disk rests
+-- again
 pub record OutlivesCommand (old : State) (command : Command) (committed : State) (events : List Event)
     (history : Option (List Event)) (result : Result Answer Stop) (kept : Kept) : Type 0 where
   pub crashes : CommitsBy old command committed events history

@@ -26,8 +26,8 @@ tree_for next entry = record {
   next = next;
 }
 
--- Trees are made of the ROOT_ITEMs of an image, over a space and a book: that of the top-level subvolume is at hand, the
--- others stand beside it in their order, and no node is in memory
+-- Trees are made of the ROOT_ITEMs of an image, over a space and a book: that of the top-level subvolume is at hand,
+-- the others stand beside it in their order, and no node is in memory
 pub record AreTreesIn (super : Super) (roots : List (ℕ × RootItem)) (space : Holding) (books : Books) (fs : FsTree)
     : Type 0 where
   pub root : RootItem

@@ -1,5 +1,6 @@
 -- What a structural command changes of what is kept, and why it is refused (this project's own).
-use Rattle.std.specs.Prelude.{◌⊎◌, ◌+◌, ◌*◌, None, Some, ◌≡◌, ◌&&◌, ◌||◌, ℕ, ◌^◌, ◌<◌, ◌≤◌, ◌==◌, not, List, [], ◌∷◌, length, Option, is_some, IfSome, MatchOption, nat_le, nat_lt}
+use Rattle.std.specs.Prelude.{◌⊎◌, ◌+◌, ◌*◌, None, Some, ◌≡◌, ◌&&◌, ◌||◌, ℕ, ◌^◌, ◌<◌, ◌≤◌, ◌==◌, not, List, [], ◌∷◌}
+use Rattle.std.specs.Prelude.{length, Option, is_some, IfSome, MatchOption, nat_le, nat_lt}
 use Rattle.std.specs.List.{filter}
 use Rattle.qg_device.specs.History.{Event}
 use Rattle.qg_num.specs.declared.answer.Answer.{Answer}
@@ -36,7 +37,8 @@ abbrev pub too_many_refusal : Kept → ℕ → Option Refusal
 too_many_refusal kept relations = refuse
     (nat_le most_subvolumes (length kept.snapshots)
     || (is_some (quota_of kept.quota) && nat_le most_groups (length (groups_in (quota_of kept.quota))))
-    || nat_lt most_relations (length (pairs_in (quota_of kept.quota)) + relations) || nat_le (2 ^ 48) (number_next kept))
+    || nat_lt most_relations (length (pairs_in (quota_of kept.quota)) + relations)
+    || nat_le (2 ^ 48) (number_next kept))
     why.TooMany
 
 -- a snapshot may be made a member of these groups, and one subvolume more passes no limit
@@ -80,9 +82,8 @@ pub record HasRoom (kept : Kept) (copies : ℕ) : Type 0 where
 
 -- ---- what was pending
 
--- Nothing is pending any more, subvolumes are the same, groups too but for their counts, the same one's tree is at hand,
--- and the last commit is
--- the one before or, where something was pending, the next
+-- Nothing is pending any more, subvolumes are the same, groups too but for their counts, the same one's tree is at
+-- hand, and the last commit is the one before or, where something was pending, the next
 pub record IsSettledFrom (old new : Kept) : Type 0 where
   pub pending : new.pending ≡ 0
   pub snapshots : new.snapshots ≡ old.snapshots
@@ -108,8 +109,8 @@ pub record HasCommitted (old : State) (kept : Kept) (events : List Event) (histo
 abbrev pub without_tree : ℕ → List Root → List Root
 without_tree number trees = filter (λ tree. not (tree.owner == number)) trees
 
--- A structural command changed what is kept of a state in which nothing is pending. What is kept then is that of a state
--- that the machine's change may leave, the last commit names what it named before, and a commit finds its slots
+-- A structural command changed what is kept of a state in which nothing is pending. What is kept then is that of a
+-- state that the machine's change may leave, the last commit names what it named before, and a commit finds its slots
 pub record IsChanged (before : State) (given : Command) (reply : Answer) (new : Kept) (history : Option (List Event))
     : Type 0 where
   pub changed : State

@@ -1,5 +1,6 @@
 // What structural commands change of what is kept, between their commits.
-ghost use Rattle.std.specs.Prelude.{◌≡◌, ◌≢◌, ◌+◌, ◌++◌, ◌∷◌, [], All, IfNone, IfOk, IfSome, IsTrue, List, None, Some, OnOk, length, map};
+ghost use Rattle.std.specs.Prelude.{◌≡◌, ◌≢◌, ◌+◌, ◌++◌, ◌∷◌, [], All, IfNone, IfOk, IfSome, IsTrue, List, None, Some};
+ghost use Rattle.std.specs.Prelude.{OnOk, length, map};
 ghost use Rattle.std.specs.List.{Contains};
 ghost use Rattle.std.specs.Option.{option_map};
 ghost use Rattle.std.specs.List.Sorted.{IsStrictlyIncreasing};
@@ -18,7 +19,8 @@ ghost use Rattle.qg_hier.specs.Faults.{create_fault};
 ghost use Rattle.qg_groups.specs.Changing.{AreParents};
 ghost use Rattle.qg_groups.specs.Tracked.{IsTracked, quota_of};
 ghost use Rattle.qg_kept.specs.Keeping.{IsKept, IsKeptOf};
-ghost use Rattle.qg_store.specs.Structural.{CanSnap, HasRoom, IsChanged, SameHeldIn, number_next, too_many_refusal, without_tree};
+ghost use Rattle.qg_store.specs.Structural.{CanSnap, HasRoom, IsChanged, SameHeldIn, number_next, too_many_refusal};
+ghost use Rattle.qg_store.specs.Structural.{without_tree};
 
 use crate::numbering::place_of_snapshot;
 use qg_descent::Tree;
@@ -77,8 +79,8 @@ pub(crate) fn create_change<D: Disk, L: Ledger>(
     Ok(())
 }
 
-/// A subvolume begins as the one at hand is, whose last snapshot this is. Its group has the limits of the other's, and is
-/// a member of the groups of a list. Else as [`create_change`].
+/// A subvolume begins as the one at hand is, whose last snapshot this is. Its group has the limits of the other's, and
+/// is a member of the groups of a list. Else as [`create_change`].
 pub(crate) fn snap_change<D: Disk, L: Ledger>(
     kept: &mut Kept,
     disk: &mut D,

@@ -27,8 +27,8 @@ use qg_kept::{Kept, commit_now};
 use qg_num::{Answer, BlockFault, Command, Generation, NoMemory, Steps};
 use std::sync::ledger::Ledger;
 
-/// Turns quota on or off, or changes groups, relations or limits, or refuses to. What is pending is committed first, and
-/// the change then.
+/// Turns quota on or off, or changes groups, relations or limits, or refuses to. What is pending is committed first,
+/// and the change then.
 pub(crate) fn regroup<D: Disk, L: Ledger>(
     kept: &mut Kept,
     disk: &mut D,

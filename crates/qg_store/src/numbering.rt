@@ -1,5 +1,6 @@
 // Numbers of subvolumes and groups, and their places in lists.
-ghost use Rattle.std.specs.Prelude.{◌≡◌, ◌≢◌, ◌+◌, ◌^◌, ◌<◌, ◌≤◌, ◌==◌, ◌&&◌, ◌||◌, max, All, IfNone, IfSome, IsTrue, is_some, length, nat_le, nat_lt};
+ghost use Rattle.std.specs.Prelude.{◌≡◌, ◌≢◌, ◌+◌, ◌^◌, ◌<◌, ◌≤◌, ◌==◌, ◌&&◌, ◌||◌, max, All, IfNone, IfSome, IsTrue};
+ghost use Rattle.std.specs.Prelude.{is_some, length, nat_le, nat_lt};
 ghost use Rattle.std.specs.List.{HoldsAt, filter, fold};
 ghost use Rattle.qg_image.specs.ItemMeaning.{is_subvolume_number};
 ghost use Rattle.qg_image.specs.Table.{keys_of};
@@ -79,7 +80,8 @@ fn last_group(groups: &[(GroupId, Group)], from: u64) -> u64
     last
 }
 
-/// Whether one subvolume more, of this number, with its group while quota is on, and so many relations, would pass a limit.
+/// Whether one subvolume more, of this number, with its group while quota is on, and so many relations, would pass a
+/// limit.
 pub(crate) fn are_too_many(kept: &Kept, number: u64, relations: usize) -> bool
     requires fitted { IsFitted kept.now }
     ensures { result

@@ -20,7 +20,8 @@ ghost use Rattle.qg_kept.specs.Answering.{AnswersOn, IsDoneSoFar, comes_to_disk,
 ghost use Rattle.qg_store.specs.Crashes.{IsLastCommit, OutlivesCommand};
 ghost use Rattle.qg_kept.specs.Editing.{HasLooked};
 ghost use Rattle.qg_kept.specs.Keeping.{IsKept, IsKeptOf};
-ghost use Rattle.qg_kept.specs.Stored.{ComesToDisk, DoesCommand, GoesOn, IsReady, IsStoreOf, IsStoreOver, IsUnchanged, KnowsLast, RunsOrStops, sizes_stored};
+ghost use Rattle.qg_kept.specs.Stored.{ComesToDisk, DoesCommand, GoesOn, IsReady, IsStoreOf, IsStoreOver, IsUnchanged};
+ghost use Rattle.qg_kept.specs.Stored.{KnowsLast, RunsOrStops, sizes_stored};
 
 use crate::grouping::regroup;
 use crate::opening::kept_of;
@@ -124,7 +125,8 @@ impl Store {
         // Over any disk. What is refused or asked changes nothing but clean nodes and which tree is at hand, and only a
         // commit of something, or a structural command, comes to the disk.
         ensures unchanged { IfOk result (λ answer. IsTrue (is_unchanging answer)
-            → IsUnchanged self.old self.new × (D.history disk.new ≡ D.history disk.old) × (D.size disk.new ≡ D.size disk.old)) }
+            → IsUnchanged self.old self.new × (D.history disk.new ≡ D.history disk.old)
+            × (D.size disk.new ≡ D.size disk.old)) }
         ensures still { (ComesToDisk self.old command.now → ⊥)
             → (D.history disk.new ≡ D.history disk.old) × (D.size disk.new ≡ D.size disk.old) }
 

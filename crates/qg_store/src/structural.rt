@@ -214,7 +214,8 @@ pub(crate) fn no_commit(kept: &Kept, copies: u64) -> Result<Option<Refusal>, NoM
     Ok(None)
 }
 
-/// What is pending is committed, where something is. What a structural command needs is there then, but for that commit.
+/// What is pending is committed, where something is. What a structural command needs is there then, but for that
+/// commit.
 pub(crate) fn commit_pending<D: Disk, L: Ledger>(
     kept: &mut Kept,
     disk: &mut D,

@@ -13,7 +13,8 @@ pub record WholeRun (sizes : Sizes) (address bytes : ℕ) : Type 0 where
   pub some : 0 < bytes
   pub within : address + bytes ≤ total_bytes sizes
 
-pub WholeRun-is_run : (sizes : Sizes) (address bytes : ℕ) → is_run sizes address bytes ≡ true → WholeRun sizes address bytes
+pub WholeRun-is_run : (sizes : Sizes) (address bytes : ℕ) → is_run sizes address bytes ≡ true
+    → WholeRun sizes address bytes
 unfolding is_run
 WholeRun-is_run sizes address bytes is =
     let begins = nat_le data_begin address in
@@ -32,8 +33,12 @@ WholeRun-is_run sizes address bytes is =
       within = leb-true (address + bytes) (total_bytes sizes) to_within.1;
     }
 
-pub is_run-WholeRun : (sizes : Sizes) (address bytes : ℕ) → WholeRun sizes address bytes → is_run sizes address bytes ≡ true
+pub is_run-WholeRun : (sizes : Sizes) (address bytes : ℕ) → WholeRun sizes address bytes
+    → is_run sizes address bytes ≡ true
 unfolding is_run
 is_run-WholeRun sizes address bytes run =
-    and_from _ _ (and_from _ _ (and_from _ _ (and_from _ _ (le-leb data_begin address run.begin) (eq-eqb ((address - data_begin) % sector) 0 run.aligned))
-    (eq-eqb (bytes % sector) 0 run.whole)) (lt-ltb 0 bytes run.some)) (le-leb (address + bytes) (total_bytes sizes) run.within)
+    and_from _ _ (and_from _ _
+    (and_from _ _ (and_from _ _ (le-leb data_begin address run.begin)
+    (eq-eqb ((address - data_begin) % sector) 0 run.aligned))
+    (eq-eqb (bytes % sector) 0 run.whole)) (lt-ltb 0 bytes run.some))
+    (le-leb (address + bytes) (total_bytes sizes) run.within)

@@ -23,7 +23,8 @@ unfolding is_served
 SizesFit-is_served sizes served =
     let small = (sizes.nodesize == 4096) && nat_le sizes.slots 16128 in
     let large = (sizes.nodesize == 16384) && nat_le sizes.slots 4032 in
-    let to_sectors = and_parts ((small || large) && nat_le 64 sizes.slots && nat_le 16 sizes.sectors) (nat_le sizes.sectors 16777216) served in
+    let to_sectors = and_parts ((small || large) && nat_le 64 sizes.slots && nat_le 16 sizes.sectors)
+    (nat_le sizes.sectors 16777216) served in
     let to_few = and_parts ((small || large) && nat_le 64 sizes.slots) (nat_le 16 sizes.sectors) to_sectors.0 in
     let to_slots = and_parts (small || large) (nat_le 64 sizes.slots) to_few.0 in
     let some_slots = leb-true 64 sizes.slots to_slots.1 in
@@ -34,12 +35,30 @@ SizesFit-is_served sizes served =
           let parts = and_parts (sizes.nodesize == 4096) (nat_le sizes.slots 16128) is in
           let nodesize : sizes.nodesize ≡ 4096 = eqb-true sizes.nodesize 4096 parts.0 in
           let few : sizes.slots ≤ 16128 = leb-true sizes.slots 16128 parts.1 in
-          record { node_size = inl nodesize; least = omega arith; nodesize = omega arith; some_slots = some_slots; slots = few; area = rw nodesize (omega arith); some_sectors = some_sectors; sectors = sectors }
+          record {
+            node_size = inl nodesize;
+            least = omega arith;
+            nodesize = omega arith;
+            some_slots = some_slots;
+            slots = few;
+            area = rw nodesize (omega arith);
+            some_sectors = some_sectors;
+            sectors = sectors;
+          }
       | inr is ↦
           let parts = and_parts (sizes.nodesize == 16384) (nat_le sizes.slots 4032) is in
           let nodesize : sizes.nodesize ≡ 16384 = eqb-true sizes.nodesize 16384 parts.0 in
           let few : sizes.slots ≤ 4032 = leb-true sizes.slots 4032 parts.1 in
-          record { node_size = inr nodesize; least = omega arith; nodesize = omega arith; some_slots = some_slots; slots = omega arith; area = rw nodesize (omega arith); some_sectors = some_sectors; sectors = sectors }
+          record {
+            node_size = inr nodesize;
+            least = omega arith;
+            nodesize = omega arith;
+            some_slots = some_slots;
+            slots = omega arith;
+            area = rw nodesize (omega arith);
+            some_sectors = some_sectors;
+            sectors = sectors;
+          }
     ]
 
 -- what the fields of a superblock are

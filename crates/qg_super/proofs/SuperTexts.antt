@@ -1,5 +1,6 @@
 -- The text of a superblock: what is read of it, and what bytes are it.
-use Rattle.std.proofs.Common.{◌≡◌, ◌≢◌, ℕ, ◌^◌, ◌<◌, Bool, true, false, List, length, take, drop, None, Some, refl, sym, ap, ◌∙◌, arith}
+use Rattle.std.proofs.Common.{◌≡◌, ◌≢◌, ℕ, ◌^◌, ◌<◌, Bool, true, false, List, length, take, drop, None, Some, refl, sym}
+use Rattle.std.proofs.Common.{ap, ◌∙◌, arith}
 use Rattle.std.specs.Prelude.{◌&&◌}
 use Rattle.std.specs.Bool.{then_some}
 use Rattle.std.specs.Str.{bytes_eq}
@@ -26,12 +27,28 @@ u64_at-super_text place super fits =
     let text = super_text place super in
     u64_at-u64_bytes 48 place (take 48 text) (drop 56 text) refl fits
 
-same_fields : (a b : Super) → a.generation ≡ b.generation → a.root ≡ b.root → a.nodesize ≡ b.nodesize → a.slots ≡ b.slots → a.sectors ≡ b.sectors → a.format ≡ b.format → a ≡ b
+same_fields : (a b : Super) → a.generation ≡ b.generation → a.root ≡ b.root → a.nodesize ≡ b.nodesize
+    → a.slots ≡ b.slots → a.sectors ≡ b.sectors → a.format ≡ b.format → a ≡ b
 same_fields a b generation root nodesize slots sectors format =
-    let same : ◌≡◌ {A = Super} (record { generation = a.generation; root = a.root; nodesize = a.nodesize; slots = a.slots; sectors = a.sectors; format = a.format }) (record { generation = b.generation; root = b.root; nodesize = b.nodesize; slots = b.slots; sectors = b.sectors; format = b.format }) = cc in
+    let same : ◌≡◌ {A = Super} (record {
+      generation = a.generation;
+      root = a.root;
+      nodesize = a.nodesize;
+      slots = a.slots;
+      sectors = a.sectors;
+      format = a.format;
+    }) (record {
+      generation = b.generation;
+      root = b.root;
+      nodesize = b.nodesize;
+      slots = b.slots;
+      sectors = b.sectors;
+      format = b.format;
+    }) = cc in
     same
 
-pub fields_at-super_text : (place : ℕ) (super : Super) → is_super super ≡ true → fields_at (super_text place super) ≡ super
+pub fields_at-super_text : (place : ℕ) (super : Super) → is_super super ≡ true
+    → fields_at (super_text place super) ≡ super
 unfolding super_text covered_text u32_bytes u64_bytes
 fields_at-super_text place super is =
     let text = super_text place super in
@@ -63,10 +80,12 @@ super_read-no_length place bytes long =
     long (ap length ((bytes_eq-Decides bytes text).0 same) ∙ length-super_text place (fields_at bytes))) in
     rw (other, and-false (is_super (fields_at bytes))) refl
 
-pub super_read-super_text : (place : ℕ) (super : Super) → is_super super ≡ true → super_read place (super_text place super) ≡ Some super
+pub super_read-super_text : (place : ℕ) (super : Super) → is_super super ≡ true
+    → super_read place (super_text place super) ≡ Some super
 unfolding super_read
 super_read-super_text place super is =
-    let same : bytes_eq (super_text place super) (super_text place super) ≡ true = (bytes_eq-Decides (super_text place super) (super_text place super)).1 refl in
+    let same : bytes_eq (super_text place super) (super_text place super) ≡ true =
+    (bytes_eq-Decides (super_text place super) (super_text place super)).1 refl in
     rw (fields_at-super_text place super is, is, same) refl
 
 -- what is read under a test passes it
@@ -91,8 +110,10 @@ super_writes_back place bytes super read =
     }
 
 pub one_super : OneSuper
-one_super place bytes a b is_a is_b = same_Some a b (sym (super_reads_back place bytes a is_a) ∙ super_reads_back place bytes b is_b)
+one_super place bytes a b is_a is_b = same_Some a b (sym (super_reads_back place bytes a is_a)
+    ∙ super_reads_back place bytes b is_b)
 
 pub one_place : OnePlace
 one_place place other bytes a b fits fits_other is_a is_b =
-    sym (u64_at-super_text place a fits) ∙ ap (u64_at 48) (sym is_a.text ∙ is_b.text) ∙ u64_at-super_text other b fits_other
+    sym (u64_at-super_text place a fits) ∙ ap (u64_at 48) (sym is_a.text ∙ is_b.text)
+    ∙ u64_at-super_text other b fits_other

@@ -5,11 +5,13 @@ use Rattle.qg_super.specs.SuperText.{IsSuperText, super_read}
 
 -- the text of a superblock is read as that superblock
 abbrev pub ReadsBack : Type 0
-ReadsBack = (place : ℕ) (bytes : List ℕ) (super : Super) → IsSuperText place bytes super → super_read place bytes ≡ Some super
+ReadsBack = (place : ℕ) (bytes : List ℕ) (super : Super) → IsSuperText place bytes super
+    → super_read place bytes ≡ Some super
 
 -- bytes that are read as a superblock are its text
 abbrev pub WritesBack : Type 0
-WritesBack = (place : ℕ) (bytes : List ℕ) (super : Super) → super_read place bytes ≡ Some super → IsSuperText place bytes super
+WritesBack = (place : ℕ) (bytes : List ℕ) (super : Super) → super_read place bytes ≡ Some super
+    → IsSuperText place bytes super
 
 -- bytes are the text of one superblock at most
 abbrev pub OneSuper : Type 0
@@ -17,4 +19,5 @@ OneSuper = (place : ℕ) (bytes : List ℕ) (a b : Super) → IsSuperText place 
 
 -- and for one place at most
 abbrev pub OnePlace : Type 0
-OnePlace = (place other : ℕ) (bytes : List ℕ) (a b : Super) → place < 2 ^ 64 → other < 2 ^ 64 → IsSuperText place bytes a → IsSuperText other bytes b → place ≡ other
+OnePlace = (place other : ℕ) (bytes : List ℕ) (a b : Super) → place < 2 ^ 64 → other < 2 ^ 64
+    → IsSuperText place bytes a → IsSuperText other bytes b → place ≡ other

@@ -15,14 +15,17 @@ super_bytes = 4096
 abbrev pub is_valid : ℕ → List ℕ → Bool
 is_valid place bytes = is_some (super_read place bytes)
 
--- what each of the two superblock places of an image holds is the old bytes of that place, or the new ones, or not valid
+-- what each of the two superblock places of an image holds is the old bytes of that place, or the new ones, or not
+-- valid
 pub record NoChance (image : List ℕ) (first second : Rewriting) : Type 0 where
   pub at_first : NoChanceAt (is_valid first_place) first_place super_bytes first image
   pub at_second : NoChanceAt (is_valid second_place) second_place super_bytes second image
 
--- That of an image that a crash left at a moment: the old bytes of a place are those before the last write to it that had begun by then, the new
--- ones are that write's; where none had begun since an earlier moment, both are what the place held at that one.
+-- That of an image that a crash left at a moment: the old bytes of a place are those before the last write to it that
+-- had begun by then, the new ones are that write's; where none had begun since an earlier moment, both are what the
+-- place held at that one.
 abbrev pub NoChanceSince : ℕ → List Event → List ℕ → ℕ → Type 0
 NoChanceSince since events image moment =
     let by_then = events_by moment events in
-    NoChance image (last_rewriting first_place super_bytes since by_then) (last_rewriting second_place super_bytes since by_then)
+    NoChance image (last_rewriting first_place super_bytes since by_then)
+    (last_rewriting second_place super_bytes since by_then)

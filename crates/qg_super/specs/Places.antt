@@ -36,12 +36,14 @@ total_bytes sizes = data_begin + sizes.sectors * sector
 -- the address is that of a node slot
 unfoldable pub is_slot : Sizes → ℕ → Bool
 is_slot sizes address =
-    nat_le slots_begin address && ((address - slots_begin) % sizes.nodesize == 0) && nat_lt ((address - slots_begin) / sizes.nodesize) sizes.slots
+    nat_le slots_begin address && ((address - slots_begin) % sizes.nodesize == 0)
+    && nat_lt ((address - slots_begin) / sizes.nodesize) sizes.slots
 
 -- a run of whole sectors, one at least, that lies in the data area
 unfoldable pub is_run : Sizes → ℕ → ℕ → Bool
 is_run sizes address bytes =
-    nat_le data_begin address && ((address - data_begin) % sector == 0) && (bytes % sector == 0) && nat_lt 0 bytes && nat_le (address + bytes) (total_bytes sizes)
+    nat_le data_begin address && ((address - data_begin) % sector == 0) && (bytes % sector == 0) && nat_lt 0 bytes
+    && nat_le (address + bytes) (total_bytes sizes)
 
 -- what a node's items or pointers may take, in bytes
 abbrev pub capacity : ℕ → ℕ

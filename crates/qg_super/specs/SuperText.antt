@@ -1,7 +1,8 @@
 -- The text of a superblock, when bytes are one, and which of two is chosen (on-disk format, "superblock").
 --
 -- What the text has as `zeros` is 0 in this project's own profile.
-use Rattle.std.specs.Prelude.{◌≡◌, ℕ, ◌-◌, ◌^◌, Bool, ◌&&◌, List, ◌++◌, codes, Option, Some, None, nat_le, nat_lt, ◌==◌, if◌then◌else◌, IsTrue}
+use Rattle.std.specs.Prelude.{◌≡◌, ℕ, ◌-◌, ◌^◌, Bool, ◌&&◌, List, ◌++◌, codes, Option, Some, None, nat_le, nat_lt, ◌==◌}
+use Rattle.std.specs.Prelude.{if◌then◌else◌, IsTrue}
 use Rattle.std.specs.Bool.{then_some}
 use Rattle.std.specs.Str.{bytes_eq}
 use Rattle.qg_num.specs.Fields.{u64_bytes, u32_bytes, u64_at, u32_at, zeros}
@@ -18,8 +19,9 @@ sizes_of super = record { nodesize = super.nodesize; slots = super.slots; sector
 abbrev pub magic : List ℕ
 magic = codes "QGRPIMG1"
 
--- what the checksum covers: the 4096 bytes but for the first 32. The place is at 48, the magic at 64, the generation at 72,
--- the root at 80, the image's length at 112, the sector's at 144, the node's at 148, slots, sectors and format from 2048 on
+-- what the checksum covers: the 4096 bytes but for the first 32. The place is at 48, the magic at 64, the generation at
+-- 72, the root at 80, the image's length at 112, the sector's at 144, the node's at 148, slots, sectors and format from
+-- 2048 on
 unfoldable pub covered_text : ℕ → Super → List ℕ
 covered_text place super =
     zeros 16 ++ u64_bytes place ++ zeros 8 ++ magic ++ u64_bytes super.generation ++ u64_bytes super.root ++ zeros 24
@@ -32,7 +34,8 @@ super_text place super = u32_bytes (crc32c_of (covered_text place super)) ++ zer
 
 -- the fields that a superblock may have: each fits, the generation to come too, and the sizes are served
 unfoldable pub is_super : Super → Bool
-is_super super = nat_le 1 super.generation && nat_lt super.generation (2 ^ 64 - 1) && nat_lt super.root (2 ^ 64) && is_served (sizes_of super) && (super.format == 1)
+is_super super = nat_le 1 super.generation && nat_lt super.generation (2 ^ 64 - 1) && nat_lt super.root (2 ^ 64)
+    && is_served (sizes_of super) && (super.format == 1)
 
 -- the bytes are the text of the superblock for that place
 pub record IsSuperText (place : ℕ) (bytes : List ℕ) (super : Super) : Type 0 where
@@ -41,11 +44,19 @@ pub record IsSuperText (place : ℕ) (bytes : List ℕ) (super : Super) : Type 0
 
 -- the fields where a superblock has them
 abbrev pub fields_at : List ℕ → Super
-fields_at bytes = record { generation = u64_at 72 bytes; root = u64_at 80 bytes; nodesize = u32_at 148 bytes; slots = u64_at 2048 bytes; sectors = u64_at 2056 bytes; format = u32_at 2064 bytes }
+fields_at bytes = record {
+  generation = u64_at 72 bytes;
+  root = u64_at 80 bytes;
+  nodesize = u32_at 148 bytes;
+  slots = u64_at 2048 bytes;
+  sectors = u64_at 2056 bytes;
+  format = u32_at 2064 bytes;
+}
 
 -- the superblock whose text for that place the bytes are
 unfoldable pub super_read : ℕ → List ℕ → Option Super
-super_read place bytes = then_some (is_super (fields_at bytes) && bytes_eq bytes (super_text place (fields_at bytes))) (fields_at bytes)
+super_read place bytes = then_some (is_super (fields_at bytes) && bytes_eq bytes (super_text place (fields_at bytes)))
+    (fields_at bytes)
 
 -- of two superblocks the one with the greater generation, the first where they are equal
 abbrev pub choose : Option Super → Option Super → Option Super
@@ -55,4 +66,5 @@ choose (Some first) (Some second) = if nat_lt first.generation second.generation
 
 -- two superblocks are the same but for the place and the checksum
 abbrev pub same_super : Super → Super → Bool
-same_super a b = (a.generation == b.generation) && (a.root == b.root) && (a.nodesize == b.nodesize) && (a.slots == b.slots) && (a.sectors == b.sectors) && (a.format == b.format)
+same_super a b = (a.generation == b.generation) && (a.root == b.root) && (a.nodesize == b.nodesize)
+    && (a.slots == b.slots) && (a.sectors == b.sectors) && (a.format == b.format)

@@ -4,8 +4,8 @@ ghost use Rattle.qg_super.specs.SuperText.{choose};
 
 use crate::superblock::Super;
 
-/// Of two superblocks the one with the greater generation, the first where they are equal, and none of none (on-disk format,
-/// "superblock").
+/// Of two superblocks the one with the greater generation, the first where they are equal, and none of none (on-disk
+/// format, "superblock").
 pub fn choose(first: Option<Super>, second: Option<Super>) -> Option<Super>
     ensures { result ≡ choose first second }
 {

@@ -16,8 +16,8 @@ impl Sizes {
     ghost use Rattle.std.specs.Prelude.{◌≡◌, IsTrue};
     ghost use Rattle.qg_super.specs.Places.{is_served, is_slot, total_bytes};
 
-    /// Whether images of these sizes are served: a nodesize of 4096 with at most 16128 slots or of 16384 with at most 4032, at
-    /// least 64 slots, from 16 to 16777216 sectors (this project's own).
+    /// Whether images of these sizes are served: a nodesize of 4096 with at most 16128 slots or of 16384 with at most
+    /// 4032, at least 64 slots, from 16 to 16777216 sectors (this project's own).
     #[tactic(auto, unfolding(crate::specs::Places::is_served))]
     pub fn is_served(&self) -> bool
         ensures { result ≡ is_served self.now }

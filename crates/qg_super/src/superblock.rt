@@ -33,8 +33,8 @@ impl Super {
         }
     }
 
-    /// Whether a superblock may have these fields: a generation from 1 to 2^64 - 2, sizes that are served, and format 1 (on-disk
-    /// format, "superblock"; the ranges are this project's own).
+    /// Whether a superblock may have these fields: a generation from 1 to 2^64 - 2, sizes that are served, and format 1
+    /// (on-disk format, "superblock"; the ranges are this project's own).
     #[tactic(auto, unfolding(crate::specs::SuperText::is_super))]
     pub fn is_super(&self) -> bool
         ensures { result ≡ is_super self.now }

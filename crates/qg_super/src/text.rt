@@ -60,8 +60,8 @@ fn write_covered(superblock: &Super, place: u64, covered: &mut [u8])
     put_u32(covered, 2064 - COVERED, superblock.format);
 }
 
-/// Reads a superblock at a place: nothing where the bytes aren't exactly the text of a superblock for that place (on-disk
-/// format, "superblock").
+/// Reads a superblock at a place: nothing where the bytes aren't exactly the text of a superblock for that place
+/// (on-disk format, "superblock").
 #[tactic(auto, unfolding(crate::specs::SuperText::super_read))]
 pub fn read_super(bytes: &[u8], place: u64) -> Option<Super>
     ensures exact { result ≡ super_read place bytes.now }

@@ -30,10 +30,12 @@ use Rattle.qg_survey.proofs.Ordered.{few-read, key-has, key-of}
 use Rattle.qg_survey.proofs.Reading.{there-is}
 
 -- what holds of each of some numbers holds of what they give
-all-given : {A : Type 0} (P : A → Type 0) (f : ℕ → A) (ns : List ℕ) → ((n : ℕ) → Contains ns n → P (f n)) → All P (map f ns)
+all-given : {A : Type 0} (P : A → Type 0) (f : ℕ → A) (ns : List ℕ) → ((n : ℕ) → Contains ns n → P (f n))
+    → All P (map f ns)
 all-given P f [] each = All-nil P
 all-given P f (n ∷ ns) each =
-    All-cons P (f n) (map f ns) (each n (contains_here n ns)) (all-given P f ns (λ m has. each m (contains_later n ns m has)))
+    All-cons P (f n) (map f ns) (each n (contains_here n ns))
+    (all-given P f ns (λ m has. each m (contains_later n ns m has)))
 
 -- nothing was read yet
 pub read-none : (state : State) → AreRead state []

@@ -1,5 +1,6 @@
 -- Where a state is held, what is read of its nodes are the links of its layout: so who reaches a node is told by them.
-use Rattle.std.proofs.Common.{◌≡◌, ℕ, zero, suc, ◌+◌, Bool, true, false, List, [], ◌∷◌, map, Option, Some, refl, sym, ap, subst, ◌∙◌, arith, inl, inr}
+use Rattle.std.proofs.Common.{◌≡◌, ℕ, zero, suc, ◌+◌, Bool, true, false, List, [], ◌∷◌, map, Option, Some, refl, sym}
+use Rattle.std.proofs.Common.{ap, subst, ◌∙◌, arith, inl, inr}
 use Rattle.std.specs.Prelude.{is_some}
 use Rattle.std.specs.Option.{option_map}
 use Rattle.std.specs.List.{Contains}
@@ -52,7 +53,8 @@ branch-reached super nodes (suc level) from items branch q (inr (node, is, place
 
 -- a child of a node that is the top of a branch is a level lower
 branch-child : (super : Super) (nodes : ℕ → Option Node) (level q : ℕ) (items : List Item)
-    → IsBranch Files super nodes level q items → (node : Node) → nodes q ≡ Some node → (child : Node) (pointer : Pointer)
+    → IsBranch Files super nodes level q items → (node : Node) → nodes q ≡ Some node
+    → (child : Node) (pointer : Pointer)
     → Contains (own_pointers node) pointer → nodes pointer.child ≡ Some child
     → (header_of node).level ≡ (header_of child).level + 1
 unfolding IsBranch
@@ -91,7 +93,8 @@ module _ (land : Ground) (history : Option (List Event)) (book : TreeRefs) (stat
       let met = root-met state holds.whole state.subvolumes holds.whole.trees entry.0.1.root
       (record { number = entry.0.0; subvolume = entry.0.1; there = there; here = refl }) in
       let found = met-there state holds.whole state.subvolumes holds.whole.trees entry.0.1.root met in
-      let placed = placed-there state.layout entry.0.1.root (value_at entry.0.1.root state.layout) refl found.0 found.1 in (
+      let placed = placed-there state.layout entry.0.1.root (value_at entry.0.1.root state.layout) refl found.0
+      found.1 in (
         linked_of entry.0.1.root placed.0,
         linked_there entry.0.1.root placed.0 placed.1,
         ap (λ (r : ℕ × ℕ). r.1) entry.2,
@@ -118,7 +121,8 @@ module _ (land : Ground) (history : Option (List Event)) (book : TreeRefs) (stat
       let next = met-child state holds.whole state.subvolumes holds.whole.trees q node child met is own in
       let found = met-there state holds.whole state.subvolumes holds.whole.trees child next in
       let placed = placed-there state.layout child (value_at child state.layout) refl found.0 found.1 in
-      let lower = branch-child (super_to_come state) nodes branch.0 q branch.1 branch.2 node is found.0 pointer.0 pointer.1
+      let lower = branch-child (super_to_come state) nodes branch.0 q branch.1 branch.2 node is found.0 pointer.0
+      pointer.1
       (subst (λ (a : ℕ). nodes a ≡ Some found.0) (sym pointer.2) found.1) in
       let top = ap (λ (l : Linked). l.level) entry.2 in
       let low = ap (λ (n : Node). (header_of n).level) placed.2 in (

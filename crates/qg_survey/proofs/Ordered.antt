@@ -1,5 +1,6 @@
 -- What was read of all nodes is the layout's, in the order of their numbers.
-use Rattle.std.proofs.Common.{◌≡◌, ℕ, suc, ◌<◌, ◌≤◌, Bool, true, false, cond, List, [], ◌∷◌, map, length, Option, Some, None, refl, sym, ap, subst, ◌∙◌, arith, inl, inr}
+use Rattle.std.proofs.Common.{◌≡◌, ℕ, suc, ◌<◌, ◌≤◌, Bool, true, false, cond, List, [], ◌∷◌, map, length, Option, Some}
+use Rattle.std.proofs.Common.{None, refl, sym, ap, subst, ◌∙◌, arith, inl, inr}
 use Rattle.std.specs.Prelude.{◌==◌, Contains, IsSome}
 use Rattle.std.specs.BTreeMap.{is_at}
 use Rattle.std.specs.List.{AllByRecursion}
@@ -127,7 +128,8 @@ few (a ∷ ms) (b ∷ ns) up up' all = elim (cases_Bool (a == b)) [
 pub key-has : {A : Type 0} (table : List (ℕ × A)) (q : ℕ) → Contains (keys_of table) q → IsSome (value_at q table)
 key-has [] q has = absurd (none_contained q has)
 key-has {A} (entry ∷ table) q has = elim (cases_Bool (entry.0 == q)) [
-  | inl is ↦ is-there (value_at q (entry ∷ table)) entry.1 (cond-true (entry.0 == q) (Some entry.1) (value_at q table) is)
+  | inl is ↦ is-there (value_at q (entry ∷ table)) entry.1
+      (cond-true (entry.0 == q) (Some entry.1) (value_at q table) is)
   | inr differs ↦ elim (contains_cases entry.0 (keys_of table) q has) [
     | inl same ↦ absurd (true≢false (sym (eq-eqb entry.0 q same) ∙ differs))
     | inr later ↦
@@ -136,7 +138,8 @@ key-has {A} (entry ∷ table) q has = elim (cases_Bool (entry.0 == q)) [
   ]
 ]
 
-pub key-of : {A : Type 0} (table : List (ℕ × A)) (q : ℕ) (value : A) → value_at q table ≡ Some value → Contains (keys_of table) q
+pub key-of : {A : Type 0} (table : List (ℕ × A)) (q : ℕ) (value : A) → value_at q table ≡ Some value
+    → Contains (keys_of table) q
 key-of [] q value has = absurd cc
 key-of (entry ∷ table) q value has = elim (cases_Bool (entry.0 == q)) [
   | inl is ↦

@@ -1,5 +1,6 @@
 -- What was read of nodes, and what one more brings.
-use Rattle.std.proofs.Common.{◌≡◌, ◌≢◌, ℕ, zero, suc, ◌≤◌, Bool, false, cond, List, [], map, Option, Some, None, arith, refl, sym, ap, subst, ◌∙◌, inl, inr}
+use Rattle.std.proofs.Common.{◌≡◌, ◌≢◌, ℕ, zero, suc, ◌≤◌, Bool, false, cond, List, [], map, Option, Some, None, arith}
+use Rattle.std.proofs.Common.{refl, sym, ap, subst, ◌∙◌, inl, inr}
 use Rattle.std.specs.Prelude.{IsErr, IsSome, OnOk, Result, Ok, Err, is_some, slice_get}
 use Rattle.std.specs.BTreeMap.{is_at}
 use Rattle.std.specs.List.{Contains}
@@ -66,7 +67,8 @@ adds-higher level above old new less adds = record {
   ];
 }
 
-pub still-read : (level : ℕ) (old new : Links) → Adds level old new → (q : ℕ) → IsSome (link_at old q) → IsSome (link_at new q)
+pub still-read : (level : ℕ) (old new : Links) → Adds level old new → (q : ℕ) → IsSome (link_at old q)
+    → IsSome (link_at new q)
 still-read level old new adds q some =
     let link = there-is (link_at old q) some in
     is-there (link_at new q) link.0 (adds.kept q link.0 link.1)
@@ -78,13 +80,15 @@ module _ (state : State) where
   nodes = node_at state.layout
 
   -- a child of a node that was read is one of those that were read of it
-  link_child : (q : ℕ) (placed : Placed) (link : Surveyed) (node : Node) → link ≡ surveyed_of q placed → placed.node ≡ node
+  link_child : (q : ℕ) (placed : Placed) (link : Surveyed) (node : Node) → link ≡ surveyed_of q placed
+      → placed.node ≡ node
       → (place : ℕ) (pointer : Pointer) → slice_get (own_pointers node) place ≡ Some pointer
       → Contains link.linked.children pointer.child
   link_child q placed link node is same place pointer there =
       subst (λ (l : Surveyed). Contains l.linked.children pointer.child) (sym is)
       (contains_map (λ (p : Pointer). p.child) (own_pointers placed.node) pointer
-      (subst (λ (n : Node). Contains (own_pointers n) pointer) (sym same) (contains_at (own_pointers node) place pointer there)))
+      (subst (λ (n : Node). Contains (own_pointers n) pointer) (sym same)
+      (contains_at (own_pointers node) place pointer there)))
 
   node_placed : (q : ℕ) (placed : Placed) (node : Node) → value_at q state.layout ≡ Some placed → nodes q ≡ Some node
       → placed.node ≡ node
@@ -177,9 +181,11 @@ module _ (state : State) where
   none_below (Leaf header items) levelled low = refl
   none_below (Inner header pointers) levelled low = let high = levelled.0 in absurd (omega (arith, low, high))
 
-  pub no-children : (at : ℕ) (placed : Placed) (link : Surveyed) → IsLevelled placed.node → (header_of placed.node).level ≡ 0
+  pub no-children : (at : ℕ) (placed : Placed) (link : Surveyed) → IsLevelled placed.node
+      → (header_of placed.node).level ≡ 0
       → link ≡ surveyed_of at placed → (child : ℕ) → Contains link.linked.children child → ⊥
   no-children at placed link levelled low is child among =
       let all = subst (λ (l : Surveyed). Contains l.linked.children child) is among in
-      none_contained child (subst (λ (pointers : List Pointer). Contains (map (λ (p : Pointer). p.child) pointers) child)
+      none_contained child (subst
+      (λ (pointers : List Pointer). Contains (map (λ (p : Pointer). p.child) pointers) child)
       (none_below placed.node levelled low) all)

@@ -17,7 +17,8 @@ abbrev pub HaveBelow : State → ℕ → List Way → List (ℕ × Surveyed) →
 HaveBelow state level ways links = All (λ (way : Way). HasBelow state level way.address links) ways
 
 -- ways but for a rest were gone, and each node that came was read once
-pub record IsSurveyed (state : State) (level : ℕ) (ways rest : List Way) (old new : List (ℕ × Surveyed)) (before after : ℕ)
+pub record IsSurveyed (state : State) (level : ℕ) (ways rest : List Way) (old new : List (ℕ × Surveyed))
+    (before after : ℕ)
     : Type 0 where
   pub read : AreRead state new
   pub adds : Adds level old new
@@ -82,7 +83,8 @@ abbrev pub HaveTrees : State → List Root → List (ℕ × Surveyed) → Type 0
 HaveTrees state trees links = All (λ (tree : Root). HasBelow state tree.height tree.address links) trees
 
 -- trees but for a rest were gone, and each node that came was read once
-pub record AreGone (state : State) (trees rest : List Root) (old new : List (ℕ × Surveyed)) (before after : ℕ) : Type 0 where
+pub record AreGone (state : State) (trees rest : List Root) (old new : List (ℕ × Surveyed))
+    (before after : ℕ) : Type 0 where
   pub read : AreRead state new
   pub adds : Adds 7 old new
   pub covers : (later : List (ℕ × Surveyed)) → ((q : ℕ) → IsSome (link_at new q) → IsSome (link_at later q))

@@ -1,5 +1,6 @@
 -- One node that a way leads to, as it is read.
-use Rattle.std.proofs.Common.{◌≡◌, ℕ, suc, ◌+◌, ◌-◌, ◌≤◌, Bool, cond, List, [], ◌∷◌, length, Option, Some, None, arith, refl, sym, ap, subst, ◌∙◌, inl, inr}
+use Rattle.std.proofs.Common.{◌≡◌, ℕ, suc, ◌+◌, ◌-◌, ◌≤◌, Bool, cond, List, [], ◌∷◌, length, Option, Some, None, arith}
+use Rattle.std.proofs.Common.{refl, sym, ap, subst, ◌∙◌, inl, inr}
 use Rattle.std.specs.Prelude.{IsSome}
 use Rattle.std.specs.BTreeMap.{is_at}
 use Rattle.std.specs.List.{All, Contains}
@@ -33,7 +34,8 @@ use Rattle.qg_descent.proofs.Under.{IsUnder, level-told}
 use Rattle.qg_forest.proofs.Meeting.{placed-there}
 use Rattle.qg_drop.specs.Counting.{LeadsToBranch, TellsNodes, ways_told}
 use Rattle.qg_survey.specs.Surveying.{Adds, AreRead, EndBelow, EndsBelow, GoesOn, HasBelow, MarksNodes, link_at}
-use Rattle.qg_survey.proofs.Reading.{adds-higher, adds-none, adds-on, below-read, no-children, put-adds, put-below, put-read, reached-itself}
+use Rattle.qg_survey.proofs.Reading.{adds-higher, adds-none, adds-on, below-read, no-children, put-adds, put-below}
+use Rattle.qg_survey.proofs.Reading.{put-read, reached-itself}
 
 -- among the ways that pointers lead is one to each child
 pub way-among : (to : Option Key) (level : ℕ) (pointers : List Pointer) (pointer : Pointer) → Contains pointers pointer
@@ -65,7 +67,8 @@ goes-higher state lower level old new before then after high one goes = record {
   once = omega (arith, goes.once, one, high);
 }
 
-module _ (draft : Draft) (history : Option (List Event)) (book : Book) (state : State) (tells : TellsNodes draft history state)
+module _ (draft : Draft) (history : Option (List Event)) (book : Book) (state : State)
+    (tells : TellsNodes draft history state)
     (marks : MarksNodes book state) (level : ℕ) (way : Way) (levelled : way.expected.level ≡ Some level)
     (leads : LeadsToBranch state level way) where
   abbrev at : ℕ
@@ -85,7 +88,8 @@ module _ (draft : Draft) (history : Option (List Event)) (book : Book) (state : 
       let found = placed-there state.layout at (value_at at state.layout) refl top.0 top.1 in
       (found.0, found.1)
 
-  module _ (judge : Super) (held : Held) (visited : IsVisited Files judge way.expected draft history held at) (seen : Node)
+  module _ (judge : Super) (held : Held) (visited : IsVisited Files judge way.expected draft history held at)
+      (seen : Node)
       (has : held_at held at ≡ Some seen) (link : Surveyed)
       (is : link ≡ surveyed_of (header_of seen).address (record { node = seen; full = full_in (book at) })) where
     seen_is : seen ≡ placed.0.node
@@ -142,7 +146,8 @@ module _ (draft : Draft) (history : Option (List Event)) (book : Book) (state : 
             let its = read.each at other there in
             let same : its.0 ≡ placed.0 = same_Some its.0 placed.0 (sym its.1 ∙ placed.1) in
             let levels : other.linked.level ≡ level =
-            ap (λ (l : Surveyed). l.linked.level) its.2 ∙ ap (λ (p : Placed). (header_of p.node).level) same ∙ level_is in
+            ap (λ (l : Surveyed). l.linked.level) its.2 ∙ ap (λ (p : Placed). (header_of p.node).level) same
+            ∙ level_is in
             absurd (omega (arith, low, levels, high))
       ]
 

@@ -20,7 +20,8 @@ link_at links q = lookup (is_at (nat_cmp q)) links
 
 -- a book has the marks of a layout's nodes
 abbrev pub MarksNodes : Book → State → Type 0
-MarksNodes book state = (q : ℕ) (placed : Placed) → value_at q state.layout ≡ Some placed → full_in (book q) ≡ placed.full
+MarksNodes book state = (q : ℕ) (placed : Placed) → value_at q state.layout ≡ Some placed
+    → full_in (book q) ≡ placed.full
 
 -- what was read of some nodes of a layout, by their addresses; of each node's children, too
 pub record AreRead (state : State) (links : List (ℕ × Surveyed)) : Type 0 where
@@ -36,21 +37,25 @@ HasBelow state level address links = (q : ℕ) → Reaches (node_at state.layout
 -- what was read before is as it was, and what came is of no higher level
 pub record Adds (level : ℕ) (old new : List (ℕ × Surveyed)) : Type 0 where
   pub kept : (q : ℕ) (link : Surveyed) → link_at old q ≡ Some link → link_at new q ≡ Some link
-  pub low : (q : ℕ) (link : Surveyed) → link_at new q ≡ Some link → (link_at old q ≡ Some link) ⊎ (link.linked.level ≤ level)
+  pub low : (q : ℕ) (link : Surveyed) → link_at new q ≡ Some link → (link_at old q ≡ Some link)
+      ⊎ (link.linked.level ≤ level)
 
--- Nodes were read on, of a level at most. Each that came was read once, but that those on the way may have been read and not come
+-- Nodes were read on, of a level at most. Each that came was read once, but that those on the way may have been read
+-- and not come
 pub record GoesOn (state : State) (level : ℕ) (old new : List (ℕ × Surveyed)) (before after : ℕ) : Type 0 where
   pub read : AreRead state new
   pub adds : Adds level old new
   pub once : after + length old ≤ before + length new + (level + 1)
 
 -- all below the node of a level at an address was read, and each node that came was read once
-pub record EndsBelow (state : State) (level address : ℕ) (old new : List (ℕ × Surveyed)) (before after : ℕ) : Type 0 where
+pub record EndsBelow (state : State) (level address : ℕ) (old new : List (ℕ × Surveyed))
+    (before after : ℕ) : Type 0 where
   pub below : HasBelow state level address new
   pub once : after + length old ≤ before + length new
 
 -- all below the nodes of a level that ways lead to was read, and each node that came was read once
-pub record EndBelow (state : State) (level : ℕ) (ways : List Way) (old new : List (ℕ × Surveyed)) (before after : ℕ) : Type 0
+pub record EndBelow (state : State) (level : ℕ) (ways : List Way) (old new : List (ℕ × Surveyed))
+    (before after : ℕ) : Type 0
   where
     pub below : All (λ way. HasBelow state level way.address new) ways
     pub once : after + length old ≤ before + length new
@@ -62,7 +67,8 @@ pub record LeadsOn (state : State) (tree : Root) : Type 0 where
       → LeadsToBranch state tree.height way
 
 -- all nodes of some trees were read, and each node that came was read once
-pub record EndTrees (state : State) (trees : List Root) (old new : List (ℕ × Surveyed)) (before after : ℕ) : Type 0 where
+pub record EndTrees (state : State) (trees : List Root) (old new : List (ℕ × Surveyed))
+    (before after : ℕ) : Type 0 where
   pub below : All (λ tree. HasBelow state tree.height tree.address new) trees
   pub once : after + length old ≤ before + length new
 

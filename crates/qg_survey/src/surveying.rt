@@ -38,8 +38,8 @@ use std::alloc::{AllocError, Global};
 use std::collections::BTreeMap;
 use std::sync::ledger::Ledger;
 
-/// Each node that subvolumes reach, ascending by address: what the rule `home` needs of it, and the extents that it names.
-/// Each node is read once, however many subvolumes reach it.
+/// Each node that subvolumes reach, ascending by address: what the rule `home` needs of it, and the extents that it
+/// names. Each node is read once, however many subvolumes reach it.
 ///
 /// `trees` are those of all subvolumes. `Image` comes where a node is not what leads to it expects.
 pub fn survey<D: Disk, L: Ledger>(
@@ -151,7 +151,8 @@ fn survey_under<D: Disk, L: Ledger>(
         → GoesOn state level links.old.entries links.new.entries reads.old reads.new
         × OnOk result (EndsBelow state level way.now.address links.old.entries links.new.entries reads.old reads.new) }
     ensures sound { (state : MachineState) → tree.now.next ≡ next_generation state
-        → TellsNodes blocks.old.draft (D.history disk.old) state → LeadsToBranch state level way.now → BreaksNone result }
+        → TellsNodes blocks.old.draft (D.history disk.old) state → LeadsToBranch state level way.now
+        → BreaksNone result }
     ensures readable { IsReadable blocks.new (D.history disk.new) (D.size disk.new) }
     ensures read { HasRead blocks.old blocks.new (D.history disk.old) (D.history disk.new)
         (D.size disk.old) (D.size disk.new) }
@@ -197,7 +198,8 @@ fn survey_each<D: Disk, L: Ledger>(
     requires readable { IsReadable blocks.old (D.history disk.old) (D.size disk.old) }
     requires levelled { All (λ way. way.expected.level ≡ Some level) ways.now }
     ensures surveyed { (state : MachineState) → TellsNodes blocks.old.draft (D.history disk.old) state
-        → MarksNodes (book_of book.now) state → All (LeadsToBranch state level) ways.now → AreRead state links.old.entries
+        → MarksNodes (book_of book.now) state → All (LeadsToBranch state level) ways.now
+        → AreRead state links.old.entries
         → GoesOn state level links.old.entries links.new.entries reads.old reads.new
         × OnOk result (EndBelow state level ways.now links.old.entries links.new.entries reads.old reads.new) }
     ensures sound { (state : MachineState) → tree.now.next ≡ next_generation state

@@ -1,8 +1,10 @@
 -- A level of nodes while it is put: the parts that are in nodes, and those that are left.
-use Rattle.std.proofs.Common.{◌≡◌, ℕ, ◌+◌, ◌-◌, ◌*◌, ◌≤◌, ◌<◌, false, List, [], ◌∷◌, ◌++◌, map, refl, sym, ap, ◌∙◌, length, arith, append_assoc, take, drop, get_or, length-append, inl, inr}
+use Rattle.std.proofs.Common.{◌≡◌, ℕ, ◌+◌, ◌-◌, ◌*◌, ◌≤◌, ◌<◌, false, List, [], ◌∷◌, ◌++◌, map, refl, sym, ap, ◌∙◌}
+use Rattle.std.proofs.Common.{length, arith, append_assoc, take, drop, get_or, length-append, inl, inr}
 use Rattle.std.specs.List.{AllByRecursion, flat_map, sum_by, All}
 use Rattle.std.proofs.Math.Nat.{lt_of_mul-lt-mul_left}
-use Rattle.std.proofs.lemmas.List.{append-nil, take-append-drop, map-append, take_more, length-drop, get_or-drop, get_or_default}
+use Rattle.std.proofs.lemmas.List.{append-nil, take-append-drop, map-append, take_more, length-drop, get_or-drop}
+use Rattle.std.proofs.lemmas.List.{get_or_default}
 use Rattle.std.specs.Prelude.{◌==◌}
 use Rattle.std.proofs.lemmas.Bool.{cases_lt, eqb-false}
 use Rattle.std.proofs.lemmas.List.Sums.{sum_by-cons, sum_by-take-drop}
@@ -27,7 +29,8 @@ pub some_left : (n : ℕ) → (n == 0) ≡ false → 1 ≤ n
 some_left n h = elim (cases_lt 0 n) [ inl less ↦ less | inr not ↦ absurd (eqb-false n 0 h (omega (arith, not))) ]
 
 -- the level so far
-pub record IsGrowing {A : Type 0} (own : Node → List A) (weight : A → ℕ) (nodesize owner generation level : ℕ) (slots : List ℕ) (parts left : List A) (total : ℕ) (old new : List Node) (pointers : List Pointer) : Type 0 where
+pub record IsGrowing {A : Type 0} (own : Node → List A) (weight : A → ℕ) (nodesize owner generation level : ℕ)
+    (slots : List ℕ) (parts left : List A) (total : ℕ) (old new : List Node) (pointers : List Pointer) : Type 0 where
   pub row : List Node
   pub grown : new ≡ old ++ row
   pub pointed : pointers ≡ map pointer_to row
@@ -43,8 +46,10 @@ pub record IsGrowing {A : Type 0} (own : Node → List A) (weight : A → ℕ) (
   pub some : 1 ≤ level → 1 ≤ length left
   pub room : 4 * sum_by weight parts < capacity nodesize * (length slots - length old)
 
-module _ {A : Type 0} (own : Node → List A) (weight : A → ℕ) (nodesize owner generation level : ℕ) (slots : List ℕ) (parts : List A) (old : List Node) where
-  pub IsGrowing-none : (total : ℕ) → total ≡ sum_by weight parts → All (λ x. weight x ≤ 1049) parts → (1 ≤ level → 1 ≤ length parts) → 4 * sum_by weight parts < capacity nodesize * (length slots - length old)
+module _ {A : Type 0} (own : Node → List A) (weight : A → ℕ) (nodesize owner generation level : ℕ) (slots : List ℕ)
+    (parts : List A) (old : List Node) where
+  pub IsGrowing-none : (total : ℕ) → total ≡ sum_by weight parts → All (λ x. weight x ≤ 1049) parts
+      → (1 ≤ level → 1 ≤ length parts) → 4 * sum_by weight parts < capacity nodesize * (length slots - length old)
       → IsGrowing own weight nodesize owner generation level slots parts parts total old old []
   IsGrowing-none total weighs light some room = record {
     row = [];
@@ -64,10 +69,13 @@ module _ {A : Type 0} (own : Node → List A) (weight : A → ℕ) (nodesize own
   }
 
   -- there is a slot for one more node
-  pub slot_there : (left : List A) (total : ℕ) (new : List Node) (pointers : List Pointer) → IsGrowing own weight nodesize owner generation level slots parts left total old new pointers → length new < length slots
+  pub slot_there : (left : List A) (total : ℕ) (new : List Node) (pointers : List Pointer)
+      → IsGrowing own weight nodesize owner generation level slots parts left total old new pointers
+      → length new < length slots
   slot_there left total new pointers is =
       let long : length new ≡ length old + length is.row = ap length is.grown ∙ length-append old is.row in
-      let less : capacity nodesize * length is.row < capacity nodesize * (length slots - length old) = omega (arith, is.count, is.room) in
+      let less : capacity nodesize * length is.row < capacity nodesize * (length slots - length old) =
+      omega (arith, is.count, is.room) in
       let fewer : length is.row < length slots - length old = lt_of_mul-lt-mul_left (capacity nodesize) less in
       omega arith
 
@@ -83,7 +91,8 @@ module _ {A : Type 0} (own : Node → List A) (weight : A → ℕ) (nodesize own
     pub used : used_bytes node ≡ sum_by weight (take count left)
     pub numbers : NodeFits node
 
-  next_is : (left : List A) (new : List Node) (count taken : ℕ) (node : Node) → 101 ≤ nodesize → IsNext left new count taken node → IsRowNode nodesize owner generation level node
+  next_is : (left : List A) (new : List Node) (count taken : ℕ) (node : Node) → 101 ≤ nodesize
+      → IsNext left new count taken node → IsRowNode nodesize owner generation level node
   next_is left new count taken node wide next = record {
     levelled = next.levelled;
     stands = next.stands;
@@ -93,7 +102,8 @@ module _ {A : Type 0} (own : Node → List A) (weight : A → ℕ) (nodesize own
     numbers = next.numbers;
   }
 
-  next_placed : (row : List Node) (slots' : List ℕ) (node : Node) → length row < length slots' → address_of node ≡ get_or slots' (length row) 0 → map address_of row ≡ take (length row) slots'
+  next_placed : (row : List Node) (slots' : List ℕ) (node : Node) → length row < length slots'
+      → address_of node ≡ get_or slots' (length row) 0 → map address_of row ≡ take (length row) slots'
       → map address_of (row ++ node ∷ []) ≡ take (length (row ++ node ∷ [])) slots'
   next_placed row slots' node within address placed =
       map-append address_of row (node ∷ [])
@@ -102,7 +112,8 @@ module _ {A : Type 0} (own : Node → List A) (weight : A → ℕ) (nodesize own
       ∙ sym (take_more slots' (length row) 0 within)
       ∙ ap (λ (n : ℕ). take n slots') (sym (length-append row (node ∷ [])))
 
-  next_whole : (row : List Node) (left : List A) (count : ℕ) (node : Node) → flat_map own row ++ left ≡ parts → own node ≡ take count left → flat_map own (row ++ node ∷ []) ++ drop count left ≡ parts
+  next_whole : (row : List Node) (left : List A) (count : ℕ) (node : Node) → flat_map own row ++ left ≡ parts
+      → own node ≡ take count left → flat_map own (row ++ node ∷ []) ++ drop count left ≡ parts
   next_whole row left count node whole holds =
       ap (λ (front : List A). front ++ drop count left) (flat_map-append own row (node ∷ []))
       ∙ ap (λ (last : List A). (flat_map own row ++ last) ++ drop count left) (append-nil (own node) ∙ holds)
@@ -111,31 +122,54 @@ module _ {A : Type 0} (own : Node → List A) (weight : A → ℕ) (nodesize own
       ∙ whole
 
   -- what is left is no less heavy than it was, where the whole of it did not fit
-  left_of : (left : List A) (total count taken : ℕ) → total ≡ sum_by weight left → FillsNode weight left (capacity nodesize) count taken → total ≡ taken + sum_by weight (drop count left)
+  left_of : (left : List A) (total count taken : ℕ) → total ≡ sum_by weight left
+      → FillsNode weight left (capacity nodesize) count taken → total ≡ taken + sum_by weight (drop count left)
   left_of left total count taken weighs cut = omega (arith, sum_by-take-drop weight left count, cut.weighs)
 
-  not_whole : (left : List A) (count taken : ℕ) → FillsNode weight left (capacity nodesize) count taken → 1 ≤ length (drop count left) → capacity nodesize < sum_by weight left
-  not_whole left count taken cut more = elim (cases_lt (capacity nodesize) (sum_by weight left)) [ inl less ↦ less | inr not ↦ absurd (omega (arith, cut.whole not, length-drop count left)) ]
+  not_whole : (left : List A) (count taken : ℕ) → FillsNode weight left (capacity nodesize) count taken
+      → 1 ≤ length (drop count left) → capacity nodesize < sum_by weight left
+  not_whole left count taken cut more = elim (cases_lt (capacity nodesize) (sum_by weight left)) [
+    | inl less ↦ less
+    | inr not ↦ absurd (omega (arith, cut.whole not, length-drop count left))
+  ]
 
-  pub IsGrowing-more : (left : List A) (total : ℕ) (new : List Node) (pointers : List Pointer) (count taken : ℕ) (node : Node) → 102 ≤ nodesize → IsGrowing own weight nodesize owner generation level slots parts left total old new pointers
+  pub IsGrowing-more : (left : List A) (total : ℕ) (new : List Node) (pointers : List Pointer) (count taken : ℕ)
+      (node : Node) → 102 ≤ nodesize
+      → IsGrowing own weight nodesize owner generation level slots parts left total old new pointers
       → IsNext left new count taken node → 1 ≤ length (drop count left)
-      → IsGrowing own weight nodesize owner generation level slots parts (drop count left) (total - taken) old (new ++ node ∷ []) (pointers ++ pointer_to node ∷ [])
+      → IsGrowing own weight nodesize owner generation level slots parts (drop count left) (total - taken) old
+      (new ++ node ∷ []) (pointers ++ pointer_to node ∷ [])
   IsGrowing-more left total new pointers count taken node wide is next more =
       let big : capacity nodesize < sum_by weight left = not_whole left count taken next.cut more in
-      let parted : total ≡ taken + sum_by weight (drop count left) = left_of left total count taken is.weighs next.cut in
+      let parted : total ≡ taken + sum_by weight (drop count left) =
+      left_of left total count taken is.weighs next.cut in
       let full : capacity nodesize ≤ 4 * taken = next.cut.full big in
-      let within : length is.row < length (drop (length old) slots) = omega (arith, slot_there left total new pointers is, ap length is.grown, length-append old is.row, length-drop (length old) slots) in
+      let within : length is.row < length (drop (length old) slots) =
+      omega (
+        arith,
+        slot_there left total new pointers is,
+        ap length is.grown,
+        length-append old is.row,
+        length-drop
+            (length old) slots,
+      ) in
       let address : address_of node ≡ get_or (drop (length old) slots) (length is.row) 0 =
-      next.address ∙ get_or_default slots (length new) (address_of node) 0 (slot_there left total new pointers is) ∙ ap (λ (n : ℕ). get_or slots n 0) (ap length is.grown ∙ length-append old is.row) ∙ sym (get_or-drop (length old) slots (length is.row) 0) in
+      next.address ∙ get_or_default slots (length new) (address_of node) 0 (slot_there left total new pointers is)
+      ∙ ap (λ (n : ℕ). get_or slots n 0) (ap length is.grown ∙ length-append old is.row)
+      ∙ sym (get_or-drop (length old) slots (length is.row) 0) in
       let long : length (is.row ++ node ∷ []) ≡ length is.row + 1 = length-append is.row (node ∷ []) in
-      let most : capacity nodesize * length (is.row ++ node ∷ []) ≡ capacity nodesize * length is.row + capacity nodesize = rw long (omega arith) in
+      let most : capacity nodesize * length (is.row ++ node ∷ []) ≡ capacity nodesize * length is.row
+      + capacity nodesize = rw long (omega arith) in
       record {
         row = is.row ++ node ∷ [];
         grown = ap (λ (front : List Node). front ++ node ∷ []) is.grown ∙ append_assoc old is.row (node ∷ []);
-        pointed = ap (λ (front : List Pointer). front ++ pointer_to node ∷ []) is.pointed ∙ sym (map-append pointer_to is.row (node ∷ []));
+        pointed = ap (λ (front : List Pointer). front ++ pointer_to node ∷ []) is.pointed
+            ∙ sym (map-append pointer_to is.row (node ∷ []));
         whole = next_whole is.row left count node is.whole next.holds;
-        each = AllByRecursion-append (IsRowNode nodesize owner generation level) is.row (node ∷ []) is.each (next_is left new count taken node (omega arith) next, tt);
-        full = AllByRecursion-append (IsFull nodesize) is.row (node ∷ []) is.full (omega (arith, full, next.used, next.cut.weighs), tt);
+        each = AllByRecursion-append (IsRowNode nodesize owner generation level) is.row (node ∷ []) is.each
+            (next_is left new count taken node (omega arith) next, tt);
+        full = AllByRecursion-append (IsFull nodesize) is.row (node ∷ []) is.full
+            (omega (arith, full, next.used, next.cut.weighs), tt);
         placed = next_placed is.row (drop (length old) slots) node within address is.placed;
         light = All-drop (λ x. weight x ≤ 1049) count left is.light;
         weighs = omega (arith, parted);
@@ -146,29 +180,49 @@ module _ {A : Type 0} (own : Node → List A) (weight : A → ℕ) (nodesize own
         room = is.room;
       }
 
-  pub PutsRow-all : (left : List A) (total : ℕ) (new : List Node) (pointers : List Pointer) (count taken : ℕ) (node : Node) → 102 ≤ nodesize → IsGrowing own weight nodesize owner generation level slots parts left total old new pointers
+  pub PutsRow-all : (left : List A) (total : ℕ) (new : List Node) (pointers : List Pointer) (count taken : ℕ)
+      (node : Node) → 102 ≤ nodesize
+      → IsGrowing own weight nodesize owner generation level slots parts left total old new pointers
       → IsNext left new count taken node → length (drop count left) ≡ 0
-      → PutsRow own weight nodesize owner generation level slots parts old (new ++ node ∷ []) (pointers ++ pointer_to node ∷ [])
+      → PutsRow own weight nodesize owner generation level slots parts old (new ++ node ∷ [])
+      (pointers ++ pointer_to node ∷ [])
   PutsRow-all left total new pointers count taken node wide is next none =
       let empty : drop count left ≡ [] = empty_is (drop count left) none in
-      let within : length is.row < length (drop (length old) slots) = omega (arith, slot_there left total new pointers is, ap length is.grown, length-append old is.row, length-drop (length old) slots) in
+      let within : length is.row < length (drop (length old) slots) =
+      omega (
+        arith,
+        slot_there left total new pointers is,
+        ap length is.grown,
+        length-append old is.row,
+        length-drop
+            (length old) slots,
+      ) in
       let address : address_of node ≡ get_or (drop (length old) slots) (length is.row) 0 =
-      next.address ∙ get_or_default slots (length new) (address_of node) 0 (slot_there left total new pointers is) ∙ ap (λ (n : ℕ). get_or slots n 0) (ap length is.grown ∙ length-append old is.row) ∙ sym (get_or-drop (length old) slots (length is.row) 0) in
+      next.address ∙ get_or_default slots (length new) (address_of node) 0 (slot_there left total new pointers is)
+      ∙ ap (λ (n : ℕ). get_or slots n 0) (ap length is.grown ∙ length-append old is.row)
+      ∙ sym (get_or-drop (length old) slots (length is.row) 0) in
       let long : length (is.row ++ node ∷ []) ≡ length is.row + 1 = length-append is.row (node ∷ []) in
-      let most : capacity nodesize * length (is.row ++ node ∷ []) ≡ capacity nodesize * length is.row + capacity nodesize = rw long (omega arith) in
-      let parted : total ≡ taken + sum_by weight (drop count left) = left_of left total count taken is.weighs next.cut in
+      let most : capacity nodesize * length (is.row ++ node ∷ []) ≡ capacity nodesize * length is.row
+      + capacity nodesize = rw long (omega arith) in
+      let parted : total ≡ taken + sum_by weight (drop count left) =
+      left_of left total count taken is.weighs next.cut in
       let nothing : sum_by weight (drop count left) ≡ 0 = ap (sum_by weight) empty in
       record {
         row = is.row ++ node ∷ [];
         is = record {
-          whole = sym (append-nil (flat_map own (is.row ++ node ∷ []))) ∙ ap (λ (back : List A). flat_map own (is.row ++ node ∷ []) ++ back) (sym empty) ∙ next_whole is.row left count node is.whole next.holds;
-          each = AllByRecursion-append (IsRowNode nodesize owner generation level) is.row (node ∷ []) is.each (next_is left new count taken node (omega arith) next, tt);
-          full = λ two. AllByRecursion-append (IsFull nodesize) is.row (node ∷ []) is.full (omega (arith, is.heavy (omega (arith, two, long)), next.used, next.cut.weighs, parted, nothing), tt);
+          whole = sym (append-nil (flat_map own (is.row ++ node ∷ [])))
+              ∙ ap (λ (back : List A). flat_map own (is.row ++ node ∷ []) ++ back) (sym empty)
+              ∙ next_whole is.row left count node is.whole next.holds;
+          each = AllByRecursion-append (IsRowNode nodesize owner generation level) is.row (node ∷ []) is.each
+              (next_is left new count taken node (omega arith) next, tt);
+          full = λ two. AllByRecursion-append (IsFull nodesize) is.row (node ∷ []) is.full
+              (omega (arith, is.heavy (omega (arith, two, long)), next.used, next.cut.weighs, parted, nothing), tt);
           placed = next_placed is.row (drop (length old) slots) node within address is.placed;
           some = omega (arith, long);
         };
         grown = ap (λ (front : List Node). front ++ node ∷ []) is.grown ∙ append_assoc old is.row (node ∷ []);
-        pointed = ap (λ (front : List Pointer). front ++ pointer_to node ∷ []) is.pointed ∙ sym (map-append pointer_to is.row (node ∷ []));
+        pointed = ap (λ (front : List Pointer). front ++ pointer_to node ∷ []) is.pointed
+            ∙ sym (map-append pointer_to is.row (node ∷ []));
         few = λ two. omega (arith, most, is.count, is.heavy (omega (arith, two, long)));
         single = λ light. omega (arith, long, is.unbroken light);
       } where
@@ -177,11 +231,16 @@ module _ {A : Type 0} (own : Node → List A) (weight : A → ℕ) (nodesize own
         empty_is (x ∷ xs) h = absurd (omega arith)
 
   -- what is left gets shorter
-  pub shorter : (left : List A) (count taken : ℕ) → 102 ≤ nodesize → FillsNode weight left (capacity nodesize) count taken → 1 ≤ length (drop count left) → length (drop count left) < length left
+  pub shorter : (left : List A) (count taken : ℕ) → 102 ≤ nodesize
+      → FillsNode weight left (capacity nodesize) count taken → 1 ≤ length (drop count left)
+      → length (drop count left) < length left
   shorter left count taken wide cut more =
       let big : capacity nodesize < sum_by weight left = not_whole left count taken cut more in
       let full : capacity nodesize ≤ 4 * taken = cut.full big in
-      let some : 1 ≤ count = elim (cases_lt 0 count) [ inl less ↦ omega (arith, less) | inr not ↦ absurd (omega (arith, full, cut.weighs, none_taken (omega (arith, not)))) ] in
+      let some : 1 ≤ count = elim (cases_lt 0 count) [
+        | inl less ↦ omega (arith, less)
+        | inr not ↦ absurd (omega (arith, full, cut.weighs, none_taken (omega (arith, not))))
+      ] in
       omega (arith, length-drop count left, some, more) where
         none_taken : count ≡ 0 → sum_by weight (take count left) ≡ 0
         none_taken e = ap (λ (n : ℕ). sum_by weight (take n left)) e

@@ -1,5 +1,7 @@
--- What a tree is that is built of items in order (on-disk format, "B-tree"; how full its nodes are is this project's own).
-use Rattle.std.specs.Prelude.{◌≡◌, ℕ, ◌+◌, ◌*◌, ◌≤◌, List, [], ◌∷◌, map, length, take, Option, Some, None, Result, Ok, Err, ◌==◌, if◌then◌else◌, IsTrue}
+-- What a tree is that is built of items in order (on-disk format, "B-tree"; how full its nodes are is this project's
+-- own).
+use Rattle.std.specs.Prelude.{◌≡◌, ℕ, ◌+◌, ◌*◌, ◌≤◌, List, [], ◌∷◌, map, length, take, Option, Some, None, Result, Ok}
+use Rattle.std.specs.Prelude.{Err, ◌==◌, if◌then◌else◌, IsTrue}
 use Rattle.std.specs.List.{list_all, AllByRecursion}
 use Rattle.std.specs.List.Sorted.{IsPermutation}
 use Rattle.qg_num.specs.declared.rule.Rule.TheVariants as rule
@@ -16,7 +18,8 @@ use Rattle.qg_image.specs.Need.{nodes_filled}
 use Rattle.qg_image.specs.declared.failure.Failure.{Failure}
 use Rattle.qg_image.specs.declared.failure.Failure.TheVariants.{Broken}
 use Rattle.qg_image.specs.declared.tree.Tree.{Tree}
-use Rattle.qg_image.specs.Walk.{is_owner, is_generation, is_item_of, node_failure, shape_failure, walk_failure, deepest, root_expected}
+use Rattle.qg_image.specs.Walk.{is_owner, is_generation, is_item_of, node_failure, shape_failure, walk_failure, deepest}
+use Rattle.qg_image.specs.Walk.{root_expected}
 use Rattle.qg_image.specs.ItemsUnder.{items_under}
 use Rattle.qg_image.specs.Among.{node_among, found_among}
 
@@ -35,9 +38,11 @@ pub record Allows (tree : Tree) (super : Super) (nodesize owner generation : ℕ
 
 -- the tree's walk meets no failure in any image that allows such nodes, where the tree may hold the items
 abbrev pub IsWalkedWell : ℕ → ℕ → ℕ → List Item → List Node → ℕ → ℕ → Type 0
-IsWalkedWell nodesize owner generation items nodes root level = (tree : Tree) (super : Super) → Allows tree super nodesize owner generation
+IsWalkedWell nodesize owner generation items nodes root level = (tree : Tree) (super : Super)
+    → Allows tree super nodesize owner generation
     → IsTrue (list_all (is_item_of tree super.generation) items)
-    → walk_failure (node_failure tree super) (found_among nodes) deepest (root_expected (Some level) (Some generation)) root ≡ None
+    → walk_failure (node_failure tree super) (found_among nodes) deepest (root_expected (Some level) (Some generation))
+    root ≡ None
 
 -- the nodes under the one at an address are all of these, each once
 pub record Reaches (nodes : List Node) (level root : ℕ) : Type 0 where
@@ -50,16 +55,20 @@ pub record IsOneLeaf (owner generation : ℕ) (items : List Item) (nodes : List 
   pub alone : nodes ≡ Leaf (record { address = root; generation = generation; owner = owner; level = 0 }) items ∷ []
   pub flat : level ≡ 0
 
--- the nodes are a tree of these items: they lie in the first of the slots, in their order, and there are no more than the items' weight asks for
-pub record IsBuilt (nodesize owner generation : ℕ) (items : List Item) (slots : List ℕ) (nodes : List Node) (root level : ℕ) : Type 0 where
+-- the nodes are a tree of these items: they lie in the first of the slots, in their order, and there are no more than
+-- the items' weight asks for
+pub record IsBuilt (nodesize owner generation : ℕ) (items : List Item) (slots : List ℕ) (nodes : List Node)
+    (root level : ℕ) : Type 0 where
   -- in any image that allows such nodes, the items under the root are those given
   pub under : (tree : Tree) (super : Super) → Allows tree super nodesize owner generation
-      → items_under tree super (found_among nodes) level (root_expected (Some level) (Some generation)) root ≡ Some items
+      → items_under tree super (found_among nodes) level (root_expected (Some level) (Some generation)) root
+      ≡ Some items
   -- and so they are where no image allows them
   pub held : items_below (node_among nodes) level root ≡ Some items
   pub reached : Reaches nodes level root
   -- each node on the walk is shaped
-  pub shaped : walk_failure (shape_failure nodesize) (found_among nodes) deepest (root_expected (Some level) (Some generation)) root ≡ None
+  pub shaped : walk_failure (shape_failure nodesize) (found_among nodes) deepest
+      (root_expected (Some level) (Some generation)) root ≡ None
   pub walked : IsWalkedWell nodesize owner generation items nodes root level
   pub made : AllByRecursion (IsMadeFor nodesize owner generation) nodes
   pub placed : map (λ node. (header_of node).address) nodes ≡ take (length nodes) slots

@@ -1,4 +1,5 @@
--- One level of a tree that is built: its nodes, from left to right (on-disk format, "B-tree"; how full they are is this project's own).
+-- One level of a tree that is built: its nodes, from left to right (on-disk format, "B-tree"; how full they are is this
+-- project's own).
 use Rattle.std.specs.Prelude.{◌≡◌, ℕ, ◌+◌, ◌*◌, ◌≤◌, List, [], ◌∷◌, ◌++◌, length, map, take, drop}
 use Rattle.std.specs.List.{flat_map, sum_by, AllByRecursion}
 use Rattle.qg_num.specs.declared.key.Key.{Key}
@@ -16,13 +17,18 @@ first_key (key ∷ keys) = key
 
 -- the pointer that leads to a node
 abbrev pub pointer_to : Node → Pointer
-pointer_to node = record { key = first_key (own_keys node); child = (header_of node).address; generation = (header_of node).generation }
+pointer_to node = record {
+  key = first_key (own_keys node);
+  child = (header_of node).address;
+  generation = (header_of node).generation;
+}
 
 -- where a node lies, in bytes
 abbrev pub address_of : Node → ℕ
 address_of node = (header_of node).address
 
--- the node is one of this level, with this owner and generation, and fits in so many bytes, and its numbers fit their fields
+-- the node is one of this level, with this owner and generation, and fits in so many bytes, and its numbers fit their
+-- fields
 pub record IsRowNode (nodesize owner generation level : ℕ) (node : Node) : Type 0 where
   pub levelled : IsLevelled node
   pub stands : (header_of node).level ≡ level
@@ -35,16 +41,20 @@ pub record IsRowNode (nodesize owner generation level : ℕ) (node : Node) : Typ
 abbrev pub IsFull : ℕ → Node → Type 0
 IsFull nodesize node = capacity nodesize ≤ 4 * used_bytes node
 
--- nodes of a level, one at least, that hold these items or pointers and lie in the first of the slots; each is a quarter full but a single one
-pub record IsRow {A : Type 0} (own : Node → List A) (nodesize owner generation level : ℕ) (slots : List ℕ) (parts : List A) (row : List Node) : Type 0 where
+-- nodes of a level, one at least, that hold these items or pointers and lie in the first of the slots; each is a
+-- quarter full but a single one
+pub record IsRow {A : Type 0} (own : Node → List A) (nodesize owner generation level : ℕ) (slots : List ℕ)
+    (parts : List A) (row : List Node) : Type 0 where
   pub whole : flat_map own row ≡ parts
   pub each : AllByRecursion (IsRowNode nodesize owner generation level) row
   pub full : 2 ≤ length row → AllByRecursion (IsFull nodesize) row
   pub placed : map address_of row ≡ take (length row) slots
   pub some : 1 ≤ length row
 
--- a level was put behind the nodes that were there, with these pointers to it, and the second of two nodes or more is only there where the weight asks for it
-pub record PutsRow {A : Type 0} (own : Node → List A) (weight : A → ℕ) (nodesize owner generation level : ℕ) (slots : List ℕ) (parts : List A) (old new : List Node) (pointers : List Pointer) : Type 0 where
+-- a level was put behind the nodes that were there, with these pointers to it, and the second of two nodes or more is
+-- only there where the weight asks for it
+pub record PutsRow {A : Type 0} (own : Node → List A) (weight : A → ℕ) (nodesize owner generation level : ℕ)
+    (slots : List ℕ) (parts : List A) (old new : List Node) (pointers : List Pointer) : Type 0 where
   pub row : List Node
   pub is : IsRow own nodesize owner generation level (drop (length old) slots) parts row
   pub grown : new ≡ old ++ row

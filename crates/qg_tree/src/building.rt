@@ -22,9 +22,11 @@ pub struct Built {
     pub level: u8,
 }
 
-/// Builds a tree of these items, in the first of these slots, as a commit writes it that makes the generation `next` (on-disk format, "B-tree").
+/// Builds a tree of these items, in the first of these slots, as a commit writes it that makes the generation `next`
+/// (on-disk format, "B-tree").
 ///
-/// Each node but the root is a quarter full at least, which is this project's own rule. `slots` are addresses of free slots, in bytes.
+/// Each node but the root is a quarter full at least, which is this project's own rule. `slots` are addresses of free
+/// slots, in bytes.
 pub fn build(
     alloc: Global,
     nodesize: u32,
@@ -39,7 +41,8 @@ pub fn build(
     requires room { 5 * nodes_filled nodesize (items_bytes items.now) + 1 ≤ length slots.now }
     requires distinct { IsDistinct (λ a b. a == b) slots.now }
     requires few { length slots.now ≤ 16128 }
-    ensures { IfOk result (λ built. IsBuilt nodesize owner next items.now slots.now built.nodes built.root built.level) }
+    ensures { IfOk result (λ built. IsBuilt nodesize owner next items.now slots.now built.nodes built.root
+        built.level) }
 {
     let mut nodes = Sequence::new(alloc);
     let mut level = Level {

@@ -51,10 +51,12 @@ pub(crate) fn put_row<T: Part>(
     requires some { 1 ≤ level.now.level → 1 ≤ length parts.now }
     requires light { All (λ part. T.weight part ≤ 1049) parts.now }
     requires small { sum_by T.weight parts.now < 2 ^ 32 }
-    requires room { 4 * sum_by T.weight parts.now < capacity level.now.nodesize * (length slots.now - length nodes.old) }
+    requires room { 4 * sum_by T.weight parts.now < capacity level.now.nodesize *
+        (length slots.now - length nodes.old) }
     requires fit { All T.fits parts.now }
     ensures row { IfOk result (λ pointers.
-        PutsRow T.own T.weight level.now.nodesize level.now.owner level.now.generation level.now.level slots.now parts.now nodes.old nodes.new pointers) }
+        PutsRow T.own T.weight level.now.nodesize level.now.owner level.now.generation level.now.level slots.now
+        parts.now nodes.old nodes.new pointers) }
     ensures fit { IfOk result (λ pointers. All PointerFits pointers) }
 {
     let room = (level.nodesize as usize - HEADER_BYTES) as u64;

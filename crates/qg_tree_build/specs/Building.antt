@@ -23,8 +23,8 @@ use Rattle.qg_tree_edits.specs.Rooting.{IsRooted}
 abbrev pub most_nodes : ℕ → List Item → ℕ
 most_nodes nodesize items = 5 * nodes_filled nodesize (items_bytes items) + 1
 
--- a node can be laid: clean nodes are those of the disk, fresh ones are such as the commit to come may write, the node has a
--- text and the generation of that commit, and the slot that it names is free
+-- a node can be laid: clean nodes are those of the disk, fresh ones are such as the commit to come may write, the node
+-- has a text and the generation of that commit, and the slot that it names is free
 pub record CanLay (land : Ground) (history : Option (List Event)) (node : Node) : Type 0 where
   pub backed : IsBacked land.blocks history
   pub drafted : IsDrafted land (header_of node).generation

@@ -44,7 +44,8 @@ pub(crate) fn lay_node<D: Disk, L: Ledger, B: Book<D, L>>(
     requires stands { B.stands book.old land.old disk.old }
     ensures made { OnOk result (Makes land.old land.new (header_of node).address node) }
     ensures takes { OnOk result (Takes 1 (λ q. ⊥) land.old land.new) }
-    ensures rests { LeavesBe land.old land.new (D.history disk.old) (D.history disk.new) (D.size disk.old) (D.size disk.new)
+    ensures rests { LeavesBe land.old land.new (D.history disk.old) (D.history disk.new) (D.size disk.old)
+        (D.size disk.new)
         (header_of node).generation }
     ensures told { (before : B) (log : List Telling) → B.follows before log book.old
         → OnOk result (B.follows before (log ++ Made (header_of node).address ∷ []) book.new) }

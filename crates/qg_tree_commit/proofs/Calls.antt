@@ -6,9 +6,11 @@ use Rattle.std.specs.Option.{option_map}
 use Rattle.qg_device.specs.History.{Event}
 use Rattle.qg_node.specs.declared.node.Node.{Node}
 use Rattle.qg_super.specs.declared.superblock.Super.{Super}
-use Rattle.qg_commit.specs.Calls.{IsWritable, commit_calls, node_calls, superblock_calls, with_commit, with_nodes, with_superblocks}
+use Rattle.qg_commit.specs.Calls.{IsWritable, commit_calls, node_calls, superblock_calls, with_commit, with_nodes}
+use Rattle.qg_commit.specs.Calls.{with_superblocks}
 use Rattle.qg_commit.proofs.CommitCalls.{OfEach, last_calls, of_each}
-use Rattle.qg_commit.proofs.Fronts.{ComesTo, comes-first, comes-fourth, comes-last, comes-second, comes-third, same-nodes}
+use Rattle.qg_commit.proofs.Fronts.{ComesTo, comes-first, comes-fourth, comes-last, comes-second, comes-third}
+use Rattle.qg_commit.proofs.Fronts.{same-nodes}
 
 module _ (super : Super) (fresh roots extents quotas : List Node) where
   abbrev nodes : List Node

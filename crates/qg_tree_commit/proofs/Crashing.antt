@@ -1,5 +1,7 @@
--- What a crash in the midst of a commit leaves: the old state, or the superblock of the new trees over all that the whole commit does.
-use Rattle.std.proofs.Common.{◌≡◌, ◌≢◌, ◌∙◌, ◌⊎◌, inl, inr, ℕ, ◌<◌, ◌≤◌, true, List, ◌∷◌, length, get_or, refl, sym, ap, subst, arith, Option, Some}
+-- What a crash in the midst of a commit leaves: the old state, or the superblock of the new trees over all that the
+-- whole commit does.
+use Rattle.std.proofs.Common.{◌≡◌, ◌≢◌, ◌∙◌, ◌⊎◌, inl, inr, ℕ, ◌<◌, ◌≤◌, true, List, ◌∷◌, length, get_or, refl, sym, ap}
+use Rattle.std.proofs.Common.{subst, arith, Option, Some}
 use Rattle.std.specs.Prelude.{All, Contains, IsTrue, not, ◌==◌}
 use Rattle.std.specs.List.{list_any}
 use Rattle.std.specs.Map.{keys_of}
@@ -47,12 +49,16 @@ use Rattle.qg_tree_commit.proofs.LaidNodes.{laid-within}
 
 -- ---- an address that the last commit does not hold is none of its
 
-held_there : (held : Committed) (address other : ℕ) → Contains held.nodes other → address ≡ other → list_any (λ a. a == address) held.nodes ≡ true
+held_there : (held : Committed) (address other : ℕ) → Contains held.nodes other → address ≡ other
+    → list_any (λ a. a == address) held.nodes ≡ true
 held_there held address other has same =
-    list_any_at (λ (a : ℕ). a == address) held.nodes has.0 other has.1 (eq-eqb (get_or held.nodes has.0 other) address (has.2 ∙ sym same))
+    list_any_at (λ (a : ℕ). a == address) held.nodes has.0 other has.1
+    (eq-eqb (get_or held.nodes has.0 other) address (has.2 ∙ sym same))
 
-spared_other : (held : Committed) (address other : ℕ) → IsSpared held address → Contains held.nodes other → address ≢ other
-spared_other held address other spared has = λ same. true≢false (sym spared ∙ ap not (held_there held address other has same))
+spared_other : (held : Committed) (address other : ℕ) → IsSpared held address → Contains held.nodes other
+    → address ≢ other
+spared_other held address other spared has =
+    λ same. true≢false (sym spared ∙ ap not (held_there held address other has same))
 
 -- ---- what a state says of its superblock
 
@@ -66,9 +72,12 @@ sizes_in super image = refl
 
 -- ---- a commit of these trees, as far as it came
 
-module _ (sizes : Sizes) (generation : ℕ) (roots : List (ℕ × RootItem)) (book : List (ℕ × Kept)) (quota : Option Quota) (slots : List ℕ) (draft : Draft)
-    (trees : OtherTrees) (laying : IsLaying sizes generation roots book quota slots draft trees) (writable : AreWritable sizes draft)
-    (are_slots : (slot : ℕ) → Contains slots slot → IsTrue (is_slot sizes slot)) (old : State) (before after : List Event)
+module _ (sizes : Sizes) (generation : ℕ) (roots : List (ℕ × RootItem)) (book : List (ℕ × Kept)) (quota : Option Quota)
+    (slots : List ℕ) (draft : Draft)
+    (trees : OtherTrees) (laying : IsLaying sizes generation roots book quota slots draft trees)
+    (writable : AreWritable sizes draft)
+    (are_slots : (slot : ℕ) → Contains slots slot → IsTrue (is_slot sizes slot)) (old : State)
+    (before after : List Event)
     (found : IsFound old sizes generation slots draft (content before))
     (so_far : IsFront (commit_calls trees.superblock (nodes_written draft trees)) (Synced ∷ before) after) where
   abbrev super : Super
@@ -94,7 +103,8 @@ module _ (sizes : Sizes) (generation : ℕ) (roots : List (ℕ × RootItem)) (bo
   spared node has = elim (Contains-append_cases (fresh_nodes draft) (nodes_laid trees) node has) [
     | inl fresh ↦
         let there = contains_map address_of (fresh_nodes draft) node fresh in
-        let listed = subst (λ (list : List ℕ). Contains list (address_of node)) (fresh-addresses draft laying.ascending sizes writable) there in
+        let listed = subst (λ (list : List ℕ). Contains list (address_of node))
+        (fresh-addresses draft laying.ascending sizes writable) there in
         All-contains (IsSpared old.held) (keys_of draft.fresh) (address_of node) found.spares.at_fresh listed
     | inr other ↦
         let within = laid-within sizes generation roots book quota slots trees laying.laid node other in
@@ -109,13 +119,16 @@ module _ (sizes : Sizes) (generation : ℕ) (roots : List (ℕ × RootItem)) (bo
   sizes_alike : sizes_of found.mirrored.stands.super ≡ sizes_of trees.superblock
   sizes_alike =
       let was = found.mirrored.stands in
-      let told : old.sizes ≡ sizes_of was.super = ap (λ (s : State). s.sizes) was.stands ∙ sizes_in was.super (content before) in
-      sym told ∙ found.same_sizes ∙ sym (written-sizes sizes generation roots book quota slots draft trees laying writable are_slots)
+      let told : old.sizes ≡ sizes_of was.super = ap (λ (s : State). s.sizes) was.stands
+      ∙ sizes_in was.super (content before) in
+      sym told ∙ found.same_sizes
+      ∙ sym (written-sizes sizes generation roots book quota slots draft trees laying writable are_slots)
 
   later : found.mirrored.stands.super.generation < trees.superblock.generation
   later =
       let was = found.mirrored.stands in
-      let of_old : old.generation ≡ was.super.generation = ap (λ (s : State). s.generation) was.stands ∙ generation_in was.super (content before) in
+      let of_old : old.generation ≡ was.super.generation = ap (λ (s : State). s.generation) was.stands
+      ∙ generation_in was.super (content before) in
       let of_new : trees.superblock.generation ≡ generation = ap (λ (s : Super). s.generation) laying.laid.leads in
       let older = found.older in
       omega (arith, of_old, of_new, older)
@@ -152,7 +165,8 @@ module _ (sizes : Sizes) (generation : ℕ) (roots : List (ℕ × RootItem)) (bo
         subst (λ (s : Sizes). total_bytes s ≤ length image) (sym sizes_alike) enough
 
     mirrored : are_mirrored (super_in image first_place) (super_in image second_place) ≡ true
-    mirrored = leaves_mirrored before (node_events super.nodesize nodes) after old_super super image moment commits crash replaces
+    mirrored = leaves_mirrored before (node_events super.nodesize nodes) after old_super super image moment commits
+        crash replaces
 
     as_old : super_of image ≡ Some found.mirrored.stands.super → StateOf image old
     as_old counts =
@@ -162,35 +176,47 @@ module _ (sizes : Sizes) (generation : ℕ) (roots : List (ℕ × RootItem)) (bo
           long = long_image;
           mirrored = mirrored;
           found = λ address held.
-              other_slots_stay before nodes super old_super after image moment address writes crash.leaves sizes_alike (others address held);
+              other_slots_stay before nodes super old_super after image moment address writes crash.leaves sizes_alike
+              (others address held);
         })
 
-    as_whole : super_of image ≡ Some trees.superblock → nodes_synced before (node_events super.nodesize nodes) ≤ moment → HasWhole draft trees before image
+    as_whole : super_of image ≡ Some trees.superblock → nodes_synced before (node_events super.nodesize nodes) ≤ moment
+        → HasWhole draft trees before image
     as_whole counts past = record {
       counts = counts;
       reads = λ address.
           slots_are_settled before nodes super super after image moment address writes crash.leaves refl past
-          ∙ ap (λ (events : List Event). node_found super (content events) address) (sym (calls_are_whole before nodes super));
+          ∙ ap (λ (events : List Event). node_found super (content events) address)
+          (sym (calls_are_whole before nodes super));
     }
 
-    pub old_or_whole : (StateOf image old × (moment < first_synced before nodes super)) ⊎ HasWhole draft trees before image
+    pub old_or_whole : (StateOf image old × (moment < first_synced before nodes super))
+        ⊎ HasWhole draft trees before image
     old_or_whole =
         let events = node_events super.nodesize nodes in
         elim (cases_lt moment (first_synced before nodes super)) [
           | inl early ↦ elim (cases_lt (nodes_synced before events) moment) [
-            | inl past ↦ elim (leaves_old_or_new before events after old_super super image moment commits crash replaces) [
-              | inl counts ↦ inl (as_old counts, early)
-              | inr counts ↦ inr (as_whole counts (omega (arith, past)))
-            ]
-            | inr first ↦ inl (as_old (leaves_the_old before events after old_super super image moment commits crash replaces first), early)
+            | inl past ↦ elim (leaves_old_or_new before events after old_super super image moment commits crash
+                replaces) [
+                  | inl counts ↦ inl (as_old counts, early)
+                  | inr counts ↦ inr (as_whole counts (omega (arith, past)))
+                ]
+            | inr first ↦ inl (
+              as_old
+                  (leaves_the_old before events after old_super super image moment commits crash replaces first),
+              early,
+            )
           ]
-          | inr late ↦ inr (as_whole (leaves_the_new before events after old_super super image moment commits crash replaces late) (omega (arith, late)))
+          | inr late ↦ inr (as_whole
+              (leaves_the_new before events after old_super super image moment commits crash replaces late)
+              (omega (arith, late)))
         ]
 
 -- ---- what was done to the disk, whatever came of it
 
 -- nothing was
-pub left_alone : (before after : List Event) (was history : Option (List Event)) → was ≡ Some (Synced ∷ before) → history ≡ was → history ≡ Some after
+pub left_alone : (before after : List Event) (was history : Option (List Event)) → was ≡ Some (Synced ∷ before)
+    → history ≡ was → history ≡ Some after
     → after ≡ Synced ∷ before
 left_alone before after was history began same now =
     let both : Some after ≡ Some (Synced ∷ before) = sym now ∙ same ∙ began in
@@ -198,9 +224,12 @@ left_alone before after was history began same now =
 
 -- the calls came so far
 pub leaves_trees : (sizes : Sizes) (generation : ℕ) (told : Told) (slots : List ℕ) (draft : Draft) (trees : OtherTrees)
-    → IsLayingOf sizes generation told slots draft trees → AreWritable sizes draft → ((slot : ℕ) → Contains slots slot → IsTrue (is_slot sizes slot))
-    → (old : State) (before after : List Event) (history : Option (List Event)) → IsFound old sizes generation slots draft (content before)
-    → MadeFront (commit_calls trees.superblock (nodes_written draft trees)) (Synced ∷ before) history → history ≡ Some after
+    → IsLayingOf sizes generation told slots draft trees → AreWritable sizes draft
+    → ((slot : ℕ) → Contains slots slot → IsTrue (is_slot sizes slot))
+    → (old : State) (before after : List Event) (history : Option (List Event))
+    → IsFound old sizes generation slots draft (content before)
+    → MadeFront (commit_calls trees.superblock (nodes_written draft trees)) (Synced ∷ before) history
+    → history ≡ Some after
     → LeavesTrees old sizes generation told slots draft before after
 leaves_trees sizes generation told slots draft trees laying writable are_slots old before after history found made now =
     let both : Some made.after ≡ Some after = sym made.told ∙ now in
@@ -211,6 +240,7 @@ leaves_trees sizes generation told slots draft trees laying writable are_slots o
       trees = trees;
       is = laying;
       each = λ image moment crash.
-          old_or_whole sizes generation told.roots.now told.book.now told.quota.now slots draft trees laying writable are_slots old before after found front image
+          old_or_whole sizes generation told.roots.now told.book.now told.quota.now slots draft trees laying writable
+          are_slots old before after found front image
           moment crash;
     }

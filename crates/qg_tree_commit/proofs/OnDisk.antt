@@ -1,5 +1,6 @@
 -- What a disk holds once the calls of a commit were made.
-use Rattle.std.proofs.Common.{◌≡◌, ℕ, ◌<◌, ◌≤◌, nat_eq, arith, true, false, List, [], ◌∷◌, map, length, Option, Some, None, Ok, refl, sym, ap, subst, ◌∙◌, inl, inr}
+use Rattle.std.proofs.Common.{◌≡◌, ℕ, ◌<◌, ◌≤◌, nat_eq, arith, true, false, List, [], ◌∷◌, map, length, Option, Some}
+use Rattle.std.proofs.Common.{None, Ok, refl, sym, ap, subst, ◌∙◌, inl, inr}
 use Rattle.std.specs.Prelude.{Contains, All}
 use Rattle.std.specs.List.{AllByRecursion}
 use Rattle.std.specs.Map.{lookup}
@@ -43,7 +44,8 @@ use Rattle.qg_tree_commit.specs.Writing.{IsLaying, fresh_nodes, nodes_written}
 use Rattle.qg_tree_commit.proofs.AllNodes.{trees-held, written-found, written-lie, written-sizes}
 use Rattle.qg_tree_commit.proofs.FreshNodes.{fresh-listed, fresh-there}
 use Rattle.qg_tree_commit.proofs.LaidNodes.{laid-within}
-use Rattle.qg_tree_commit.proofs.Stays.{LiesInSlot, clean-stands, found-stands, standing-alike, stays-commit, stands-found}
+use Rattle.qg_tree_commit.proofs.Stays.{LiesInSlot, clean-stands, found-stands, standing-alike, stays-commit}
+use Rattle.qg_tree_commit.proofs.Stays.{stands-found}
 use Rattle.qg_tree_commit.proofs.Subvolume.{fresh-AreWritable, given-apart, given-clear, given-slot, met-held}
 
 -- ---- clean nodes
@@ -180,7 +182,8 @@ module _ (fs : FsTree) (roots : List (ℕ × RootItem)) (book : List (ℕ × Kep
 
     -- ---- the trees' nodes
 
-    module _ (bytes : ℕ) (subvolume : IsSubvolume fs (Some events) bytes) (items : List Item) (names : List (ℕ × Piece)) (stands : Stands fs (Some events) items names)
+    module _ (bytes : ℕ) (subvolume : IsSubvolume fs (Some events) bytes) (items : List Item) (names : List (ℕ × Piece))
+        (stands : Stands fs (Some events) items names)
       where
         -- a clean one
         held_stands : (q : ℕ) (node : Node) → IsMet fs (Some events) q → nodes_of fs (Some events) q ≡ Some node

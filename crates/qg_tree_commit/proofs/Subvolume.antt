@@ -1,5 +1,6 @@
 -- What the trees of subvolumes say of fresh nodes, of those that the last commit holds, and of free slots.
-use Rattle.std.proofs.Common.{◌≡◌, ℕ, Bool, true, false, List, get_or, Option, Some, None, refl, sym, ap, subst, ◌∙◌, inl, inr}
+use Rattle.std.proofs.Common.{◌≡◌, ℕ, Bool, true, false, List, get_or, Option, Some, None, refl, sym, ap, subst, ◌∙◌}
+use Rattle.std.proofs.Common.{inl, inr}
 use Rattle.std.specs.Prelude.{Contains, IsSome, IsTrue, All, ◌||◌, ◌==◌, nat_lt}
 use Rattle.std.specs.List.{list_any}
 use Rattle.std.proofs.lemmas.Bool.{cases_Bool, eq-eqb, eqb-true, ltb-true}
@@ -124,7 +125,8 @@ met-held fs history bytes items names subvolume stands q met clean =
             let found = one_passes (λ (number : ℕ). number == q) space.held_slots some in
             subst (λ (n : ℕ). Contains space.held_slots n) (eqb-true found.0 q found.2) found.1
         | inr none ↦
-            let free = is_free_slot-clear space q slot (λ has. elim (Contains-append_cases space.slots space.held_slots q
+            let free = is_free_slot-clear space q slot
+            (λ has. elim (Contains-append_cases space.slots space.held_slots q
             has) [
               | inl here ↦
                   let wrong : true ≡ false = sym ((Contains-has_slot space q).1 here) ∙ untaken in

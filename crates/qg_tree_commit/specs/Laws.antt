@@ -38,8 +38,8 @@ FreshAreReadBack = (fs : FsTree) (history : Option (List Event)) (bytes : ℕ) (
     → IsLaying fs.land.space.sizes generation roots book quota slots fs.land.blocks.draft trees
     → All (IsReadBack fs.land.space.sizes.nodesize) (fresh_nodes fs.land.blocks.draft)
 
--- where trees of subvolumes stand, and the three trees were laid out in free slots, a disk that is long enough holds the
--- commit and the nodes of all of them once the calls were made
+-- where trees of subvolumes stand, and the three trees were laid out in free slots, a disk that is long enough holds
+-- the commit and the nodes of all of them once the calls were made
 abbrev pub CommitIsOnDisk : Type 0
 CommitIsOnDisk = (fs : FsTree) (events : List Event) (bytes : ℕ) (items : List Item) (names : List (ℕ × Piece))
     (roots : List (ℕ × RootItem)) (book : List (ℕ × Kept)) (quota : Option Quota) (generation : ℕ) (slots : List ℕ)
@@ -63,7 +63,8 @@ WrittenAreNew = (fs : FsTree) (history : Option (List Event)) (bytes : ℕ) (ite
 
 -- after the calls `written` of qg_blocks may be called, where no clean node in memory lies in a slot that was written
 abbrev pub FreshAreFlushed : Type 0
-FreshAreFlushed = (fs : FsTree) (before : Option (List Event)) (bytes : ℕ) (roots : List (ℕ × RootItem)) (book : List (ℕ × Kept))
+FreshAreFlushed = (fs : FsTree) (before : Option (List Event)) (bytes : ℕ) (roots : List (ℕ × RootItem))
+    (book : List (ℕ × Kept))
     (quota : Option Quota) (generation : ℕ) (slots : List ℕ) (trees : OtherTrees)
     → IsSubvolume fs before bytes
     → IsLaying fs.land.space.sizes generation roots book quota slots fs.land.blocks.draft trees

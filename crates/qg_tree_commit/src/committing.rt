@@ -18,8 +18,8 @@ use qg_other_trees::{OtherTrees, Told, lay_other_trees};
 use qg_super::Sizes;
 use std::alloc::Global;
 
-/// Writes the fresh nodes of the subvolumes' trees, and the root, extent and quota trees built whole in free slots; then
-/// the superblocks (this project's own).
+/// Writes the fresh nodes of the subvolumes' trees, and the root, extent and quota trees built whole in free slots;
+/// then the superblocks (this project's own).
 ///
 /// The image has these sizes, and `next` is the generation of the commit. `slots` are addresses of free slots, in
 /// bytes, of which nothing is in memory (`Blocks::forget`). Nodes in memory stay as they are: after an `Ok` it is time

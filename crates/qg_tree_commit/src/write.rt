@@ -54,9 +54,9 @@ fn write_fresh<D: Disk>(
     Ok(())
 }
 
-/// Writes the fresh nodes, which lie at these addresses, and the nodes of three trees, or of two while quota is off, over
-/// a buffer of a node's size in bytes; then the first superblock, then the second, each once what was before is made sure of (this project's
-/// own).
+/// Writes the fresh nodes, which lie at these addresses, and the nodes of three trees, or of two while quota is off,
+/// over a buffer of a node's size in bytes; then the first superblock, then the second, each once what was before is
+/// made sure of (this project's own).
 pub(crate) fn write_all<D: Disk>(
     disk: &mut D,
     blocks: &Blocks,

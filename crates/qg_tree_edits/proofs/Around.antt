@@ -20,24 +20,32 @@ use Rattle.qg_ground.specs.declared.ground.Ground.{Ground}
 use Rattle.qg_descent.specs.Tree.{Reaches, Root, super_of}
 use Rattle.qg_descent.specs.Branch.{AreBranches, IsMember}
 
--- The child at a place of a fresh node is to be edited under a key. These are the items under it, `mine`, and under the other children, whose keys
--- are less in front and greater behind. The other children are what the way to them leads to expect; no two children reach the same address, and
--- none of the others a free slot
-pub record IsAround (tree : Tree) (root : Root) (land : Ground) (history : Option (List Event)) (level at : ℕ) (to : Option Key) (place : ℕ) (key : Key) (pointers : List Pointer) (front mine back items : List Item) : Type 0 where
+-- The child at a place of a fresh node is to be edited under a key. These are the items under it, `mine`, and under the
+-- other children, whose keys are less in front and greater behind. The other children are what the way to them leads to
+-- expect; no two children reach the same address, and none of the others a free slot
+pub record IsAround (tree : Tree) (root : Root) (land : Ground) (history : Option (List Event)) (level at : ℕ)
+    (to : Option Key) (place : ℕ) (key : Key) (pointers : List Pointer) (front mine back items : List Item) : Type
+    0 where
   pub header : Header
   pub here : fresh_at land.blocks.draft at ≡ Some (Inner header pointers)
   pub member : IsMember tree (super_of root land.blocks.draft) (suc level) header
   pub inside : place < length pointers
   pub items_are : items ≡ front ++ (mine ++ back)
-  pub before : AreBranches tree (super_of root land.blocks.draft) (told land.blocks.draft history) level (take place pointers) front
-  pub after : AreBranches tree (super_of root land.blocks.draft) (told land.blocks.draft history) level (drop (place + 1) pointers) back
+  pub before : AreBranches tree (super_of root land.blocks.draft) (told land.blocks.draft history) level
+      (take place pointers) front
+  pub after : AreBranches tree (super_of root land.blocks.draft) (told land.blocks.draft history) level
+      (drop (place + 1) pointers) back
   pub less : IsTrue (list_all (λ item. is_lt (key_cmp item.key key)) front)
   pub greater : IsTrue (list_all (λ item. is_lt (key_cmp key item.key)) back)
-  pub judged : (i : ℕ) (pointer : Pointer) → i ≢ place → slice_get pointers i ≡ Some pointer → (node : Node) × (told land.blocks.draft history pointer.child ≡ Some node)
-      × (form_failure tree (super_of root land.blocks.draft) (expected_below level to pointer (drop (i + 1) pointers)) pointer.child node ≡ None)
+  pub judged : (i : ℕ) (pointer : Pointer) → i ≢ place → slice_get pointers i ≡ Some pointer
+      → (node : Node) × (told land.blocks.draft history pointer.child ≡ Some node)
+      × (form_failure tree (super_of root land.blocks.draft) (expected_below level to pointer (drop (i + 1) pointers))
+      pointer.child node ≡ None)
   pub several : 2 ≤ length pointers
   pub ascending : IsTrue (is_ascending (map (λ item. item.key) items))
   pub short : All (λ item. length item.body ≤ 1024) items
   pub apart : (i j : ℕ) (p r : Pointer) → i ≢ j → slice_get pointers i ≡ Some p → slice_get pointers j ≡ Some r
-      → (q : ℕ) → Reaches (told land.blocks.draft history) level p.child q → Reaches (told land.blocks.draft history) level r.child q → ⊥
-  pub free : (q : ℕ) → IsTrue (is_free_slot land.space q) → (i : ℕ) (pointer : Pointer) → slice_get pointers i ≡ Some pointer → Reaches (told land.blocks.draft history) level pointer.child q → ⊥
+      → (q : ℕ) → Reaches (told land.blocks.draft history) level p.child q
+      → Reaches (told land.blocks.draft history) level r.child q → ⊥
+  pub free : (q : ℕ) → IsTrue (is_free_slot land.space q) → (i : ℕ) (pointer : Pointer)
+      → slice_get pointers i ≡ Some pointer → Reaches (told land.blocks.draft history) level pointer.child q → ⊥

@@ -1,5 +1,6 @@
 -- Tellings that go down: by the time that a node is copied or left, none of the clean nodes leads to it.
-use Rattle.std.proofs.Common.{◌≡◌, ℕ, zero, suc, ◌+◌, ◌-◌, ◌<◌, ◌≤◌, List, [], ◌∷◌, ◌++◌, map, length, get_or, arith, refl, sym, ap, subst, ◌∙◌, inl, inr, Option, Some, None}
+use Rattle.std.proofs.Common.{◌≡◌, ℕ, zero, suc, ◌+◌, ◌-◌, ◌<◌, ◌≤◌, List, [], ◌∷◌, ◌++◌, map, length, get_or, arith}
+use Rattle.std.proofs.Common.{refl, sym, ap, subst, ◌∙◌, inl, inr, Option, Some, None}
 use Rattle.std.specs.Prelude.{Contains, slice_get}
 use Rattle.std.specs.List.{sum_by}
 use Rattle.std.proofs.lemmas.Bool.Decides.{eqb_tells}
@@ -15,7 +16,8 @@ use Rattle.qg_ground.specs.Tellings.{Telling}
 use Rattle.qg_ground.specs.Tellings.Telling.{Copied, Made, Left}
 use Rattle.qg_descent.specs.Branch.{AreBranches, IsBranch, IsPointed}
 use Rattle.qg_descent.proofs.Branches.{branch-top, each-get}
-use Rattle.qg_tree_edits.specs.Counting.{Downward, IsDownward, IsTimely, LeadsNone, Turns, gains, losses, one, ways, ways_each}
+use Rattle.qg_tree_edits.specs.Counting.{Downward, IsDownward, IsTimely, LeadsNone, Turns, gains, losses, one, ways}
+use Rattle.qg_tree_edits.specs.Counting.{ways_each}
 use Rattle.qg_tree_edits.proofs.Reached.{either-some, some-term}
 use Rattle.qg_tree_edits.proofs.Ways.{one-here, one-other, sum-some, ways-inner, ways-leaf, ways-top}
 
@@ -254,7 +256,8 @@ module _ (tree : Tree) (super : Super) (nodes clean : ℕ → Option Node)
         let none = one-other at q differ in
         let all = ways-inner nodes level at branch.0 branch.1 branch.2 q in
         let under = λ (i : ℕ) (p : Pointer) (there : slice_get branch.1 i ≡ Some p).
-        each-get (λ (o : Pointer) (xs : List Item). IsPointed super nodes o × IsBranch tree super nodes level o.child xs)
+        each-get (λ (o : Pointer) (xs : List Item). IsPointed super nodes o
+        × IsBranch tree super nodes level o.child xs)
         branch.1 items branch.4 i p there in
         let lower = each_lower level branch.1
         (λ i p there. branch_lower level p.child (under i p there).0 (under i p there).2.1) q parent r is

@@ -17,7 +17,8 @@ pub inner-some : (node : Node) → IsLevelled node → 0 < (header_of node).leve
 inner-some (Leaf header items) levelled above = absurd (omega (arith, levelled, above))
 inner-some (Inner header pointers) levelled above = let some = levelled.2 in omega (arith, some)
 
-pub inner-ascending : (node : Node) → IsLevelled node → 0 < (header_of node).level → is_ascending (own_keys node) ≡ true → is_ascending (map (λ (p : Pointer). p.key) (own_pointers node)) ≡ true
+pub inner-ascending : (node : Node) → IsLevelled node → 0 < (header_of node).level → is_ascending (own_keys node) ≡ true
+    → is_ascending (map (λ (p : Pointer). p.key) (own_pointers node)) ≡ true
 inner-ascending (Leaf header items) levelled above ascending = absurd (omega (arith, levelled, above))
 inner-ascending (Inner header pointers) levelled above ascending = ascending
 
@@ -25,5 +26,7 @@ length_map : (pointers : List Pointer) → length (map (λ (p : Pointer). p.key)
 length_map [] = refl
 length_map (pointer ∷ pointers) = ap (λ (n : ℕ). suc n) (length_map pointers)
 
-pub place-inside : (pointers : List Pointer) (key : Key) (place : ℕ) → LeadsTo (map (λ (p : Pointer). p.key) pointers) key place → place < length pointers
-place-inside pointers key place leads = let within = leads.within in let same = length_map pointers in omega (arith, within, same)
+pub place-inside : (pointers : List Pointer) (key : Key) (place : ℕ)
+    → LeadsTo (map (λ (p : Pointer). p.key) pointers) key place → place < length pointers
+place-inside pointers key place leads = let within = leads.within in let same = length_map pointers in
+    omega (arith, within, same)

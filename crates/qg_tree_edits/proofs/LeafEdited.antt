@@ -1,5 +1,6 @@
 -- A leaf of a tree that was owned and edited.
-use Rattle.std.proofs.Common.{◌≡◌, ◌≢◌, ◌⊎◌, ℕ, List, [], ◌++◌, append-nil, arith, refl, sym, ap, subst, ◌∙◌, inl, inr, Option, Some, None}
+use Rattle.std.proofs.Common.{◌≡◌, ◌≢◌, ◌⊎◌, ℕ, List, [], ◌++◌, append-nil, arith, refl, sym, ap, subst, ◌∙◌, inl, inr}
+use Rattle.std.proofs.Common.{Option, Some, None}
 use Rattle.std.specs.Prelude.{IsTrue}
 use Rattle.qg_device.specs.History.{Event}
 use Rattle.qg_node.specs.declared.item.Item.{Item}
@@ -24,8 +25,10 @@ use Rattle.qg_edit.specs.Edits.{edited}
 use Rattle.qg_tree_edits.specs.declared.instead.Instead.{Instead}
 use Rattle.qg_descent.specs.Tree.{Reaches, Root, super_of}
 use Rattle.qg_descent.specs.Branch.{IsBranch, IsMember}
-use Rattle.qg_tree_edits.specs.Editing.{CanMake, FillsThere, HoldInstead, IsCutThere, IsOwned, IsPartEdited, IsPartFit, IsPlacedBehind, IsRewritten, ReachesInstead, alone, with_owner}
-use Rattle.qg_tree_edits.specs.Counting.{AreCommitted, IsPartTold, IsTold, one, tellings_made, tellings_owned, ways, ways_instead}
+use Rattle.qg_tree_edits.specs.Editing.{CanMake, FillsThere, HoldInstead, IsCutThere, IsOwned, IsPartEdited, IsPartFit}
+use Rattle.qg_tree_edits.specs.Editing.{IsPlacedBehind, IsRewritten, ReachesInstead, alone, with_owner}
+use Rattle.qg_tree_edits.specs.Counting.{AreCommitted, IsPartTold, IsTold, one, tellings_made, tellings_owned, ways}
+use Rattle.qg_tree_edits.specs.Counting.{ways_instead}
 use Rattle.qg_descent.proofs.BranchFrames.{reach-top}
 use Rattle.qg_descent.proofs.BranchWalk.{branch-under}
 use Rattle.qg_tree_edits.proofs.FirstLeaf.{first-alone}
@@ -50,7 +53,8 @@ record AreCut (h : Header) (items : List Item) (front other : Node) : Type 0 whe
   rest_is : rest ≡ record h { address = rest.address }
   items_are : items ≡ first ++ last
 
-cut_leaf : (nodesize address : ℕ) (h : Header) (items : List Item) (front other : Node) → IsSplit nodesize address (Leaf h items) front other → AreCut h items front other
+cut_leaf : (nodesize address : ℕ) (h : Header) (items : List Item) (front other : Node)
+    → IsSplit nodesize address (Leaf h items) front other → AreCut h items front other
 cut_leaf nodesize address h items (Inner hf ps) other split = absurd (let e = split.whole in cc)
 cut_leaf nodesize address h items (Leaf hf fs) (Inner ho ps) split = absurd split.alike
 cut_leaf nodesize address h items (Leaf hf fs) (Leaf ho os) split =
@@ -63,12 +67,14 @@ cut_leaf nodesize address h items (Leaf hf fs) (Leaf ho os) split =
       rest = ho;
       front_is = ap (λ (x : Header). Leaf x fs) same;
       other_is = refl;
-      rest_is = split.header ∙ ap (λ (a : ℕ). record h { address = a }) (sym (ap (λ (x : Header). x.address) split.header));
+      rest_is = split.header ∙ ap (λ (a : ℕ). record h { address = a })
+          (sym (ap (λ (x : Header). x.address) split.header));
       items_are = sym all;
     }
 
 -- the rest is a node that the tree may have, by an owner that its nodes may have
-member_moved : (tree : Tree) (super : Super) (level owner address : ℕ) (h other : Header) → other ≡ record h { address = other.address } → IsTrue (is_owner tree owner)
+member_moved : (tree : Tree) (super : Super) (level owner address : ℕ) (h other : Header)
+    → other ≡ record h { address = other.address } → IsTrue (is_owner tree owner)
     → IsMember tree super level h → IsMember tree super level (record other { owner = owner; address = address })
 member_moved tree super level owner address h other is may member = record {
   levelled = ap (λ (x : Header). x.level) is ∙ member.levelled;
@@ -77,27 +83,34 @@ member_moved tree super level owner address h other is may member = record {
 }
 
 -- what stands there holds the items
-module _ (tree : Tree) (super : Super) (set end : Ground) (history : Option (List Event)) (nodesize now : ℕ) (h : Header) (items : List Item) (instead : Instead) (member : IsMember tree super 0 h)
+module _ (tree : Tree) (super : Super) (set end : Ground) (history : Option (List Event)) (nodesize now : ℕ)
+    (h : Header) (items : List Item) (instead : Instead) (member : IsMember tree super 0 h)
     (owner : ℕ) (may : IsTrue (is_owner tree owner))
     (size : super.nodesize ≡ nodesize) where
-  one_holds : IsOneThere set end history now (Leaf h items) instead → HoldInstead tree super (told end.blocks.draft history) 0 instead items
+  one_holds : IsOneThere set end history now (Leaf h items) instead
+      → HoldInstead tree super (told end.blocks.draft history) 0 instead items
   unfolding IsBranch
-  one_holds one = subst (λ (i : Instead). HoldInstead tree super (told end.blocks.draft history) 0 i items) (sym one.instead_is) (record {
-    mine = items;
-    rest = [];
-    items_are = sym (append-nil items);
-    here = (h, one.there, member);
-    behind = refl;
-  })
+  one_holds one = subst (λ (i : Instead). HoldInstead tree super (told end.blocks.draft history) 0 i items)
+      (sym one.instead_is) (record {
+        mine = items;
+        rest = [];
+        items_are = sym (append-nil items);
+        here = (h, one.there, member);
+        behind = refl;
+      })
 
-  fills : (at : ℕ) (node : Node) → told end.blocks.draft history at ≡ Some node → IsFilled nodesize node → FillsThere super.nodesize (told end.blocks.draft history) at
-  fills at node there filled = record { node = node; there = there; filled = subst (λ (n : ℕ). IsFilled n node) (sym size) filled }
+  fills : (at : ℕ) (node : Node) → told end.blocks.draft history at ≡ Some node → IsFilled nodesize node
+      → FillsThere super.nodesize (told end.blocks.draft history) at
+  fills at node there filled =
+      record { node = node; there = there; filled = subst (λ (n : ℕ). IsFilled n node) (sym size) filled }
 
-  two_hold : AreTwoThere owner set end history nodesize now (Leaf h items) instead → HoldInstead tree super (told end.blocks.draft history) 0 instead items
+  two_hold : AreTwoThere owner set end history nodesize now (Leaf h items) instead
+      → HoldInstead tree super (told end.blocks.draft history) 0 instead items
   unfolding IsBranch
   two_hold two =
       let parts = cut_leaf nodesize h.address h items two.front two.other two.split in
-      subst (λ (i : Instead). HoldInstead tree super (told end.blocks.draft history) 0 i items) (sym two.instead_is) (record {
+      subst (λ (i : Instead). HoldInstead tree super (told end.blocks.draft history) 0 i items) (sym two.instead_is)
+      (record {
         mine = parts.first;
         rest = parts.last;
         items_are = parts.items_are;
@@ -109,46 +122,60 @@ module _ (tree : Tree) (super : Super) (set end : Ground) (history : Option (Lis
             member_moved tree super 0 owner two.more h parts.rest parts.rest_is may member,
           ),
           fills now two.front two.there two.split.front_filled,
-          fills two.more (node_at two.more (with_owner owner two.other)) two.behind (filled-at nodesize owner two.more two.other two.split.rest_filled),
+          fills two.more (node_at two.more (with_owner owner two.other)) two.behind
+              (filled-at nodesize owner two.more two.other two.split.rest_filled),
         );
       })
 
-  pub leaf-holds : IsOneThere set end history now (Leaf h items) instead ⊎ AreTwoThere owner set end history nodesize now (Leaf h items) instead
+  pub leaf-holds : IsOneThere set end history now (Leaf h items) instead
+      ⊎ AreTwoThere owner set end history nodesize now (Leaf h items) instead
       → HoldInstead tree super (told end.blocks.draft history) 0 instead items
   leaf-holds (inl one) = one_holds one
   leaf-holds (inr two) = two_hold two
 
 -- the leaf that was owned has the items
-module _ (tree : Tree) (root : Root) (land mid : Ground) (history : Option (List Event)) (expected : Expected) (at now : ℕ) (edit : Edit) (items : List Item)
-    (owned : IsOwned tree root land mid history expected at now) (makes : CanMake tree root) (fit : IsPartFit tree root land history 0 expected at edit items) where
+module _ (tree : Tree) (root : Root) (land mid : Ground) (history : Option (List Event)) (expected : Expected)
+    (at now : ℕ) (edit : Edit) (items : List Item)
+    (owned : IsOwned tree root land mid history expected at now) (makes : CanMake tree root)
+    (fit : IsPartFit tree root land history 0 expected at edit items) where
   top : IsBranch tree (super_of root land.blocks.draft) (told land.blocks.draft history) 0 at items
-  top = branch-under tree (super_of root land.blocks.draft) (told land.blocks.draft history) 0 expected at items (record { levelled = fit.levelled; walked = fit.walked; items_are = fit.items_are })
+  top = branch-under tree (super_of root land.blocks.draft) (told land.blocks.draft history) 0 expected at items
+      (record { levelled = fit.levelled; walked = fit.walked; items_are = fit.items_are })
 
-  pub mine-leaf_is : (header : Header) × (owned.mine ≡ Leaf header items) × IsMember tree (super_of root land.blocks.draft) 0 header
+  pub mine-leaf_is : (header : Header) × (owned.mine ≡ Leaf header items)
+      × IsMember tree (super_of root land.blocks.draft) 0 header
   unfolding IsBranch
   mine-leaf_is =
       let is = mine-leaf tree root land mid history expected at now owned makes top.0 items top.1 top.2.levelled in
       (is.0, is.1, is.2 top.2)
 
-module _ (tree : Tree) (root : Root) (land mid set end : Ground) (history later last : Option (List Event)) (expected : Expected) (at now : ℕ) (edit : Edit) (items : List Item) (rest : Option Node) (instead : Instead)
-    (owned : IsOwned tree root land mid history expected at now) (makes : CanMake tree root) (fit : IsPartFit tree root land history 0 expected at edit items) (drafted : IsDrafted land root.next)
-    (rests : Rests land mid later root.next) (rewritten : IsRewritten mid set now owned.mine) (drafted_set : IsDrafted set root.next) (rests_end : Rests set end last root.next)
-    (cut : IsCutThere mid.space.sizes.nodesize set now owned.mine (with_items owned.mine (edited edit (own_items owned.mine))) rest) (placed : IsPlacedBehind root.owner set end now rest instead) where
+module _ (tree : Tree) (root : Root) (land mid set end : Ground) (history later last : Option (List Event))
+    (expected : Expected) (at now : ℕ) (edit : Edit) (items : List Item) (rest : Option Node) (instead : Instead)
+    (owned : IsOwned tree root land mid history expected at now) (makes : CanMake tree root)
+    (fit : IsPartFit tree root land history 0 expected at edit items) (drafted : IsDrafted land root.next)
+    (rests : Rests land mid later root.next) (rewritten : IsRewritten mid set now owned.mine)
+    (drafted_set : IsDrafted set root.next) (rests_end : Rests set end last root.next)
+    (cut : IsCutThere mid.space.sizes.nodesize set now owned.mine
+    (with_items owned.mine (edited edit (own_items owned.mine))) rest)
+    (placed : IsPlacedBehind root.owner set end now rest instead) where
   mine : (header : Header) × (owned.mine ≡ Leaf header items) × IsMember tree (super_of root land.blocks.draft) 0 header
   mine = mine-leaf_is tree root land mid history expected at now edit items owned makes fit
 
   top_is : (header : Header) × (told land.blocks.draft history at ≡ Some (Leaf header items))
   unfolding IsBranch
   top_is =
-      let top = branch-under tree (super_of root land.blocks.draft) (told land.blocks.draft history) 0 expected at items (record { levelled = fit.levelled; walked = fit.walked; items_are = fit.items_are }) in
+      let top = branch-under tree (super_of root land.blocks.draft) (told land.blocks.draft history) 0 expected at items
+      (record { levelled = fit.levelled; walked = fit.walked; items_are = fit.items_are }) in
       (top.0, top.1)
 
   whole_is : with_items owned.mine (edited edit (own_items owned.mine)) ≡ Leaf mine.0 (edited edit items)
   whole_is = ap (λ (n : Node). with_items n (edited edit (own_items n))) mine.1
 
-  parts : IsOneThere set end history now (Leaf mine.0 (edited edit items)) instead ⊎ AreTwoThere root.owner set end history mid.space.sizes.nodesize now (Leaf mine.0 (edited edit items)) instead
+  parts : IsOneThere set end history now (Leaf mine.0 (edited edit items)) instead
+      ⊎ AreTwoThere root.owner set end history mid.space.sizes.nodesize now (Leaf mine.0 (edited edit items)) instead
   parts =
-      parts-there root.owner set end history mid.space.sizes.nodesize now root.next owned.mine (Leaf mine.0 (edited edit items)) drafted_set rest instead
+      parts-there root.owner set end history mid.space.sizes.nodesize now root.next owned.mine
+      (Leaf mine.0 (edited edit items)) drafted_set rest instead
       (subst (λ (n : Node). IsCutThere mid.space.sizes.nodesize set now owned.mine n rest) whole_is cut) placed
 
   space_is : set.space ≡ mid.space
@@ -161,17 +188,21 @@ module _ (tree : Tree) (root : Root) (land mid set end : Ground) (history later 
   now_was : (now ≡ at) ⊎ IsTrue (is_free_slot land.space now)
   now_was = elim owned.same [ inl kept ↦ inl kept.1 | inr copied ↦ inr copied.1 ]
 
-  among : (q : ℕ) → ReachesInstead (told end.blocks.draft history) 0 instead q → (q ≡ now) ⊎ IsTrue (is_free_slot set.space q)
+  among : (q : ℕ) → ReachesInstead (told end.blocks.draft history) 0 instead q
+      → (q ≡ now) ⊎ IsTrue (is_free_slot set.space q)
   unfolding Reaches
   among q reaches = elim parts [
-    | inl one ↦ elim (subst (λ (i : Instead). ReachesInstead (told end.blocks.draft history) 0 i q) one.instead_is reaches) [ inl here ↦ inl here | inr none ↦ absurd none ]
-    | inr two ↦ elim (subst (λ (i : Instead). ReachesInstead (told end.blocks.draft history) 0 i q) two.instead_is reaches) [
-      | inl here ↦ inl here
-      | inr behind ↦ inr (ap (is_free_slot set.space) behind ∙ two.makes.puts.free)
-    ]
+    | inl one ↦ elim (subst (λ (i : Instead). ReachesInstead (told end.blocks.draft history) 0 i q) one.instead_is
+        reaches) [ inl here ↦ inl here | inr none ↦ absurd none ]
+    | inr two ↦ elim (subst (λ (i : Instead). ReachesInstead (told end.blocks.draft history) 0 i q) two.instead_is
+        reaches) [
+          | inl here ↦ inl here
+          | inr behind ↦ inr (ap (is_free_slot set.space) behind ∙ two.makes.puts.free)
+        ]
   ]
 
-  reach : (q : ℕ) → ReachesInstead (told end.blocks.draft history) 0 instead q → Reaches (told land.blocks.draft history) 0 at q ⊎ IsTrue (is_free_slot land.space q)
+  reach : (q : ℕ) → ReachesInstead (told end.blocks.draft history) 0 instead q
+      → Reaches (told land.blocks.draft history) 0 at q ⊎ IsTrue (is_free_slot land.space q)
   unfolding Reaches
   reach q reaches = elim (among q reaches) [
     | inl here ↦ elim now_was [
@@ -181,7 +212,8 @@ module _ (tree : Tree) (root : Root) (land mid set end : Ground) (history later 
     | inr free ↦ elim (free_set q free) [ inl was ↦ inr was | inr same ↦ inl same ]
   ]
 
-  others : (disk : Option (List Event)) (q : ℕ) → (IsTrue (is_free_slot land.space q) → ⊥) → (Reaches (told land.blocks.draft history) 0 at q → ⊥)
+  others : (disk : Option (List Event)) (q : ℕ) → (IsTrue (is_free_slot land.space q) → ⊥)
+      → (Reaches (told land.blocks.draft history) 0 at q → ⊥)
       → told end.blocks.draft disk q ≡ told land.blocks.draft disk q
   unfolding Reaches
   others disk q not_free not_at =
@@ -189,27 +221,35 @@ module _ (tree : Tree) (root : Root) (land mid set end : Ground) (history later 
         | inl is ↦ not_at (same ∙ is)
         | inr free ↦ not_free (ap (is_free_slot land.space) same ∙ free)
       ] in
-      placed-told root.owner set end history mid.space.sizes.nodesize now (Leaf mine.0 (edited edit items)) instead parts disk q
+      placed-told root.owner set end history mid.space.sizes.nodesize now (Leaf mine.0 (edited edit items)) instead
+      parts disk q
       (λ free. elim (free_set q free) [ inl was ↦ not_free was | inr same ↦ not_at same ])
       ∙ rewritten-told mid set now owned.mine owned.here rewritten disk q not_now
       ∙ owned.others disk q not_now
 
   free_end : (q : ℕ) → IsTrue (is_free_slot end.space q) → IsTrue (is_free_slot set.space q)
-  free_end = placed-free root.owner set end history last mid.space.sizes.nodesize now root.next (Leaf mine.0 (edited edit items)) instead drafted_set rests_end parts
+  free_end = placed-free root.owner set end history last mid.space.sizes.nodesize now root.next
+      (Leaf mine.0 (edited edit items)) instead drafted_set rests_end parts
 
   -- what stands there is taken
   taken : (q : ℕ) → IsTrue (is_free_slot end.space q) → ReachesInstead (told end.blocks.draft history) 0 instead q → ⊥
   unfolding Reaches
   taken q free reaches = elim parts [
-    | inl one ↦ elim (subst (λ (i : Instead). ReachesInstead (told end.blocks.draft history) 0 i q) one.instead_is reaches) [
-      | inl here ↦
-          fresh-taken set root.next now cut.node drafted_set cut.here (ap (is_free_slot set.space) (sym here) ∙ free_end q free)
-      | inr none ↦ none
-    ]
-    | inr two ↦ elim (subst (λ (i : Instead). ReachesInstead (told end.blocks.draft history) 0 i q) two.instead_is reaches) [
-      | inl here ↦ fresh-taken set root.next now cut.node drafted_set cut.here (ap (is_free_slot set.space) (sym here) ∙ free_end q free)
-      | inr behind ↦ fresh-taken end root.next two.more (node_at two.more (with_owner root.owner two.other)) rests_end.drafted two.makes.puts.here (ap (is_free_slot end.space) (sym behind) ∙ free)
-    ]
+    | inl one ↦ elim (subst (λ (i : Instead). ReachesInstead (told end.blocks.draft history) 0 i q) one.instead_is
+        reaches) [
+          | inl here ↦
+              fresh-taken set root.next now cut.node drafted_set cut.here (ap (is_free_slot set.space) (sym here)
+              ∙ free_end q free)
+          | inr none ↦ none
+        ]
+    | inr two ↦ elim (subst (λ (i : Instead). ReachesInstead (told end.blocks.draft history) 0 i q) two.instead_is
+        reaches) [
+          | inl here ↦ fresh-taken set root.next now cut.node drafted_set cut.here
+              (ap (is_free_slot set.space) (sym here)
+              ∙ free_end q free)
+          | inr behind ↦ fresh-taken end root.next two.more (node_at two.more (with_owner root.owner two.other))
+              rests_end.drafted two.makes.puts.here (ap (is_free_slot end.space) (sym behind) ∙ free)
+        ]
   ]
 
   pub leaf-edited : IsPartEdited tree root land end history 0 at edit items instead
@@ -225,11 +265,16 @@ module _ (tree : Tree) (root : Root) (land mid set end : Ground) (history later 
       greater = refl;
     };
     first = λ least. sym (first-alone (told land.blocks.draft history) at top_is.0 items top_is.1);
-    holds = leaf-holds tree (super_of root land.blocks.draft) set end history mid.space.sizes.nodesize now mine.0 (edited edit items) instead mine.2 root.owner makes.owner
+    holds = leaf-holds tree (super_of root land.blocks.draft) set end history mid.space.sizes.nodesize now mine.0
+        (edited edit items) instead mine.2 root.owner makes.owner
         (drafted.sizes.nodesize ∙ sym (ap (λ (s : _). s.nodesize) rests.sizes)) parts;
     reach = reach;
     others = others;
-    freed = λ q free. elim (free_set q (free_end q free)) [ inl was ↦ inl was | inr same ↦ inr (subst (λ (a : ℕ). Reaches (told land.blocks.draft history) 0 at a) (sym same) (reach-top (told land.blocks.draft history) 0 at)) ];
+    freed = λ q free. elim (free_set q (free_end q free)) [
+      | inl was ↦ inl was
+      | inr same ↦ inr (subst (λ (a : ℕ). Reaches (told land.blocks.draft history) 0 at a) (sym same)
+          (reach-top (told land.blocks.draft history) 0 at))
+    ];
     free = taken;
   }
 
@@ -239,15 +284,25 @@ module _ (tree : Tree) (root : Root) (land mid set end : Ground) (history later 
   Old q = Reaches (told land.blocks.draft history) 0 at q
 
   -- the rest was made behind the leaf
-  rest_told : (nodes clean : ℕ → Option Node) → IsTold set nodes clean (λ q. ⊥) (λ q. one now q) (ways_instead (told end.blocks.draft history) 0 instead) 1 0 1 (tellings_made instead.more)
+  rest_told : (nodes clean : ℕ → Option Node)
+      → IsTold set nodes clean (λ q. ⊥) (λ q. one now q) (ways_instead (told end.blocks.draft history) 0 instead) 1 0 1
+      (tellings_made instead.more)
   rest_told nodes clean = elim parts [
     | inl one_leaf ↦
-        subst (λ (i : Instead). IsTold set nodes clean (λ q. ⊥) (λ q. one now q) (ways_instead (told end.blocks.draft history) 0 i) 1 0 1 (tellings_made i.more)) (sym one_leaf.instead_is)
-        (told-more set nodes clean (λ q. ⊥) (λ q. one now q) (ways_instead (told end.blocks.draft history) 0 (alone now)) 0 0 0 1 0 1 [] (omega arith) (omega arith) (omega arith)
-        (told-none set nodes clean (λ q. ⊥) (λ q. one now q) (ways_instead (told end.blocks.draft history) 0 (alone now)) (λ q. let a = ways-leaf (told end.blocks.draft history) now q in omega (arith, a))))
+        subst (λ (i : Instead). IsTold set nodes clean (λ q. ⊥) (λ q. one now q)
+        (ways_instead (told end.blocks.draft history) 0 i) 1 0 1 (tellings_made i.more)) (sym one_leaf.instead_is)
+        (told-more set nodes clean (λ q. ⊥) (λ q. one now q)
+        (ways_instead (told end.blocks.draft history) 0 (alone now)) 0 0 0 1 0 1 [] (omega arith) (omega arith)
+        (omega arith)
+        (told-none set nodes clean (λ q. ⊥) (λ q. one now q)
+        (ways_instead (told end.blocks.draft history) 0 (alone now))
+        (λ q. let a = ways-leaf (told end.blocks.draft history) now q in omega (arith, a))))
     | inr two ↦
-        subst (λ (i : Instead). IsTold set nodes clean (λ q. ⊥) (λ q. one now q) (ways_instead (told end.blocks.draft history) 0 i) 1 0 1 (tellings_made i.more)) (sym two.instead_is)
-        (told-made set nodes clean (λ q. ⊥) (λ q. one now q) (ways_instead (told end.blocks.draft history) 0 (record { now = now; more = Some two.more })) two.more two.makes.puts.free
+        subst (λ (i : Instead). IsTold set nodes clean (λ q. ⊥) (λ q. one now q)
+        (ways_instead (told end.blocks.draft history) 0 i) 1 0 1 (tellings_made i.more)) (sym two.instead_is)
+        (told-made set nodes clean (λ q. ⊥) (λ q. one now q)
+        (ways_instead (told end.blocks.draft history) 0 (record { now = now; more = Some two.more })) two.more
+        two.makes.puts.free
         (one-other now two.more two.differ) (λ q.
         let a = ways-leaf (told end.blocks.draft history) now q in
         let b = ways-leaf (told end.blocks.draft history) two.more q in
@@ -255,13 +310,19 @@ module _ (tree : Tree) (root : Root) (land mid set end : Ground) (history later 
   ]
 
   -- the leaf was owned
-  own_told : (nodes clean : ℕ → Option Node) → AreCommitted land history clean → (fresh_at land.blocks.draft at ≡ None → nodes at ≡ told land.blocks.draft history at)
-      → IsTold land nodes clean Old (ways (told land.blocks.draft history) 0 at) (λ q. one now q) 1 0 0 (tellings_owned owned.node at now)
+  own_told : (nodes clean : ℕ → Option Node) → AreCommitted land history clean
+      → (fresh_at land.blocks.draft at ≡ None → nodes at ≡ told land.blocks.draft history at)
+      → IsTold land nodes clean Old (ways (told land.blocks.draft history) 0 at) (λ q. one now q) 1 0 0
+      (tellings_owned owned.node at now)
   unfolding Old
   own_told nodes clean committed same =
-      told-same land nodes clean Old (ways (told land.blocks.draft history) 0 at) (ways (told land.blocks.draft history) 0 at) (ways (told mid.blocks.draft history) 0 now) (λ q. one now q) 1 0 0
+      told-same land nodes clean Old (ways (told land.blocks.draft history) 0 at)
+      (ways (told land.blocks.draft history) 0 at) (ways (told mid.blocks.draft history) 0 now)
+      (λ q. one now q) 1 0 0
       (tellings_owned owned.node at now) (λ q. refl) (λ q. sym (ways-leaf (told mid.blocks.draft history) now q))
-      (owned-told tree root land mid history expected at now owned makes 0 items (top tree root land mid history expected at now edit items owned makes fit) fit.apart nodes clean committed same)
+      (owned-told tree root land mid history expected at now owned makes 0 items
+      (top tree root land mid history expected at now edit items owned makes fit) fit.apart nodes clean committed
+      same)
 
   set_within : (q : ℕ) → IsTrue (is_free_slot set.space q) ⊎ ⊥ → IsTrue (is_free_slot land.space q) ⊎ Old q
   unfolding Old Reaches
@@ -271,14 +332,18 @@ module _ (tree : Tree) (root : Root) (land mid set end : Ground) (history later 
   held_set : set.space.held_slots ≡ land.space.held_slots
   held_set = ap (λ (h : Holding). h.held_slots) space_is ∙ rests.held_slots
 
-  pub leaf-told : IsPartTold land end history 0 at instead (tellings_owned owned.node at now ++ tellings_made instead.more)
+  pub leaf-told : IsPartTold land end history 0 at instead (tellings_owned owned.node at now
+      ++ tellings_made instead.more)
   unfolding Old
   leaf-told nodes clean same committed =
       let before = ways (told land.blocks.draft history) 0 at in
       let after = ways_instead (told end.blocks.draft history) 0 instead in
-      let made = told-within land nodes clean Old set (λ q. ⊥) (λ q. one now q) after 1 0 1 (tellings_made instead.more) held_set set_within (rest_told nodes clean) in
-      told-more land nodes clean Old before after 2 0 1 2 1 1 (tellings_owned owned.node at now ++ tellings_made instead.more) (omega arith) (omega arith) (omega arith)
-      (told-append land nodes clean Old before (λ q. one now q) after 1 0 0 1 0 1 (tellings_owned owned.node at now) (tellings_made instead.more)
+      let made = told-within land nodes clean Old set (λ q. ⊥) (λ q. one now q) after 1 0 1 (tellings_made instead.more)
+      held_set set_within (rest_told nodes clean) in
+      told-more land nodes clean Old before after 2 0 1 2 1 1 (tellings_owned owned.node at now
+      ++ tellings_made instead.more) (omega arith) (omega arith) (omega arith)
+      (told-append land nodes clean Old before (λ q. one now q) after 1 0 0 1 0 1 (tellings_owned owned.node at now)
+      (tellings_made instead.more)
       (own_told nodes clean committed (same at (reach-top (told land.blocks.draft history) 0 at))) made)
 
 pub header-with_items : (node : Node) (items : List Item) → header_of (with_items node items) ≡ header_of node

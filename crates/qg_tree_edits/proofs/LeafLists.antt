@@ -1,5 +1,6 @@
 -- The items of each leaf under a node.
-use Rattle.std.proofs.Common.{◌≡◌, ℕ, zero, suc, ◌*◌, ◌≤◌, true, List, [], ◌∷◌, ◌++◌, length, append_assoc, arith, refl, sym, ap, ◌∙◌, inl, inr, Option, Some, None}
+use Rattle.std.proofs.Common.{◌≡◌, ℕ, zero, suc, ◌*◌, ◌≤◌, true, List, [], ◌∷◌, ◌++◌, length, append_assoc, arith, refl}
+use Rattle.std.proofs.Common.{sym, ap, ◌∙◌, inl, inr, Option, Some, None}
 use Rattle.std.specs.Prelude.{nat_le, slice_get}
 use Rattle.std.proofs.lemmas.Bool.{leb-true}
 use Rattle.std.proofs.lemmas.List.{length-append}
@@ -30,7 +31,8 @@ under-append under (pointer ∷ xs) ys =
     ∙ sym (append_assoc (under pointer.child) (leaves_under under xs) (leaves_under under ys))
 
 pub under-same : (under other : ℕ → List (List Item)) (pointers : List Pointer)
-    → ((place : ℕ) (pointer : Pointer) → slice_get pointers place ≡ Some pointer → other pointer.child ≡ under pointer.child)
+    → ((place : ℕ) (pointer : Pointer) → slice_get pointers place ≡ Some pointer
+    → other pointer.child ≡ under pointer.child)
     → leaves_under other pointers ≡ leaves_under under pointers
 under-same under other [] same = refl
 under-same under other (pointer ∷ pointers) same =
@@ -97,7 +99,8 @@ module _ (tree : Tree) (super : Super) (nodes : ℕ → Option Node) where
   Leads : ℕ → Pointer → List Item → Type 0
   Leads level pointer under = IsPointed super nodes pointer × IsBranch tree super nodes level pointer.child under
 
-  inner_is : (pointer : Pointer) (header : Header) (pointers : List Pointer) → nodes pointer.child ≡ Some (Inner header pointers)
+  inner_is : (pointer : Pointer) (header : Header) (pointers : List Pointer)
+      → nodes pointer.child ≡ Some (Inner header pointers)
       → (pointed : IsPointed super nodes pointer) → pointed.node ≡ Inner header pointers
   inner_is pointer header pointers is pointed = let e = sym pointed.there ∙ is in cc
 
@@ -118,7 +121,8 @@ module _ (tree : Tree) (super : Super) (nodes : ℕ → Option Node) where
       omega (arith, some, many, whole)
 
   -- under some pointers there are as many as they are, at least
-  pub under-some : (level : ℕ) (pointers : List Pointer) (items : List Item) → AreBranches tree super nodes level pointers items
+  pub under-some : (level : ℕ) (pointers : List Pointer) (items : List Item)
+      → AreBranches tree super nodes level pointers items
       → length pointers ≤ length (leaves_under (λ child. leaves nodes level child) pointers)
   unfolding Leads
   under-some level pointers items each =
@@ -128,7 +132,8 @@ module _ (tree : Tree) (super : Super) (nodes : ℕ → Option Node) where
       leaves-some level p found.0 found.2.0 found.2.1)
 
   -- where a pointer leads to a node with pointers there are two at least
-  pub leaves-two : (level : ℕ) (pointer : Pointer) (items : List Item) → IsNodeSize super.nodesize → IsPointed super nodes pointer
+  pub leaves-two : (level : ℕ) (pointer : Pointer) (items : List Item) → IsNodeSize super.nodesize
+      → IsPointed super nodes pointer
       → IsBranch tree super nodes (suc level) pointer.child items → 2 ≤ length (leaves nodes (suc level) pointer.child)
   unfolding IsBranch
   leaves-two level pointer items size pointed branch =
@@ -150,17 +155,20 @@ pub behind-one : (leaf : List Item) (ys : List (List Item)) → 1 ≤ length ys 
 behind-one leaf [] some = absurd (omega (arith, some))
 behind-one leaf (other ∷ ys) some = refl
 
-pub joined-append : (level : ℕ) (xs ys zs : List (List Item)) → leaves_joined level xs (ys ++ zs) ≡ leaves_joined level xs ys ++ zs
+pub joined-append : (level : ℕ) (xs ys zs : List (List Item))
+    → leaves_joined level xs (ys ++ zs) ≡ leaves_joined level xs ys ++ zs
 joined-append zero xs ys zs = refl
 joined-append (suc level) xs ys zs = sym (append_assoc xs ys zs)
 
 -- those of a node, once its first child's were joined with the others'
 pub joined-behind : (nodes : ℕ → Option Node) (level at : ℕ) (others : List (List Item)) → 1 ≤ length others
     → (1 ≤ level → 2 ≤ length (leaves nodes level at))
-    → leaves_joined level (leaves_behind (leaves nodes level at)) others ≡ leaves_behind (leaves nodes level at ++ others)
+    → leaves_joined level (leaves_behind (leaves nodes level at)) others ≡ leaves_behind
+    (leaves nodes level at ++ others)
 unfolding leaves
 joined-behind nodes zero at others some two = behind-one (items_of (nodes at)) others some
-joined-behind nodes (suc level) at others some two = behind-append (leaves nodes (suc level) at) others (two (omega arith))
+joined-behind nodes (suc level) at others some two =
+    behind-append (leaves nodes (suc level) at) others (two (omega arith))
 
 -- a leaf alone leaves an empty one
 pub behind-leaf : (nodes : ℕ → Option Node) (level at : ℕ) → level ≡ 0 → leaves_behind (leaves nodes level at) ≡ [] ∷ []

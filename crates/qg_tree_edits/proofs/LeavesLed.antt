@@ -1,5 +1,6 @@
 -- Pointers of a fresh node were set from the first one on: the leaves under it.
-use Rattle.std.proofs.Common.{◌≡◌, ℕ, suc, List, [], ◌∷◌, ◌++◌, take, drop, refl, ap, ◌∙◌, append-nil, Option, Some, None}
+use Rattle.std.proofs.Common.{◌≡◌, ℕ, suc, List, [], ◌∷◌, ◌++◌, take, drop, refl, ap, ◌∙◌, append-nil, Option, Some}
+use Rattle.std.proofs.Common.{None}
 use Rattle.std.specs.Prelude.{MatchOption}
 use Rattle.std.proofs.lemmas.Option.{MatchOption-at_some}
 use Rattle.qg_device.specs.History.{Event}
@@ -51,9 +52,11 @@ module _ (tree : Tree) (super : Super) (land new : Ground) (history : Option (Li
   after : ℕ → List (List Item)
   after child = leaves (told new.blocks.draft history) level child
 
-  there : told new.blocks.draft history at ≡ Some (Inner header (take from pointers ++ (led.now ∷ led.more) ++ drop to pointers))
+  there : told new.blocks.draft history at
+      ≡ Some (Inner header (take from pointers ++ (led.now ∷ led.more) ++ drop to pointers))
   there =
-      told-fresh_at new.blocks.draft history at (Inner header (take from pointers ++ (led.now ∷ led.more) ++ drop to pointers))
+      told-fresh_at new.blocks.draft history at
+      (Inner header (take from pointers ++ (led.now ∷ led.more) ++ drop to pointers))
       (whole_there land.space.sizes.nodesize new at (Inner header pointers)
       (Inner header (take from pointers ++ (led.now ∷ led.more) ++ drop to pointers)) rest none led.cut)
 
@@ -64,11 +67,13 @@ module _ (tree : Tree) (super : Super) (land new : Ground) (history : Option (Li
   stays address under branch =
       leaves-same (told land.blocks.draft history) (told new.blocks.draft history) level address
       (λ q reaches. led.others history q
-      (not-above tree super land history level at header pointers can.here can.member.levelled address under branch q reaches))
+      (not-above tree super land history level at header pointers can.here can.member.levelled address under branch q
+      reaches))
 
   Under : Pointer → List Item → Type 0
   Under pointer under =
-      IsPointed super (told land.blocks.draft history) pointer × IsBranch tree super (told land.blocks.draft history) level pointer.child under
+      IsPointed super (told land.blocks.draft history) pointer
+      × IsBranch tree super (told land.blocks.draft history) level pointer.child under
 
   others_stay : leaves_under after (drop to pointers) ≡ leaves_under before (drop to pointers)
   unfolding Under
@@ -86,19 +91,24 @@ module _ (tree : Tree) (super : Super) (land new : Ground) (history : Option (Li
       more_under after instead.more led.more led.leads_on
       ∙ more_same before after instead.more
       (λ more some.
-      let behind = MatchOption-at_some (can.holds.rest ≡ []) (λ more. IsBranch tree super (told land.blocks.draft history) level more can.holds.rest
-      × FillsThere super.nodesize (told land.blocks.draft history) instead.now × FillsThere super.nodesize (told land.blocks.draft history) more) more some can.holds.behind in
+      let behind = MatchOption-at_some (can.holds.rest ≡ [])
+      (λ more. IsBranch tree super (told land.blocks.draft history) level more can.holds.rest
+      × FillsThere super.nodesize (told land.blocks.draft history) instead.now
+      × FillsThere super.nodesize (told land.blocks.draft history) more) more some can.holds.behind in
       stays more can.holds.rest behind.0)
 
   -- those of what stands there instead, and of the other children
   pub led-leaves : leaves (told new.blocks.draft history) (suc level) at
-      ≡ (leaves (told land.blocks.draft history) level instead.now ++ leaves_more (λ q. leaves (told land.blocks.draft history) level q) instead.more)
+      ≡ (leaves (told land.blocks.draft history) level instead.now
+      ++ leaves_more (λ q. leaves (told land.blocks.draft history) level q) instead.more)
       ++ leaves_under (λ q. leaves (told land.blocks.draft history) level q) (drop to pointers)
   unfolding before after
   led-leaves =
-      leaves-inner (told new.blocks.draft history) level at header (take from pointers ++ (led.now ∷ led.more) ++ drop to pointers) there
+      leaves-inner (told new.blocks.draft history) level at header (take from pointers ++ (led.now ∷ led.more)
+      ++ drop to pointers) there
       ∙ ap (λ (n : ℕ). leaves_under after (take n pointers ++ (led.now ∷ led.more) ++ drop to pointers)) first
       ∙ under-append after (led.now ∷ led.more) (drop to pointers)
-      ∙ ap (λ (ls : List (List Item)). (ls ++ leaves_under after led.more) ++ leaves_under after (drop to pointers)) now_stays
+      ∙ ap (λ (ls : List (List Item)). (ls ++ leaves_under after led.more) ++ leaves_under after (drop to pointers))
+      now_stays
       ∙ ap (λ (ls : List (List Item)). (before instead.now ++ ls) ++ leaves_under after (drop to pointers)) more_stays
       ∙ ap (λ (ls : List (List Item)). (before instead.now ++ leaves_more before instead.more) ++ ls) others_stay

@@ -42,7 +42,8 @@ module _ (tree : Tree) (super : Super) (land new : Ground) (history : Option (Li
       (λ place p there r reaches.
       let below = each-get (λ (p : Pointer) (xs : List Item). IsPointed super (told land.blocks.draft history) p
       × IsBranch tree super (told land.blocks.draft history) level p.child xs) some under each place p there in
-      led.others history r (not-above tree super land history level at header pointers can.here can.member.levelled p.child
+      led.others history r (not-above tree super land history level at header pointers can.here can.member.levelled
+      p.child
       below.0 below.2.1 r reaches))
 
   more_ways : (o : Option ℕ) (more : List Pointer) → MatchOption o (more ≡ [])

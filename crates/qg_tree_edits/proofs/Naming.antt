@@ -24,7 +24,8 @@ names-weaker (Err NoMemory) P Q so names = tt
 
 -- whatever would have been answered
 pub names-other : (A B : Type 0) (fault : BlockFault) (P Q : Rule → ℕ → Type 0)
-    → ((rule : Rule) (at : ℕ) → P rule at → Q rule at) → NamesOnly {A = A} P (Err fault) → NamesOnly {A = B} Q (Err fault)
+    → ((rule : Rule) (at : ℕ) → P rule at → Q rule at) → NamesOnly {A = A} P (Err fault)
+    → NamesOnly {A = B} Q (Err fault)
 names-other A B (Image rule at) P Q so names = so rule at names
 names-other A B Disk P Q so names = tt
 names-other A B NoMemory P Q so names = tt

@@ -30,13 +30,17 @@ some_or (Some node) P some none = some node refl
 -- ---- what is left of it
 
 -- a fresh node is the one that was judged, and it stays where it is
-owned_kept : (tree : Tree) (root : Root) (old new : Ground) (history : Option (List Event)) (expected : Expected) (at now : ℕ) (held : Held) (node : Node)
-    → IsVisited tree (super_of root old.blocks.draft) expected old.blocks.draft history held at → IsDrafted old root.next → held.draft ≡ old.blocks.draft
-    → fresh_at old.blocks.draft at ≡ Some node → now ≡ at → new ≡ record old { blocks = held } → IsOwned tree root old new history expected at now
+owned_kept : (tree : Tree) (root : Root) (old new : Ground) (history : Option (List Event)) (expected : Expected)
+    (at now : ℕ) (held : Held) (node : Node)
+    → IsVisited tree (super_of root old.blocks.draft) expected old.blocks.draft history held at
+    → IsDrafted old root.next → held.draft ≡ old.blocks.draft
+    → fresh_at old.blocks.draft at ≡ Some node → now ≡ at → new ≡ record old { blocks = held }
+    → IsOwned tree root old new history expected at now
 owned_kept tree root old new history expected at now held node visited drafted draft here same is =
     let drafts : new.blocks.draft ≡ old.blocks.draft = ap (λ (g : Ground). g.blocks.draft) is ∙ draft in
     let space : new.space ≡ old.space = ap (λ (g : Ground). g.space) is in
-    let one : visited.node ≡ node = fresh-held held at node visited.node (ap (λ (d : Draft). fresh_at d at) draft ∙ here) visited.is in
+    let one : visited.node ≡ node = fresh-held held at node visited.node (ap (λ (d : Draft). fresh_at d at) draft
+    ∙ here) visited.is in
     record {
       node = visited.node;
       formed = visited.formed;
@@ -52,9 +56,13 @@ owned_kept tree root old new history expected at now held node visited drafted d
     }
 
 -- any other is copied
-owned_copied : (tree : Tree) (root : Root) (old new : Ground) (history later : Option (List Event)) (expected : Expected) (at now : ℕ) (held : Held)
-    → IsVisited tree (super_of root old.blocks.draft) expected old.blocks.draft history held at → IsDrafted old root.next → IsDrafted (record old { blocks = held }) root.next
-    → held.draft ≡ old.blocks.draft → fresh_at old.blocks.draft at ≡ None → Copies (record old { blocks = held }) new later at now root.owner root.next → Takes 1 (λ q. q ≡ at) (record old { blocks = held }) new
+owned_copied : (tree : Tree) (root : Root) (old new : Ground) (history later : Option (List Event))
+    (expected : Expected) (at now : ℕ) (held : Held)
+    → IsVisited tree (super_of root old.blocks.draft) expected old.blocks.draft history held at
+    → IsDrafted old root.next → IsDrafted (record old { blocks = held }) root.next
+    → held.draft ≡ old.blocks.draft → fresh_at old.blocks.draft at ≡ None
+    → Copies (record old { blocks = held }) new later at now root.owner root.next
+    → Takes 1 (λ q. q ≡ at) (record old { blocks = held }) new
     → IsOwned tree root old new history expected at now
 owned_copied tree root old new history later expected at now held visited drafted after draft clean copies takes =
     let mid : Ground = record old { blocks = held } in
@@ -67,38 +75,52 @@ owned_copied tree root old new history later expected at now held visited drafte
       here = copies.puts.here;
       same = inr (copies.lent visited.node visited.is, copies.puts.free);
       others = λ h q other. copies.puts.others h q other ∙ ap (λ (d : Draft). told d h q) draft;
-      keeps = λ q n there. KeepsFresh-put mid new root.next now copies.copy after copies.puts q n (ap (λ (d : Draft). fresh_at d q) draft ∙ there);
+      keeps = λ q n there. KeepsFresh-put mid new root.next now copies.copy after copies.puts q n
+          (ap (λ (d : Draft). fresh_at d q) draft ∙ there);
       stays = λ some. absurd (true≢false (sym some ∙ ap is_some clean));
       freed = takes.less;
     }
 
 -- either way it is owned
-pub IsOwned-visited : (tree : Tree) (root : Root) (old new : Ground) (history later : Option (List Event)) (expected : Expected) (at : ℕ) (held : Held) (result : Result ℕ BlockFault)
-    → IsVisited tree (super_of root old.blocks.draft) expected old.blocks.draft history held at → IsDrafted old root.next → IsDrafted (record old { blocks = held }) root.next
-    → held.draft ≡ old.blocks.draft → IfOk result (λ now. Owned (record old { blocks = held }) new later at now root.owner root.next) → OnOk result (Takes 1 (λ q. q ≡ at) (record old { blocks = held }) new)
+pub IsOwned-visited : (tree : Tree) (root : Root) (old new : Ground) (history later : Option (List Event))
+    (expected : Expected) (at : ℕ) (held : Held) (result : Result ℕ BlockFault)
+    → IsVisited tree (super_of root old.blocks.draft) expected old.blocks.draft history held at
+    → IsDrafted old root.next → IsDrafted (record old { blocks = held }) root.next
+    → held.draft ≡ old.blocks.draft
+    → IfOk result (λ now. Owned (record old { blocks = held }) new later at now root.owner root.next)
+    → OnOk result (Takes 1 (λ q. q ≡ at) (record old { blocks = held }) new)
     → IfOk result (λ now. IsOwned tree root old new history expected at now)
-IsOwned-visited tree root old new history later expected at held (Err fault) visited drafted after draft owned takes = tt
+IsOwned-visited tree root old new history later expected at held (Err fault) visited drafted after draft owned takes =
+    tt
 IsOwned-visited tree root old new history later expected at held (Ok now) visited drafted after draft owned takes =
     some_or (fresh_at held.draft at) (IsOwned tree root old new history expected at now)
     (λ node here.
     let both = owned.kept (IsSome-is (fresh_at held.draft at) node here) in
-    owned_kept tree root old new history expected at now held node visited drafted draft (sym (ap (λ (d : Draft). fresh_at d at) draft) ∙ here) both.0 both.1)
-    (λ none. owned_copied tree root old new history later expected at now held visited drafted after draft (sym (ap (λ (d : Draft). fresh_at d at) draft) ∙ none) (owned.copied none) takes)
+    owned_kept tree root old new history expected at now held node visited drafted draft
+    (sym (ap (λ (d : Draft). fresh_at d at) draft) ∙ here) both.0 both.1)
+    (λ none. owned_copied tree root old new history later expected at now held visited drafted after draft
+    (sym (ap (λ (d : Draft). fresh_at d at) draft) ∙ none) (owned.copied none) takes)
 
 -- ---- what is answered
 
-unbroken : (result : Result ℕ BlockFault) (fresh : Option Node) (sizes : Sizes) (history : Option (List Event)) (at : ℕ) (node : Node) → (IsSome fresh → result ≡ Ok at)
-    → ((events : List Event) → history ≡ Some events → Answers result at (fresh_or fresh (standing sizes (content events) at))) → told_or fresh sizes history at ≡ Some node → BreaksNone result
+unbroken : (result : Result ℕ BlockFault) (fresh : Option Node) (sizes : Sizes) (history : Option (List Event)) (at : ℕ)
+    (node : Node) → (IsSome fresh → result ≡ Ok at)
+    → ((events : List Event) → history ≡ Some events
+    → Answers result at (fresh_or fresh (standing sizes (content events) at)))
+    → told_or fresh sizes history at ≡ Some node → BreaksNone result
 unbroken (Ok now) fresh sizes history at node same answers is = tt
 unbroken (Err NoMemory) fresh sizes history at node same answers is = tt
 unbroken (Err Disk) fresh sizes history at node same answers is = tt
 unbroken (Err (Image rule address)) (Some n) sizes history at node same answers is = let no = same refl in cc
 unbroken (Err (Image rule address)) None sizes None at node same answers is = cc
-unbroken (Err (Image rule address)) None sizes (Some events) at node same answers is = let there = (answers events refl).1 in let is' = rw there at is in cc
+unbroken (Err (Image rule address)) None sizes (Some events) at node same answers is = let there =
+    (answers events refl).1 in let is' = rw there at is in cc
 
 -- no rule is broken where a node is told: a fresh one is owned as it is, and any other is found
-pub owned-unbroken : (result : Result ℕ BlockFault) (draft old : Draft) (history before : Option (List Event)) (at : ℕ) (node : Node) → draft ≡ old → history ≡ before
-    → (IsSome (fresh_at draft at) → result ≡ Ok at) → ((events : List Event) → history ≡ Some events → Answers result at (found draft (content events) at))
+pub owned-unbroken : (result : Result ℕ BlockFault) (draft old : Draft) (history before : Option (List Event)) (at : ℕ)
+    (node : Node) → draft ≡ old → history ≡ before
+    → (IsSome (fresh_at draft at) → result ≡ Ok at)
+    → ((events : List Event) → history ≡ Some events → Answers result at (found draft (content events) at))
     → told old before at ≡ Some node → BreaksNone result
 unfolding told
 owned-unbroken result draft old history before at node draft_is is same answers there =

@@ -1,5 +1,6 @@
 -- A node that is owned: the ways that lead to its place then lead to its copy's.
-use Rattle.std.proofs.Common.{◌≡◌, ◌≢◌, ◌⊎◌, ℕ, zero, suc, ◌+◌, ◌≤◌, ◌<◌, true, List, [], ◌∷◌, arith, sym, ap, subst, ◌∙◌, inl, inr, Option, Some, None}
+use Rattle.std.proofs.Common.{◌≡◌, ◌≢◌, ◌⊎◌, ℕ, zero, suc, ◌+◌, ◌≤◌, ◌<◌, true, List, [], ◌∷◌, arith, sym, ap, subst}
+use Rattle.std.proofs.Common.{◌∙◌, inl, inr, Option, Some, None}
 use Rattle.std.specs.Prelude.{IsTrue}
 use Rattle.std.specs.List.{sum_by}
 use Rattle.std.proofs.lemmas.Bool.Decides.{eqb_tells}
@@ -19,7 +20,8 @@ use Rattle.qg_ground.proofs.Slots.{free-apart}
 use Rattle.qg_descent.specs.Tree.{Reaches, Root, super_of}
 use Rattle.qg_descent.specs.Branch.{IsBranch}
 use Rattle.qg_tree_edits.specs.Editing.{CanMake, IsOwned}
-use Rattle.qg_tree_edits.specs.Counting.{AreCommitted, IsAsWas, IsBare, IsTold, IsUnheld, LeadsNone, gains, one, tellings_owned, ways, ways_each}
+use Rattle.qg_tree_edits.specs.Counting.{AreCommitted, IsAsWas, IsBare, IsTold, IsUnheld, LeadsNone, gains, one}
+use Rattle.qg_tree_edits.specs.Counting.{tellings_owned, ways, ways_each}
 use Rattle.qg_descent.proofs.Branches.{branch-level, branch-top}
 use Rattle.qg_descent.proofs.BranchFrames.{reach-top}
 use Rattle.qg_tree_edits.proofs.Clean.{none-unless}
@@ -139,7 +141,8 @@ module _ (tree : Tree) (root : Root) (land new : Ground) (history : Option (List
           let differ : now ≢ at = λ same. free now is_free
           (subst (λ (a : ℕ). Reaches (told land.blocks.draft history) level at a) (sym same)
           (reach-top (told land.blocks.draft history) level at)) in
-          let top_there = branch-top tree (super_of root land.blocks.draft) (told land.blocks.draft history) level at items
+          let top_there = branch-top tree (super_of root land.blocks.draft) (told land.blocks.draft history) level at
+          items
           branch in
           let levelled = top_there.2 in
           let high : level ≤ (header_of top_there.0).level = omega (arith, levelled) in

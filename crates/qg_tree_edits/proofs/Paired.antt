@@ -1,5 +1,6 @@
 -- A child that is not a quarter full, and its neighbour, which was owned: over any disk.
-use Rattle.std.proofs.Common.{◌≡◌, ◌≢◌, ◌⊎◌, ℕ, ◌+◌, ◌≤◌, ◌<◌, List, length, arith, refl, sym, ap, subst, ◌∙◌, inl, inr, Option, Some}
+use Rattle.std.proofs.Common.{◌≡◌, ◌≢◌, ◌⊎◌, ℕ, ◌+◌, ◌≤◌, ◌<◌, List, length, arith, refl, sym, ap, subst, ◌∙◌, inl, inr}
+use Rattle.std.proofs.Common.{Option, Some}
 use Rattle.qg_device.specs.History.{Event}
 use Rattle.qg_num.specs.declared.key.Key.{Key}
 use Rattle.qg_node.specs.declared.pointer.Pointer.{Pointer}
@@ -22,16 +23,19 @@ use Rattle.qg_tree_edits.proofs.Spliced.{got-inside}
 use Rattle.qg_tree_edits.proofs.Served.{node-drafted, size-drafted}
 use Rattle.qg_descent.proofs.Under.{level-told}
 
-copy_level : (node : Node) (now owner generation : ℕ) → (header_of (node_copy node now owner generation)).level ≡ (header_of node).level
+copy_level : (node : Node) (now owner generation : ℕ) → (header_of (node_copy node now owner generation)).level
+    ≡ (header_of node).level
 copy_level (Leaf header items) now owner generation = refl
 copy_level (Inner header pointers) now owner generation = refl
 
-copy_used : (node : Node) (now owner generation : ℕ) → used_bytes (node_copy node now owner generation) ≡ used_bytes node
+copy_used : (node : Node) (now owner generation : ℕ)
+    → used_bytes (node_copy node now owner generation) ≡ used_bytes node
 copy_used (Leaf header items) now owner generation = refl
 copy_used (Inner header pointers) now owner generation = refl
 
 -- a node that was owned has its level, and as much of it is used
-module _ (tree : Tree) (root : Root) (land new : Ground) (history : Option (List Event)) (expected : Expected) (at now : ℕ) (owned : IsOwned tree root land new history expected at now) where
+module _ (tree : Tree) (root : Root) (land new : Ground) (history : Option (List Event)) (expected : Expected)
+    (at now : ℕ) (owned : IsOwned tree root land new history expected at now) where
   pub owned-level : (header_of owned.mine).level ≡ (header_of owned.node).level
   owned-level = elim owned.same [
     | inl kept ↦ ap (λ (n : Node). (header_of n).level) kept.0
@@ -46,13 +50,15 @@ module _ (tree : Tree) (root : Root) (land new : Ground) (history : Option (List
 
   pub owned-levelled : (level : ℕ) → expected.level ≡ Some level → (header_of owned.mine).level ≡ level
   owned-levelled level told =
-      owned-level ∙ level-told expected.level level (header_of owned.node).level told (form-expected tree (super_of root land.blocks.draft) expected at owned.node owned.formed).level
+      owned-level ∙ level-told expected.level level (header_of owned.node).level told
+      (form-expected tree (super_of root land.blocks.draft) expected at owned.node owned.formed).level
 
 -- whether a node at an address is not a quarter full
 abbrev pub IsThinAt : Ground → ℕ → Type 0
 IsThinAt land at = (node : Node) → fresh_at land.blocks.draft at ≡ Some node → IsThin land.space.sizes.nodesize node
 
-pair_of : (land : Ground) (generation level left right : ℕ) → IsDrafted land generation → IsFreshOn land level left → IsFreshOn land level right → IsThinAt land left ⊎ IsThinAt land right
+pair_of : (land : Ground) (generation level left right : ℕ) → IsDrafted land generation → IsFreshOn land level left
+    → IsFreshOn land level right → IsThinAt land left ⊎ IsThinAt land right
     → ArePair land left right
 pair_of land generation level left right drafted a b thin = record {
   a = a.node;
@@ -67,24 +73,32 @@ pair_of land generation level left right drafted a b thin = record {
   thin = elim thin [ inl left_thin ↦ inl (left_thin a.node a.here) | inr right_thin ↦ inr (right_thin b.node b.here) ];
 }
 
-module _ (tree : Tree) (root : Root) (land new : Ground) (history later : Option (List Event)) (pointers : List Pointer) (to : Option Key) (level place child : ℕ) (pair : Pair)
-    (is : IsPaired tree root land new history pointers to level place child pair) (rests : Rests land new later root.next) (fresh : IsFreshOn land level child) (thin : IsThinAt land child) where
+module _ (tree : Tree) (root : Root) (land new : Ground) (history later : Option (List Event)) (pointers : List Pointer)
+    (to : Option Key) (level place child : ℕ) (pair : Pair)
+    (is : IsPaired tree root land new history pointers to level place child pair)
+    (rests : Rests land new later root.next) (fresh : IsFreshOn land level child) (thin : IsThinAt land child) where
   now_fresh : IsFreshOn new level is.now
   now_fresh = record {
     node = is.owned.mine;
     here = is.owned.here;
-    levelled = owned-levelled tree root land new history is.beside.way.expected is.beside.way.address is.now is.owned level (ap (λ (e : Expected). e.level) is.is.way.expects);
+    levelled = owned-levelled tree root land new history is.beside.way.expected is.beside.way.address is.now is.owned
+        level (ap (λ (e : Expected). e.level) is.is.way.expects);
   }
 
   child_fresh : IsFreshOn new level child
-  child_fresh = record { node = fresh.node; here = is.owned.keeps child fresh.node fresh.here; levelled = fresh.levelled }
+  child_fresh = record {
+    node = fresh.node;
+    here = is.owned.keeps child fresh.node fresh.here;
+    levelled = fresh.levelled;
+  }
 
   child_thin : IsThinAt new child
   child_thin node here =
       let was = is.owned.keeps child fresh.node fresh.here in
       let same : Some fresh.node ≡ Some node = sym was ∙ here in
       let one : fresh.node ≡ node = cc in
-      subst (λ (n : ℕ). IsThin n node) (sym (ap (λ (s : _). s.nodesize) rests.sizes)) (subst (λ (n : Node). IsThin land.space.sizes.nodesize n) one (thin fresh.node fresh.here))
+      subst (λ (n : ℕ). IsThin n node) (sym (ap (λ (s : _). s.nodesize) rests.sizes))
+      (subst (λ (n : Node). IsThin land.space.sizes.nodesize n) one (thin fresh.node fresh.here))
 
   -- both are fresh, at two addresses
   pub pair-left : IsFreshOn new level pair.left
@@ -113,14 +127,18 @@ module _ (tree : Tree) (root : Root) (land new : Ground) (history later : Option
   ])
 
   -- both are of the level
-  pub pair-levels : (a b : Node) → fresh_at new.blocks.draft pair.left ≡ Some a → fresh_at new.blocks.draft pair.right ≡ Some b
+  pub pair-levels : (a b : Node) → fresh_at new.blocks.draft pair.left ≡ Some a
+      → fresh_at new.blocks.draft pair.right ≡ Some b
       → ((header_of a).level ≡ level) × ((header_of b).level ≡ level)
   pair-levels a b here there =
       let first : Some a ≡ Some pair-left.node = sym here ∙ pair-left.here in
       let second : Some b ≡ Some pair-right.node = sym there ∙ pair-right.here in
       let one : a ≡ pair-left.node = cc in
-      let other : b ≡ pair-right.node = cc in
-      (ap (λ (n : Node). (header_of n).level) one ∙ pair-left.levelled, ap (λ (n : Node). (header_of n).level) other ∙ pair-right.levelled)
+      let other : b ≡ pair-right.node = cc in (
+        ap (λ (n : Node). (header_of n).level) one ∙ pair-left.levelled,
+        ap (λ (n : Node). (header_of n).level) other
+            ∙ pair-right.levelled,
+      )
 
   -- the two pointers stand in the node
   pub pair-inside : place < length pointers → pair.front + 2 ≤ length pointers

@@ -1,5 +1,6 @@
 -- A node that was cut, and its rest in a place of its own.
-use Rattle.std.proofs.Common.{◌≡◌, ◌≢◌, ◌⊎◌, ℕ, ◌+◌, ◌-◌, ◌*◌, ◌≤◌, List, refl, sym, ap, subst, ◌∙◌, inl, inr, Option, Some, None}
+use Rattle.std.proofs.Common.{◌≡◌, ◌≢◌, ◌⊎◌, ℕ, ◌+◌, ◌-◌, ◌*◌, ◌≤◌, List, refl, sym, ap, subst, ◌∙◌, inl, inr, Option}
+use Rattle.std.proofs.Common.{Some, None}
 use Rattle.std.specs.Prelude.{IsTrue}
 use Rattle.qg_device.specs.History.{Event}
 use Rattle.qg_node.specs.declared.node.Node.{Node}
@@ -49,13 +50,15 @@ IsNode-with_owner size owner (Inner header pointers) is = record {
 -- ---- what stands there
 
 -- the node holds the whole
-pub record IsOneThere (set end : Ground) (history : Option (List Event)) (now : ℕ) (whole : Node) (instead : Instead) : Type 0 where
+pub record IsOneThere (set end : Ground) (history : Option (List Event)) (now : ℕ) (whole : Node)
+    (instead : Instead) : Type 0 where
   pub instead_is : instead ≡ alone now
   pub same : end ≡ set
   pub there : told end.blocks.draft history now ≡ Some whole
 
 -- it holds a front, and the rest lies in a slot that was free, and has this owner
-pub record AreTwoThere (owner : ℕ) (set end : Ground) (history : Option (List Event)) (nodesize now : ℕ) (whole : Node) (instead : Instead) : Type 0 where
+pub record AreTwoThere (owner : ℕ) (set end : Ground) (history : Option (List Event)) (nodesize now : ℕ) (whole : Node)
+    (instead : Instead) : Type 0 where
   pub front : Node
   pub other : Node
   pub more : ℕ
@@ -66,44 +69,56 @@ pub record AreTwoThere (owner : ℕ) (set end : Ground) (history : Option (List 
   pub makes : Makes set end more (with_owner owner other)
   pub differ : more ≢ now
 
-module _ (owner : ℕ) (set end : Ground) (history : Option (List Event)) (nodesize now generation : ℕ) (before whole : Node) (drafted : IsDrafted set generation) where
-  pub parts-there : (rest : Option Node) (instead : Instead) → IsCutThere nodesize set now before whole rest → IsPlacedBehind owner set end now rest instead
+module _ (owner : ℕ) (set end : Ground) (history : Option (List Event)) (nodesize now generation : ℕ)
+    (before whole : Node) (drafted : IsDrafted set generation) where
+  pub parts-there : (rest : Option Node) (instead : Instead) → IsCutThere nodesize set now before whole rest
+      → IsPlacedBehind owner set end now rest instead
       → IsOneThere set end history now whole instead ⊎ AreTwoThere owner set end history nodesize now whole instead
   parts-there None instead cut placed = inl (record {
     instead_is = placed.0;
     same = placed.1;
-    there = ap (λ (g : Ground). told g.blocks.draft history now) placed.1 ∙ told-fresh_at set.blocks.draft history now cut.node cut.here ∙ ap Some cut.cut;
+    there = ap (λ (g : Ground). told g.blocks.draft history now) placed.1
+        ∙ told-fresh_at set.blocks.draft history now cut.node cut.here ∙ ap Some cut.cut;
   })
   parts-there (Some other) instead cut placed =
       let makes = placed.2 in
-      let differ : placed.0 ≢ now = λ same. fresh-taken set generation now cut.node drafted cut.here (ap (is_free_slot set.space) (sym same) ∙ makes.puts.free) in
+      let differ : placed.0 ≢ now = λ same. fresh-taken set generation now cut.node drafted cut.here
+      (ap (is_free_slot set.space) (sym same) ∙ makes.puts.free) in
       inr (record {
         front = cut.node;
         other = other;
         more = placed.0;
         instead_is = placed.1;
         split = cut.cut;
-        there = makes.puts.others history now (λ same. differ (sym same)) ∙ told-fresh_at set.blocks.draft history now cut.node cut.here;
-        behind = told-fresh_at end.blocks.draft history placed.0 (node_at placed.0 (with_owner owner other)) makes.puts.here;
+        there = makes.puts.others history now (λ same. differ (sym same))
+            ∙ told-fresh_at set.blocks.draft history now cut.node cut.here;
+        behind = told-fresh_at end.blocks.draft history placed.0 (node_at placed.0 (with_owner owner other))
+            makes.puts.here;
         makes = makes;
         differ = differ;
       })
 
 -- only a slot that was free is told otherwise
-pub placed-told : (owner : ℕ) (set end : Ground) (history : Option (List Event)) (nodesize now : ℕ) (whole : Node) (instead : Instead)
+pub placed-told : (owner : ℕ) (set end : Ground) (history : Option (List Event)) (nodesize now : ℕ) (whole : Node)
+    (instead : Instead)
     → IsOneThere set end history now whole instead ⊎ AreTwoThere owner set end history nodesize now whole instead
-    → (disk : Option (List Event)) (q : ℕ) → (IsTrue (is_free_slot set.space q) → ⊥) → told end.blocks.draft disk q ≡ told set.blocks.draft disk q
-placed-told owner set end history nodesize now whole instead (inl one) disk q taken = ap (λ (g : Ground). told g.blocks.draft disk q) one.same
+    → (disk : Option (List Event)) (q : ℕ) → (IsTrue (is_free_slot set.space q) → ⊥)
+    → told end.blocks.draft disk q ≡ told set.blocks.draft disk q
+placed-told owner set end history nodesize now whole instead (inl one) disk q taken =
+    ap (λ (g : Ground). told g.blocks.draft disk q) one.same
 placed-told owner set end history nodesize now whole instead (inr two) disk q taken =
     two.makes.puts.others disk q (λ same. taken (ap (is_free_slot set.space) same ∙ two.makes.puts.free))
 
 -- no slot gets free
-pub placed-free : (owner : ℕ) (set end : Ground) (history later : Option (List Event)) (nodesize now generation : ℕ) (whole : Node) (instead : Instead) → IsDrafted set generation → Rests set end later generation
+pub placed-free : (owner : ℕ) (set end : Ground) (history later : Option (List Event)) (nodesize now generation : ℕ)
+    (whole : Node) (instead : Instead) → IsDrafted set generation → Rests set end later generation
     → IsOneThere set end history now whole instead ⊎ AreTwoThere owner set end history nodesize now whole instead
     → (q : ℕ) → IsTrue (is_free_slot end.space q) → IsTrue (is_free_slot set.space q)
-placed-free owner set end history later nodesize now generation whole instead drafted rests (inl one) q free = subst (λ (g : Ground). IsTrue (is_free_slot g.space q)) one.same free
+placed-free owner set end history later nodesize now generation whole instead drafted rests (inl one) q free =
+    subst (λ (g : Ground). IsTrue (is_free_slot g.space q)) one.same free
 placed-free owner set end history later nodesize now generation whole instead drafted rests (inr two) q free =
-    let takes = Takes-made set end two.more (with_owner owner two.other) drafted.sizes rests.sizes rests.held_slots two.makes in
+    let takes = Takes-made set end two.more (with_owner owner two.other) drafted.sizes rests.sizes rests.held_slots
+    two.makes in
     elim (takes.less q free) [ inl was ↦ was | inr none ↦ absurd none ]
 
 -- a node is as full at another address, with another owner
@@ -111,7 +126,8 @@ used_at : (owner address : ℕ) (node : Node) → used_bytes (node_at address (w
 used_at owner address (Leaf header items) = refl
 used_at owner address (Inner header pointers) = refl
 
-pub filled-at : (nodesize owner address : ℕ) (node : Node) → IsFilled nodesize node → IsFilled nodesize (node_at address (with_owner owner node))
+pub filled-at : (nodesize owner address : ℕ) (node : Node) → IsFilled nodesize node
+    → IsFilled nodesize (node_at address (with_owner owner node))
 filled-at nodesize owner address node filled = record {
   fits = subst (λ (n : ℕ). 101 + n ≤ nodesize) (sym (used_at owner address node)) filled.fits;
   full = subst (λ (n : ℕ). nodesize - 101 ≤ 4 * n) (sym (used_at owner address node)) filled.full;

@@ -1,5 +1,6 @@
 -- What is told of a node that is made in a slot that was free.
-use Rattle.std.proofs.Common.{◌≡◌, ◌⊎◌, ℕ, ◌+◌, ◌≤◌, ◌<◌, true, [], ◌∷◌, arith, sym, ap, subst, ◌∙◌, inl, inr, Option, Some, None}
+use Rattle.std.proofs.Common.{◌≡◌, ◌⊎◌, ℕ, ◌+◌, ◌≤◌, ◌<◌, true, [], ◌∷◌, arith, sym, ap, subst, ◌∙◌, inl, inr, Option}
+use Rattle.std.proofs.Common.{Some, None}
 use Rattle.std.specs.Prelude.{IsTrue, Result, Ok, Err, IfOk}
 use Rattle.std.specs.List.{sum_by}
 use Rattle.std.proofs.lemmas.Bool.Decides.{eqb_tells}
@@ -9,7 +10,8 @@ use Rattle.qg_space.specs.Holding.{is_free_slot}
 use Rattle.qg_ground.specs.declared.ground.Ground.{Ground}
 use Rattle.qg_ground.specs.Tellings.Telling.{Made}
 use Rattle.qg_ground.proofs.Slots.{free-apart}
-use Rattle.qg_tree_edits.specs.Counting.{IsAsWas, IsBare, IsTold, IsUnheld, copied_in, gains, made_in, one, tellings_made}
+use Rattle.qg_tree_edits.specs.Counting.{IsAsWas, IsBare, IsTold, IsUnheld, copied_in, gains, made_in, one}
+use Rattle.qg_tree_edits.specs.Counting.{tellings_made}
 use Rattle.qg_tree_edits.specs.declared.instead.Instead.{Instead}
 use Rattle.qg_tree_edits.specs.Editing.{IsPlacedBehind, slots_for}
 use Rattle.qg_tree_edits.proofs.Ways.{one-other}

@@ -1,5 +1,6 @@
 -- A child was joined with its neighbour, and the pointers of their node are set: what a book is told meanwhile.
-use Rattle.std.proofs.Common.{◌≡◌, ◌≢◌, ◌⊎◌, ℕ, suc, ◌+◌, ◌-◌, ◌<◌, ◌≤◌, List, [], ◌∷◌, ◌++◌, take, drop, arith, refl, sym, ap, subst, ◌∙◌, inl, inr, Option, Some, None}
+use Rattle.std.proofs.Common.{◌≡◌, ◌≢◌, ◌⊎◌, ℕ, suc, ◌+◌, ◌-◌, ◌<◌, ◌≤◌, List, [], ◌∷◌, ◌++◌, take, drop, arith, refl}
+use Rattle.std.proofs.Common.{sym, ap, subst, ◌∙◌, inl, inr, Option, Some, None}
 use Rattle.std.specs.Prelude.{Contains, IsTrue, slice_get}
 use Rattle.qg_device.specs.History.{Event}
 use Rattle.qg_num.specs.declared.key.Key.{Key}
@@ -16,9 +17,11 @@ use Rattle.qg_tree_edits.specs.declared.instead.Instead.{Instead}
 use Rattle.qg_tree_edits.specs.declared.pairing.Pair.{Pair}
 use Rattle.qg_descent.specs.Tree.{Reaches, Root, super_of}
 use Rattle.qg_descent.specs.Branch.{IsBranch}
-use Rattle.qg_tree_edits.specs.Editing.{CanMake, HasLed, IsFreshOn, IsUnsettled, ReachesBeside, ReachesParts, alone, slots_for}
+use Rattle.qg_tree_edits.specs.Editing.{CanMake, HasLed, IsFreshOn, IsUnsettled, ReachesBeside, ReachesParts, alone}
+use Rattle.qg_tree_edits.specs.Editing.{slots_for}
 use Rattle.qg_tree_edits.specs.Uniting.{AreUnited, IsPaired}
-use Rattle.qg_tree_edits.specs.Counting.{AreCommitted, IsSettledTold, IsTold, TellsUnited, tellings_owned, ways, ways_each, ways_instead, ways_parts}
+use Rattle.qg_tree_edits.specs.Counting.{AreCommitted, IsSettledTold, IsTold, TellsUnited, tellings_owned, ways}
+use Rattle.qg_tree_edits.specs.Counting.{ways_each, ways_instead, ways_parts}
 use Rattle.qg_tree_edits.proofs.Beside.{beside-differs, other-branch}
 use Rattle.qg_descent.proofs.BranchFrames.{reach-top}
 use Rattle.qg_tree_edits.proofs.Committed.{committed-after, committed-told, unheld-fresh}
@@ -28,7 +31,8 @@ use Rattle.qg_tree_edits.proofs.OwnedTold.{owned-told}
 use Rattle.qg_tree_edits.proofs.Paired.{IsThinAt}
 use Rattle.qg_tree_edits.proofs.PairedFrames.{pair-apart, pair-free_others, pair-freed}
 use Rattle.qg_tree_edits.proofs.PairedHolds.{child-apart}
-use Rattle.qg_tree_edits.proofs.RejoinedHolds.{aside-beside, aside-child, aside-place, both, differ, hold, new-stays, rejoined-can, size}
+use Rattle.qg_tree_edits.proofs.RejoinedHolds.{aside-beside, aside-child, aside-place, both, differ, hold, new-stays}
+use Rattle.qg_tree_edits.proofs.RejoinedHolds.{rejoined-can, size}
 use Rattle.qg_tree_edits.proofs.RejoinedSettled.{rejoined-pointers, rejoined-settled}
 use Rattle.qg_tree_edits.proofs.Reached.{ways-reached}
 use Rattle.qg_tree_edits.proofs.Served.{slots-none}
@@ -36,7 +40,8 @@ use Rattle.qg_tree_edits.proofs.Spliced.{drop-get, drop-there, take-get, take-th
 use Rattle.qg_tree_edits.proofs.ToldUnited.{united-lost}
 use Rattle.qg_tree_edits.proofs.Turning.{told-apart, told-append, told-framed, told-same, told-within}
 use Rattle.qg_tree_edits.proofs.UnitedHolds.{united-tells}
-use Rattle.qg_tree_edits.proofs.Ways.{ways-none, ways-same, ways_each-append, ways_each-cons, ways_each-none, ways_each-same}
+use Rattle.qg_tree_edits.proofs.Ways.{ways-none, ways-same, ways_each-append, ways_each-cons, ways_each-none}
+use Rattle.qg_tree_edits.proofs.Ways.{ways_each-same}
 
 module _ (tree : Tree) (root : Root) (land mid new end : Ground) (history later last : Option (List Event))
     (level at : ℕ) (to : Option Key) (place child : ℕ) (items : List Item) (rest : Option Node)

@@ -23,18 +23,23 @@ unfolding is_served
 size_served sizes served =
     let big = ((sizes.nodesize == 16384) && nat_le sizes.slots 4032) in
     let small = ((sizes.nodesize == 4096) && nat_le sizes.slots 16128) in
-    let one = (and_parts (small || big) (nat_le 64 sizes.slots) (and_parts ((small || big) && nat_le 64 sizes.slots) (nat_le 16 sizes.sectors)
-    (and_parts (((small || big) && nat_le 64 sizes.slots) && nat_le 16 sizes.sectors) (nat_le sizes.sectors 16777216) served).0).0).0 in
+    let one = (and_parts (small || big) (nat_le 64 sizes.slots)
+    (and_parts ((small || big) && nat_le 64 sizes.slots) (nat_le 16 sizes.sectors)
+    (and_parts (((small || big) && nat_le 64 sizes.slots) && nat_le 16 sizes.sectors) (nat_le sizes.sectors 16777216)
+    served).0).0).0 in
     elim (or_cases small big one) [
       | inl is ↦ inl (eqb-true sizes.nodesize 4096 (and_parts (sizes.nodesize == 4096) (nat_le sizes.slots 16128) is).0)
-      | inr is ↦ inr (eqb-true sizes.nodesize 16384 (and_parts (sizes.nodesize == 16384) (nat_le sizes.slots 4032) is).0)
+      | inr is ↦ inr (eqb-true sizes.nodesize 16384
+          (and_parts (sizes.nodesize == 16384) (nat_le sizes.slots 4032) is).0)
     ]
 
 pub size-drafted : (land : Ground) (generation : ℕ) → IsDrafted land generation → IsNodeSize land.space.sizes.nodesize
 size-drafted land generation drafted = size_served land.space.sizes drafted.sizes.served
 
-pub size-blocks : (land : Ground) (generation : ℕ) → IsDrafted land generation → IsNodeSize land.blocks.draft.sizes.nodesize
-size-blocks land generation drafted = subst (λ (n : ℕ). IsNodeSize n) (sym drafted.sizes.nodesize) (size-drafted land generation drafted)
+pub size-blocks : (land : Ground) (generation : ℕ) → IsDrafted land generation
+    → IsNodeSize land.blocks.draft.sizes.nodesize
+size-blocks land generation drafted = subst (λ (n : ℕ). IsNodeSize n) (sym drafted.sizes.nodesize)
+    (size-drafted land generation drafted)
 
 -- nodes and space agree on it
 pub sizes-drafted : (land : Ground) (generation : ℕ) → IsDrafted land generation → HasNodeSize land
@@ -43,21 +48,31 @@ sizes-drafted land generation drafted = record {
   nodesize = drafted.sizes.nodesize;
 }
 
-pub node-drafted : (land : Ground) (generation at : ℕ) (node : Node) → IsDrafted land generation → fresh_at land.blocks.draft at ≡ Some node → IsNode land.space.sizes.nodesize node
+pub node-drafted : (land : Ground) (generation at : ℕ) (node : Node) → IsDrafted land generation
+    → fresh_at land.blocks.draft at ≡ Some node → IsNode land.space.sizes.nodesize node
 node-drafted land generation at node drafted here = (drafted.each at node here).kept.sound
 
 -- ---- a fresh node of a level
 
-pub fresh-named : (land : Ground) (generation level at : ℕ) → IsDrafted land generation → IsFreshOn land level at → IsNamed land at
-fresh-named land generation level at drafted fresh = record { node = fresh.node; here = fresh.here; named = (drafted.each at fresh.node fresh.here).kept.placed }
+pub fresh-named : (land : Ground) (generation level at : ℕ) → IsDrafted land generation → IsFreshOn land level at
+    → IsNamed land at
+fresh-named land generation level at drafted fresh = record {
+  node = fresh.node;
+  here = fresh.here;
+  named = (drafted.each at fresh.node fresh.here).kept.placed;
+}
 
-pub instead-named : (land : Ground) (generation level : ℕ) (instead : Instead) → IsDrafted land generation → StandsInstead land level instead → OfEach (IsNamed land) instead
-instead-named land generation level instead drafted stands = (fresh-named land generation level instead.now drafted stands.now, second instead.more stands.more) where
-  second : (o : Option ℕ) → MatchOption o ⊤ (λ more. IsFreshOn land level more × (more ≡ instead.now → ⊥)) → MatchOption o ⊤ (IsNamed land)
-  second None more = tt
-  second (Some more) is = fresh-named land generation level more drafted is.0
+pub instead-named : (land : Ground) (generation level : ℕ) (instead : Instead) → IsDrafted land generation
+    → StandsInstead land level instead → OfEach (IsNamed land) instead
+instead-named land generation level instead drafted stands =
+    (fresh-named land generation level instead.now drafted stands.now, second instead.more stands.more) where
+      second : (o : Option ℕ) → MatchOption o ⊤ (λ more. IsFreshOn land level more × (more ≡ instead.now → ⊥))
+          → MatchOption o ⊤ (IsNamed land)
+      second None more = tt
+      second (Some more) is = fresh-named land generation level more drafted is.0
 
-pub fresh-inner : (land : Ground) (generation level at : ℕ) (node : Node) → IsDrafted land generation → (fresh : IsFreshOn land (level + 1) at) → fresh_at land.blocks.draft at ≡ Some node → IsInner node
+pub fresh-inner : (land : Ground) (generation level at : ℕ) (node : Node) → IsDrafted land generation
+    → (fresh : IsFreshOn land (level + 1) at) → fresh_at land.blocks.draft at ≡ Some node → IsInner node
 fresh-inner land generation level at node drafted fresh here =
     let sound = (drafted.each at fresh.node fresh.here).kept.sound in
     let high = fresh.levelled in
@@ -65,7 +80,8 @@ fresh-inner land generation level at node drafted fresh here =
     let one : fresh.node ≡ node = cc in
     subst (λ (n : Node). IsInner n) one (inner_above fresh.node sound.levelled (omega (arith, high)))
 
-pub fresh-leaf : (land : Ground) (generation at : ℕ) (node : Node) → IsDrafted land generation → (fresh : IsFreshOn land 0 at) → fresh_at land.blocks.draft at ≡ Some node → IsLeaf node
+pub fresh-leaf : (land : Ground) (generation at : ℕ) (node : Node) → IsDrafted land generation
+    → (fresh : IsFreshOn land 0 at) → fresh_at land.blocks.draft at ≡ Some node → IsLeaf node
 fresh-leaf land generation at node drafted fresh here =
     let sound = (drafted.each at fresh.node fresh.here).kept.sound in
     let that : Some fresh.node ≡ Some node = sym fresh.here ∙ here in
@@ -74,7 +90,8 @@ fresh-leaf land generation at node drafted fresh here =
 
 -- ---- a node that is not thin
 
-pub filled-not_thin : (nodesize : ℕ) (node : Node) → IsNode nodesize node → (IsThin nodesize node → ⊥) → IsFilled nodesize node
+pub filled-not_thin : (nodesize : ℕ) (node : Node) → IsNode nodesize node → (IsThin nodesize node → ⊥)
+    → IsFilled nodesize node
 filled-not_thin nodesize node sound full = record { fits = sound.fits; full = omega (arith, full) }
 
 -- ---- a node has not many pointers

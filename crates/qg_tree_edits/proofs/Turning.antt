@@ -1,5 +1,6 @@
 -- Tellings that turn one count of ways into another.
-use Rattle.std.proofs.Common.{◌≡◌, ℕ, ◌+◌, ◌-◌, ◌<◌, ◌≤◌, List, [], ◌∷◌, ◌++◌, append_assoc, arith, refl, sym, ap, subst, ◌∙◌, inl, inr, Option}
+use Rattle.std.proofs.Common.{◌≡◌, ℕ, ◌+◌, ◌-◌, ◌<◌, ◌≤◌, List, [], ◌∷◌, ◌++◌, append_assoc, arith, refl, sym, ap}
+use Rattle.std.proofs.Common.{subst, ◌∙◌, inl, inr, Option}
 use Rattle.std.specs.Prelude.{◌⊎◌, IsTrue}
 use Rattle.std.specs.List.{All, sum_by}
 use Rattle.std.proofs.lemmas.List.Elements.{All-append, All-nil}
@@ -10,8 +11,10 @@ use Rattle.qg_space.specs.Holding.{is_free_slot}
 use Rattle.qg_ground.specs.declared.ground.Ground.{Ground}
 use Rattle.qg_ground.specs.Tellings.{Telling}
 use Rattle.qg_ground.specs.Tellings.Telling.{Copied, Made, Left}
-use Rattle.qg_tree_edits.specs.Counting.{IsAsWas, IsBare, IsTimely, IsTold, IsUnheld, Turns, copied_in, gains, left_in, losses, made_in}
-use Rattle.qg_tree_edits.proofs.Downward.{IsClosed, downward-append, downward-framed, downward-same, lost-known, timely-few}
+use Rattle.qg_tree_edits.specs.Counting.{IsAsWas, IsBare, IsTimely, IsTold, IsUnheld, Turns, copied_in, gains, left_in}
+use Rattle.qg_tree_edits.specs.Counting.{losses, made_in}
+use Rattle.qg_tree_edits.proofs.Downward.{IsClosed, downward-append, downward-framed, downward-same, lost-known}
+use Rattle.qg_tree_edits.proofs.Downward.{timely-few}
 use Rattle.qg_tree_edits.proofs.Reached.{either-some}
 use Rattle.qg_tree_edits.proofs.Ways.{one-here}
 

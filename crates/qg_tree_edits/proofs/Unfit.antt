@@ -1,5 +1,6 @@
 -- What does not fit where an edit of a tree names a rule.
-use Rattle.std.proofs.Common.{◌≡◌, ◌≢◌, ◌⊎◌, ℕ, zero, suc, ◌+◌, ◌≤◌, ◌<◌, List, [], ◌∷◌, map, true, arith, sym, ap, subst, ◌∙◌, inl, inr, Option, Some, None}
+use Rattle.std.proofs.Common.{◌≡◌, ◌≢◌, ◌⊎◌, ℕ, zero, suc, ◌+◌, ◌≤◌, ◌<◌, List, [], ◌∷◌, map, true, arith, sym, ap}
+use Rattle.std.proofs.Common.{subst, ◌∙◌, inl, inr, Option, Some, None}
 use Rattle.std.specs.Prelude.{⊤, MatchOption}
 use Rattle.std.specs.Ordering.{is_lt}
 use Rattle.qg_device.specs.History.{Event, content}
@@ -28,8 +29,10 @@ use Rattle.qg_descent.specs.Tree.{Root, super_of}
 use Rattle.qg_descent.specs.Way.{BreaksThere}
 use Rattle.qg_tree_edits.specs.declared.instead.Instead.{Instead}
 use Rattle.qg_tree_edits.specs.declared.pairing.Pair.{Pair}
-use Rattle.qg_tree_edits.specs.Editing.{IsFreshOn, IsNamed, IsOwned, IsPlacedBehind, IsRewritten, IsWayAt, StandsInstead}
-use Rattle.qg_tree_edits.specs.Failing.{CantGrow, CantLead, CantSettle, FailsUnder, IsMisled, IsMisread, IsUnfit, LeadsDown, PointTo, StandsFor}
+use Rattle.qg_tree_edits.specs.Editing.{IsFreshOn, IsNamed, IsOwned, IsPlacedBehind, IsRewritten, IsWayAt}
+use Rattle.qg_tree_edits.specs.Editing.{StandsInstead}
+use Rattle.qg_tree_edits.specs.Failing.{CantGrow, CantLead, CantSettle, FailsUnder, IsMisled, IsMisread, IsUnfit}
+use Rattle.qg_tree_edits.specs.Failing.{LeadsDown, PointTo, StandsFor}
 use Rattle.qg_tree_edits.specs.Uniting.{IsPaired}
 use Rattle.qg_tree_edits.proofs.Placed.{fresh-taken}
 use Rattle.qg_tree_edits.proofs.Rejoined.{fresh-apart}
@@ -101,7 +104,8 @@ pub misled-two : (land : Ground) (node : Node) (from to : ℕ) (instead : Instea
     → instead.more ≡ Some more → pointer ≡ pointer_to peek → other ≡ pointer_to behind
     → IsBrokenUnless Refs node (CanSplice from to (pointer ∷ other ∷ []) node) rule address
     → IsMisled land node from to instead rule address
-misled-two land node from to instead more peek behind pointer other rule address named named' held held' some is is' bad =
+misled-two land node from to instead more peek behind pointer other rule address named named' held held' some is is'
+    bad =
     let same : peek ≡ named.node = fresh-held land.blocks instead.now named.node peek named.here held in
     let same' : behind ≡ named'.node = fresh-held land.blocks more named'.node behind named'.here held' in
     let one : pointer ≡ pointer_to named.node = is ∙ ap (λ (n : Node). pointer_to n) same in
@@ -281,7 +285,8 @@ pub unfit-under : (tree : Tree) (root : Root) (edit : Edit) (events : List Event
     → IsUnfit tree root edit old new events rule address
 unfit-under tree root edit events level expected at old new rule address high expects there bad =
     let one = subst (λ (n : ℕ). FailsUnder tree root edit events n expected at old new rule address) high bad in
-    let two = subst (λ (e : Expected). FailsUnder tree root edit events root.height e at old new rule address) expects one in
+    let two = subst (λ (e : Expected). FailsUnder tree root edit events root.height e at old new rule address) expects
+    one in
     let three = subst (λ (q : ℕ). FailsUnder tree root edit events root.height (root_expected (Some root.height) None) q
     old new rule address) there two in
     record { is = inl three }

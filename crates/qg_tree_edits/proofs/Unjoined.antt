@@ -19,30 +19,40 @@ use Rattle.qg_tree_edits.specs.Editing.{CanLead, FillsThere, IsFreshOn, IsUnsett
 use Rattle.qg_tree_edits.proofs.Served.{filled-not_thin, node-drafted, size-blocks}
 
 -- the node in the child's place is full enough: it is not thin, or has one behind it
-full_there : (tree : Tree) (root : Root) (land : Ground) (history : Option (List Event)) (level generation : ℕ) (child : Instead) (rest : List Item) → IsDrafted land generation → IsFreshOn land level child.now
-    → (child.more ≡ None → (node : Node) → fresh_at land.blocks.draft child.now ≡ Some node → IsThin land.blocks.draft.sizes.nodesize node → ⊥)
-    → MatchOption child.more (rest ≡ []) (λ more. IsBranch tree (super_of root land.blocks.draft) (told land.blocks.draft history) level more rest
+full_there : (tree : Tree) (root : Root) (land : Ground) (history : Option (List Event)) (level generation : ℕ)
+    (child : Instead) (rest : List Item) → IsDrafted land generation → IsFreshOn land level child.now
+    → (child.more ≡ None → (node : Node) → fresh_at land.blocks.draft child.now ≡ Some node
+    → IsThin land.blocks.draft.sizes.nodesize node → ⊥)
+    → MatchOption child.more (rest ≡ []) (λ more. IsBranch tree (super_of root land.blocks.draft)
+    (told land.blocks.draft history) level more rest
     × FillsThere (super_of root land.blocks.draft).nodesize (told land.blocks.draft history) child.now
     × FillsThere (super_of root land.blocks.draft).nodesize (told land.blocks.draft history) more)
     → FillsThere land.blocks.draft.sizes.nodesize (told land.blocks.draft history) child.now
-full_there tree root land history level generation child rest drafted fresh full behind = of child.more refl behind where
-  of : (o : Option ℕ) → child.more ≡ o → MatchOption o (rest ≡ []) (λ more. IsBranch tree (super_of root land.blocks.draft) (told land.blocks.draft history) level more rest
-      × FillsThere (super_of root land.blocks.draft).nodesize (told land.blocks.draft history) child.now
-      × FillsThere (super_of root land.blocks.draft).nodesize (told land.blocks.draft history) more)
-      → FillsThere land.blocks.draft.sizes.nodesize (told land.blocks.draft history) child.now
-  of (Some more) is behind = behind.1
-  of None is behind = record {
-    node = fresh.node;
-    there = told-fresh_at land.blocks.draft history child.now fresh.node fresh.here;
-    filled = filled-not_thin land.blocks.draft.sizes.nodesize fresh.node
-        (subst (λ (n : ℕ). IsNode n fresh.node) (sym drafted.sizes.nodesize) (node-drafted land generation child.now fresh.node drafted fresh.here)) (full is fresh.node fresh.here);
-  }
+full_there tree root land history level generation child rest drafted fresh full behind =
+    of child.more refl behind where
+      of : (o : Option ℕ) → child.more ≡ o
+          → MatchOption o (rest ≡ []) (λ more. IsBranch tree (super_of root land.blocks.draft)
+          (told land.blocks.draft history) level more rest
+          × FillsThere (super_of root land.blocks.draft).nodesize (told land.blocks.draft history) child.now
+          × FillsThere (super_of root land.blocks.draft).nodesize (told land.blocks.draft history) more)
+          → FillsThere land.blocks.draft.sizes.nodesize (told land.blocks.draft history) child.now
+      of (Some more) is behind = behind.1
+      of None is behind = record {
+        node = fresh.node;
+        there = told-fresh_at land.blocks.draft history child.now fresh.node fresh.here;
+        filled = filled-not_thin land.blocks.draft.sizes.nodesize fresh.node
+            (subst (λ (n : ℕ). IsNode n fresh.node) (sym drafted.sizes.nodesize)
+            (node-drafted land generation child.now fresh.node drafted fresh.here)) (full is fresh.node fresh.here);
+      }
 
-pub can-lead : (tree : Tree) (root : Root) (land : Ground) (history : Option (List Event)) (level at generation : ℕ) (to : Option Key) (place : ℕ) (child : Instead) (items : List Item)
+pub can-lead : (tree : Tree) (root : Root) (land : Ground) (history : Option (List Event)) (level at generation : ℕ)
+    (to : Option Key) (place : ℕ) (child : Instead) (items : List Item)
     → IsDrafted land generation → StandsInstead land level child
-    → (child.more ≡ None → (node : Node) → fresh_at land.blocks.draft child.now ≡ Some node → IsThin land.blocks.draft.sizes.nodesize node → ⊥)
+    → (child.more ≡ None → (node : Node) → fresh_at land.blocks.draft child.now ≡ Some node
+    → IsThin land.blocks.draft.sizes.nodesize node → ⊥)
     → (un : IsUnsettled tree root land history level at to place child items)
-    → CanLead tree (super_of root land.blocks.draft) land history level at place (place + 1) child un.pointers un.header items
+    → CanLead tree (super_of root land.blocks.draft) land history level at place (place + 1) child un.pointers un.header
+    items
 can-lead tree root land history level at generation to place child items drafted stands full un = record {
   here = un.here;
   member = un.member;

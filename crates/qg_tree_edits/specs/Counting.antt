@@ -1,6 +1,7 @@
 -- What an edit of a tree tells the book of references, by how many ways lead to each address (this project's own).
 -- Addresses are in bytes.
-use Rattle.std.specs.Prelude.{◌≡◌, ⊤, ◌⊎◌, ◌==◌, if◌then◌else◌, ℕ, zero, suc, ◌+◌, ◌-◌, ◌*◌, ◌<◌, ◌≤◌, List, [], ◌∷◌, map, take, drop, Option, Some, None, IsTrue, Contains, is_some}
+use Rattle.std.specs.Prelude.{◌≡◌, ⊤, ◌⊎◌, ◌==◌, if◌then◌else◌, ℕ, zero, suc, ◌+◌, ◌-◌, ◌*◌, ◌<◌, ◌≤◌, List, [], ◌∷◌}
+use Rattle.std.specs.Prelude.{map, take, drop, Option, Some, None, IsTrue, Contains, is_some}
 use Rattle.std.specs.List.{All, list_any, sum_by}
 use Rattle.qg_device.specs.History.{Event}
 use Rattle.qg_node.specs.declared.item.Item.{Item}

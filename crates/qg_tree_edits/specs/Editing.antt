@@ -1,5 +1,6 @@
 -- An edit of a part of a tree by copy on write (this project's own). Addresses are in bytes.
-use Rattle.std.specs.Prelude.{◌≡◌, ◌≢◌, ⊤, ◌⊎◌, ℕ, suc, ◌+◌, ◌≤◌, ◌<◌, List, [], ◌∷◌, ◌++◌, map, take, drop, length, Option, Some, None, IsSome, IsTrue, MatchOption, slice_get}
+use Rattle.std.specs.Prelude.{◌≡◌, ◌≢◌, ⊤, ◌⊎◌, ℕ, suc, ◌+◌, ◌≤◌, ◌<◌, List, [], ◌∷◌, ◌++◌, map, take, drop, length}
+use Rattle.std.specs.Prelude.{Option, Some, None, IsSome, IsTrue, MatchOption, slice_get}
 use Rattle.std.specs.List.{All, list_all}
 use Rattle.std.specs.Ordering.{is_lt}
 use Rattle.qg_device.specs.History.{Event}
@@ -43,8 +44,8 @@ use Rattle.qg_tree_edits.specs.First.{first_leaf, least, leaves, leaves_joined, 
 
 -- ---- what an edit asks, over any disk
 
--- nodes and space in which a tree is edited by the generation to come: clean nodes are the disk's, fresh ones may be written, and the
--- disk has room for all slots
+-- nodes and space in which a tree is edited by the generation to come: clean nodes are the disk's, fresh ones may be
+-- written, and the disk has room for all slots
 pub record IsEditable (land : Ground) (history : Option (List Event)) (bytes generation : ℕ) : Type 0 where
   pub backed : IsBacked land.blocks history
   pub drafted : IsDrafted land generation
@@ -65,15 +66,17 @@ pub record IsFreshOn (land : Ground) (level at : ℕ) : Type 0 where
 
 -- fresh nodes stay as they are, and new ones may come
 abbrev pub KeepsFresh : Ground → Ground → Type 0
-KeepsFresh old new = (at : ℕ) (node : Node) → fresh_at old.blocks.draft at ≡ Some node → fresh_at new.blocks.draft at ≡ Some node
+KeepsFresh old new = (at : ℕ) (node : Node) → fresh_at old.blocks.draft at ≡ Some node
+    → fresh_at new.blocks.draft at ≡ Some node
 
 -- fresh nodes above a level stay as they are
 abbrev pub KeepsAbove : ℕ → Ground → Ground → Type 0
 KeepsAbove level old new =
-    (at : ℕ) (node : Node) → fresh_at old.blocks.draft at ≡ Some node → level < (header_of node).level → fresh_at new.blocks.draft at ≡ Some node
+    (at : ℕ) (node : Node) → fresh_at old.blocks.draft at ≡ Some node → level < (header_of node).level
+    → fresh_at new.blocks.draft at ≡ Some node
 
--- a fresh node is edited where it lies: another one that has a text and names the same address and generation is in its place, and
--- nothing else changes
+-- a fresh node is edited where it lies: another one that has a text and names the same address and generation is in its
+-- place, and nothing else changes
 pub record IsRewritten (old new : Ground) (at : ℕ) (before : Node) : Type 0 where
   pub node : Node
   pub is : new ≡ record old { blocks = with_fresh old.blocks at node }
@@ -88,17 +91,20 @@ pub record IsCutThere (nodesize : ℕ) (new : Ground) (at : ℕ) (before whole :
 
 -- ---- a node that is owned
 
--- a node that the way leads to expect was judged, and is or was copied to a fresh one, which has the same items or pointers. A fresh one
--- stays where it is. All other nodes are told as before
-pub record IsOwned (tree : Tree) (root : Root) (old new : Ground) (history : Option (List Event)) (expected : Expected) (at now : ℕ) : Type 0 where
+-- a node that the way leads to expect was judged, and is or was copied to a fresh one, which has the same items or
+-- pointers. A fresh one stays where it is. All other nodes are told as before
+pub record IsOwned (tree : Tree) (root : Root) (old new : Ground) (history : Option (List Event)) (expected : Expected)
+    (at now : ℕ) : Type 0 where
   pub node : Node
   pub formed : form_failure tree (super_of root old.blocks.draft) expected at node ≡ None
   pub kept : IsNodeAt old.space.sizes.nodesize at node
   pub alone : (other : Node) → told old.blocks.draft history at ≡ Some other → other ≡ node
   pub mine : Node
   pub here : fresh_at new.blocks.draft now ≡ Some mine
-  pub same : ((mine ≡ node) × (now ≡ at) × (new.space ≡ old.space)) ⊎ ((mine ≡ node_copy node now root.owner root.next) × IsTrue (is_free_slot old.space now))
-  pub others : (history : Option (List Event)) (q : ℕ) → q ≢ now → told new.blocks.draft history q ≡ told old.blocks.draft history q
+  pub same : ((mine ≡ node) × (now ≡ at) × (new.space ≡ old.space))
+      ⊎ ((mine ≡ node_copy node now root.owner root.next) × IsTrue (is_free_slot old.space now))
+  pub others : (history : Option (List Event)) (q : ℕ) → q ≢ now
+      → told new.blocks.draft history q ≡ told old.blocks.draft history q
   pub keeps : KeepsFresh old new
   pub stays : IsSome (fresh_at old.blocks.draft at) → now ≡ at
   pub freed : (q : ℕ) → IsTrue (is_free_slot new.space q) → IsTrue (is_free_slot old.space q) ⊎ (q ≡ at)
@@ -121,7 +127,8 @@ OfEach P instead = P instead.now × MatchOption instead.more ⊤ P
 
 -- what stands there is reached at an address
 abbrev pub ReachesInstead : (ℕ → Option Node) → ℕ → Instead → ℕ → Type 0
-ReachesInstead nodes level instead q = Reaches nodes level instead.now q ⊎ MatchOption instead.more ⊥ (λ more. Reaches nodes level more q)
+ReachesInstead nodes level instead q = Reaches nodes level instead.now q
+    ⊎ MatchOption instead.more ⊥ (λ more. Reaches nodes level more q)
 
 -- a node is told that fills its bytes
 pub record FillsThere (nodesize : ℕ) (nodes : ℕ → Option Node) (at : ℕ) : Type 0 where
@@ -130,21 +137,25 @@ pub record FillsThere (nodesize : ℕ) (nodes : ℕ → Option Node) (at : ℕ) 
   pub filled : IsFilled nodesize node
 
 -- these are the items under what stands there. Where two nodes do, both are full enough
-pub record HoldInstead (tree : Tree) (super : Super) (nodes : ℕ → Option Node) (level : ℕ) (instead : Instead) (items : List Item) : Type 0 where
+pub record HoldInstead (tree : Tree) (super : Super) (nodes : ℕ → Option Node) (level : ℕ) (instead : Instead)
+    (items : List Item) : Type 0 where
   pub mine : List Item
   pub rest : List Item
   pub items_are : items ≡ mine ++ rest
   pub here : IsBranch tree super nodes level instead.now mine
   pub behind : MatchOption instead.more (rest ≡ [])
-      (λ more. IsBranch tree super nodes level more rest × FillsThere super.nodesize nodes instead.now × FillsThere super.nodesize nodes more)
+      (λ more. IsBranch tree super nodes level more rest × FillsThere super.nodesize nodes instead.now
+      × FillsThere super.nodesize nodes more)
 
 -- ---- an edit, where the disk tells
 
--- a part of a tree that an edit may be done to: the walk meets no failure there, no free slot is reached, bodies are short, and the edit
--- finds what it relies on
-pub record IsPartFit (tree : Tree) (root : Root) (land : Ground) (history : Option (List Event)) (level : ℕ) (expected : Expected) (at : ℕ) (edit : Edit) (items : List Item) : Type 0 where
+-- a part of a tree that an edit may be done to: the walk meets no failure there, no free slot is reached, bodies are
+-- short, and the edit finds what it relies on
+pub record IsPartFit (tree : Tree) (root : Root) (land : Ground) (history : Option (List Event)) (level : ℕ)
+    (expected : Expected) (at : ℕ) (edit : Edit) (items : List Item) : Type 0 where
   pub levelled : expected.level ≡ Some level
-  pub walked : walk_failure (form_failure tree (super_of root land.blocks.draft)) (found_in (told land.blocks.draft history)) level expected at ≡ None
+  pub walked : walk_failure (form_failure tree (super_of root land.blocks.draft))
+      (found_in (told land.blocks.draft history)) level expected at ≡ None
   pub items_are : items_below (told land.blocks.draft history) level at ≡ Some items
   pub apart : (q : ℕ) → IsTrue (is_free_slot land.space q) → Reaches (told land.blocks.draft history) level at q → ⊥
   pub short : All (λ item. length item.body ≤ 1024) items
@@ -160,26 +171,32 @@ pub record IsLeafEdited (edit : Edit) (old new : List Item) : Type 0 where
   pub less : IsTrue (list_all (λ item. is_lt (key_cmp item.key edit.key)) front)
   pub greater : IsTrue (list_all (λ item. is_lt (key_cmp edit.key item.key)) back)
 
--- what an edit leaves of a part of a tree: what stands in its place holds the items once those of one leaf are edited, the first one where
--- the key is the least; it reaches what was reached before, and slots that were free; only these are told otherwise, whatever a disk tells,
--- only these get free, and no free slot is reached
-pub record IsPartEdited (tree : Tree) (root : Root) (old new : Ground) (history : Option (List Event)) (level at : ℕ) (edit : Edit) (items : List Item) (instead : Instead) : Type 0 where
+-- what an edit leaves of a part of a tree: what stands in its place holds the items once those of one leaf are edited,
+-- the first one where the key is the least; it reaches what was reached before, and slots that were free; only these
+-- are told otherwise, whatever a disk tells, only these get free, and no free slot is reached
+pub record IsPartEdited (tree : Tree) (root : Root) (old new : Ground) (history : Option (List Event)) (level at : ℕ)
+    (edit : Edit) (items : List Item) (instead : Instead) : Type 0 where
   pub items_new : List Item
   pub edits : IsLeafEdited edit items items_new
   pub first : edit.key ≡ least → edits.leaf ≡ first_leaf (told old.blocks.draft history) level at
   pub holds : HoldInstead tree (super_of root old.blocks.draft) (told new.blocks.draft history) level instead items_new
-  pub reach : (q : ℕ) → ReachesInstead (told new.blocks.draft history) level instead q → Reaches (told old.blocks.draft history) level at q ⊎ IsTrue (is_free_slot old.space q)
-  pub others : (disk : Option (List Event)) (q : ℕ) → (IsTrue (is_free_slot old.space q) → ⊥) → (Reaches (told old.blocks.draft history) level at q → ⊥)
+  pub reach : (q : ℕ) → ReachesInstead (told new.blocks.draft history) level instead q
+      → Reaches (told old.blocks.draft history) level at q ⊎ IsTrue (is_free_slot old.space q)
+  pub others : (disk : Option (List Event)) (q : ℕ) → (IsTrue (is_free_slot old.space q) → ⊥)
+      → (Reaches (told old.blocks.draft history) level at q → ⊥)
       → told new.blocks.draft disk q ≡ told old.blocks.draft disk q
-  pub freed : (q : ℕ) → IsTrue (is_free_slot new.space q) → IsTrue (is_free_slot old.space q) ⊎ Reaches (told old.blocks.draft history) level at q
-  pub free : (q : ℕ) → IsTrue (is_free_slot new.space q) → ReachesInstead (told new.blocks.draft history) level instead q → ⊥
+  pub freed : (q : ℕ) → IsTrue (is_free_slot new.space q) → IsTrue (is_free_slot old.space q)
+      ⊎ Reaches (told old.blocks.draft history) level at q
+  pub free : (q : ℕ) → IsTrue (is_free_slot new.space q)
+      → ReachesInstead (told new.blocks.draft history) level instead q → ⊥
 
 -- ---- the rest of a node that was cut
 
 -- what was cut off, if anything, has a text, a level and the generation to come
 abbrev pub RestIsReady : ℕ → ℕ → ℕ → Option Node → Type 0
 RestIsReady nodesize level generation None = ⊤
-RestIsReady nodesize level generation (Some node) = IsNode nodesize node × ((header_of node).level ≡ level) × ((header_of node).generation ≡ generation)
+RestIsReady nodesize level generation (Some node) = IsNode nodesize node × ((header_of node).level ≡ level)
+    × ((header_of node).generation ≡ generation)
 
 -- the node at an address is of its level still, and so is what was cut off it
 pub record StaysCut (nodesize : ℕ) (old : Node) (land : Ground) (at : ℕ) (rest : Option Node) : Type 0 where
@@ -191,11 +208,12 @@ abbrev pub with_owner : ℕ → Node → Node
 with_owner owner (Leaf header items) = Leaf (record header { owner = owner }) items
 with_owner owner (Inner header pointers) = Inner (record header { owner = owner }) pointers
 
--- what was cut off, if anything, lies in a slot that was free, and has this owner; all other nodes are told as before, and no other slot is
--- taken or given back
+-- what was cut off, if anything, lies in a slot that was free, and has this owner; all other nodes are told as before,
+-- and no other slot is taken or given back
 abbrev pub IsPlacedBehind : ℕ → Ground → Ground → ℕ → Option Node → Instead → Type 0
 IsPlacedBehind owner old new now None instead = (instead ≡ record { now = now; more = None }) × (new ≡ old)
-IsPlacedBehind owner old new now (Some node) instead = (more : ℕ) × (instead ≡ record { now = now; more = Some more }) × Makes old new more (with_owner owner node)
+IsPlacedBehind owner old new now (Some node) instead = (more : ℕ) × (instead ≡ record { now = now; more = Some more })
+    × Makes old new more (with_owner owner node)
 
 -- ---- two neighbours
 
@@ -228,7 +246,8 @@ pub record IsJoinedThere (old new : Ground) (left right : ℕ) (joined : Joined)
   pub b : Node
   pub left_there : fresh_at new.blocks.draft left ≡ Some a
   pub right_there : fresh_at new.blocks.draft right ≡ Some b
-  pub is : (c d : Node) → fresh_at old.blocks.draft left ≡ Some c → fresh_at old.blocks.draft right ≡ Some d → IsJoinedAs old.space.sizes.nodesize c d a b joined
+  pub is : (c d : Node) → fresh_at old.blocks.draft left ≡ Some c → fresh_at old.blocks.draft right ≡ Some d
+      → IsJoinedAs old.space.sizes.nodesize c d a b joined
 
 -- ---- the way from a node
 
@@ -239,7 +258,8 @@ pub record IsWayAt (pointers : List Pointer) (to : Option Key) (level place : �
   pub child : way.address ≡ pointer.child
   pub expects : way.expected ≡ expected_below level to pointer (drop (place + 1) pointers)
 
--- the neighbour of the child at a place: the one behind, where the pair begins at the place, or the one in front, where it ends there
+-- the neighbour of the child at a place: the one behind, where the pair begins at the place, or the one in front, where
+-- it ends there
 pub record IsBeside (pointers : List Pointer) (to : Option Key) (level place : ℕ) (beside : Neighbour) : Type 0 where
   pub other : ℕ
   pub way : IsWayAt pointers to level other beside.way
@@ -267,19 +287,23 @@ slots_for (Some rest) = 1
 -- an address is reached from another child than the one at a place
 abbrev pub ReachesBeside : (ℕ → Option Node) → ℕ → List Pointer → ℕ → ℕ → Type 0
 ReachesBeside nodes level pointers place q =
-    (i : ℕ) × (pointer : Pointer) × (i ≢ place) × (slice_get pointers i ≡ Some pointer) × Reaches nodes level pointer.child q
+    (i : ℕ) × (pointer : Pointer) × (i ≢ place) × (slice_get pointers i ≡ Some pointer)
+    × Reaches nodes level pointer.child q
 
 -- an address is reached from what stands in a child's place, or from another child
 abbrev pub ReachesParts : (ℕ → Option Node) → ℕ → List Pointer → ℕ → Instead → ℕ → Type 0
-ReachesParts nodes level pointers place child q = ReachesInstead nodes level child q ⊎ ReachesBeside nodes level pointers place q
+ReachesParts nodes level pointers place child q = ReachesInstead nodes level child q
+    ⊎ ReachesBeside nodes level pointers place q
 
 -- an address is reached from one of these pointers
 abbrev pub ReachesEach : (ℕ → Option Node) → ℕ → List Pointer → ℕ → Type 0
-ReachesEach nodes level pointers q = (i : ℕ) × (pointer : Pointer) × (slice_get pointers i ≡ Some pointer) × Reaches nodes level pointer.child q
+ReachesEach nodes level pointers q = (i : ℕ) × (pointer : Pointer) × (slice_get pointers i ≡ Some pointer)
+    × Reaches nodes level pointer.child q
 
--- The child at a place of a fresh node was edited. These are the items under it and the other children. The other children are what the
--- way to them leads to expect; no two of all reach the same address, and none a free slot
-pub record IsUnsettled (tree : Tree) (root : Root) (land : Ground) (history : Option (List Event)) (level at : ℕ) (to : Option Key) (place : ℕ) (child : Instead) (items : List Item) : Type 0 where
+-- The child at a place of a fresh node was edited. These are the items under it and the other children. The other
+-- children are what the way to them leads to expect; no two of all reach the same address, and none a free slot
+pub record IsUnsettled (tree : Tree) (root : Root) (land : Ground) (history : Option (List Event)) (level at : ℕ)
+    (to : Option Key) (place : ℕ) (child : Instead) (items : List Item) : Type 0 where
   pub header : Header
   pub pointers : List Pointer
   pub here : fresh_at land.blocks.draft at ≡ Some (Inner header pointers)
@@ -289,38 +313,53 @@ pub record IsUnsettled (tree : Tree) (root : Root) (land : Ground) (history : Op
   pub mine : List Item
   pub back : List Item
   pub items_are : items ≡ front ++ (mine ++ back)
-  pub before : AreBranches tree (super_of root land.blocks.draft) (told land.blocks.draft history) level (take place pointers) front
+  pub before : AreBranches tree (super_of root land.blocks.draft) (told land.blocks.draft history) level
+      (take place pointers) front
   pub holds : HoldInstead tree (super_of root land.blocks.draft) (told land.blocks.draft history) level child mine
-  pub after : AreBranches tree (super_of root land.blocks.draft) (told land.blocks.draft history) level (drop (place + 1) pointers) back
-  pub judged : (i : ℕ) (pointer : Pointer) → i ≢ place → slice_get pointers i ≡ Some pointer → (node : Node) × (told land.blocks.draft history pointer.child ≡ Some node)
-      × (form_failure tree (super_of root land.blocks.draft) (expected_below level to pointer (drop (i + 1) pointers)) pointer.child node ≡ None)
+  pub after : AreBranches tree (super_of root land.blocks.draft) (told land.blocks.draft history) level
+      (drop (place + 1) pointers) back
+  pub judged : (i : ℕ) (pointer : Pointer) → i ≢ place → slice_get pointers i ≡ Some pointer
+      → (node : Node) × (told land.blocks.draft history pointer.child ≡ Some node)
+      × (form_failure tree (super_of root land.blocks.draft) (expected_below level to pointer (drop (i + 1) pointers))
+      pointer.child node ≡ None)
   pub several : 2 ≤ length pointers
   pub ascending : IsTrue (is_ascending (map (λ item. item.key) items))
   pub short : All (λ item. length item.body ≤ 1024) items
-  pub apart : (i j : ℕ) (p r : Pointer) → i ≢ place → j ≢ place → i ≢ j → slice_get pointers i ≡ Some p → slice_get pointers j ≡ Some r
-      → (q : ℕ) → Reaches (told land.blocks.draft history) level p.child q → Reaches (told land.blocks.draft history) level r.child q → ⊥
+  pub apart : (i j : ℕ) (p r : Pointer) → i ≢ place → j ≢ place → i ≢ j → slice_get pointers i ≡ Some p
+      → slice_get pointers j ≡ Some r
+      → (q : ℕ) → Reaches (told land.blocks.draft history) level p.child q
+      → Reaches (told land.blocks.draft history) level r.child q → ⊥
   pub alone : (i : ℕ) (pointer : Pointer) → i ≢ place → slice_get pointers i ≡ Some pointer
-      → (q : ℕ) → Reaches (told land.blocks.draft history) level pointer.child q → ReachesInstead (told land.blocks.draft history) level child q → ⊥
-  pub free : (q : ℕ) → IsTrue (is_free_slot land.space q) → ReachesParts (told land.blocks.draft history) level pointers place child q → ⊥
+      → (q : ℕ) → Reaches (told land.blocks.draft history) level pointer.child q
+      → ReachesInstead (told land.blocks.draft history) level child q → ⊥
+  pub free : (q : ℕ) → IsTrue (is_free_slot land.space q)
+      → ReachesParts (told land.blocks.draft history) level pointers place child q → ⊥
 
--- Its pointers were set: they lead to the same items. Where the node has too much, it holds a front of them. What they reach was reached
--- before or is a slot that was free; only these and the node itself are told otherwise, whatever a disk tells, only these get free, and no
--- free slot is reached
-pub record IsSettled (tree : Tree) (root : Root) (old new : Ground) (history : Option (List Event)) (level at place : ℕ) (child : Instead) (pointers : List Pointer) (header : Header) (items : List Item) (rest : Option Node) : Type 0 where
+-- Its pointers were set: they lead to the same items. Where the node has too much, it holds a front of them. What they
+-- reach was reached before or is a slot that was free; only these and the node itself are told otherwise, whatever a
+-- disk tells, only these get free, and no free slot is reached
+pub record IsSettled (tree : Tree) (root : Root) (old new : Ground) (history : Option (List Event)) (level at place : ℕ)
+    (child : Instead) (pointers : List Pointer) (header : Header) (items : List Item) (rest : Option Node) : Type
+    0 where
   pub pointers_new : List Pointer
-  pub branches : AreBranches tree (super_of root old.blocks.draft) (told new.blocks.draft history) level pointers_new items
+  pub branches : AreBranches tree (super_of root old.blocks.draft) (told new.blocks.draft history) level pointers_new
+      items
   pub cut : IsCutThere old.space.sizes.nodesize new at (Inner header pointers) (Inner header pointers_new) rest
   pub reach : (q : ℕ) → ReachesEach (told new.blocks.draft history) level pointers_new q
       → ReachesParts (told old.blocks.draft history) level pointers place child q ⊎ IsTrue (is_free_slot old.space q)
-  pub others : (disk : Option (List Event)) (q : ℕ) → q ≢ at → (IsTrue (is_free_slot old.space q) → ⊥) → (ReachesParts (told old.blocks.draft history) level pointers place child q → ⊥)
+  pub others : (disk : Option (List Event)) (q : ℕ) → q ≢ at → (IsTrue (is_free_slot old.space q) → ⊥)
+      → (ReachesParts (told old.blocks.draft history) level pointers place child q → ⊥)
       → told new.blocks.draft disk q ≡ told old.blocks.draft disk q
-  pub freed : (q : ℕ) → IsTrue (is_free_slot new.space q) → IsTrue (is_free_slot old.space q) ⊎ ReachesParts (told old.blocks.draft history) level pointers place child q
-  pub free : (q : ℕ) → IsTrue (is_free_slot new.space q) → ReachesEach (told new.blocks.draft history) level pointers_new q → ⊥
+  pub freed : (q : ℕ) → IsTrue (is_free_slot new.space q) → IsTrue (is_free_slot old.space q)
+      ⊎ ReachesParts (told old.blocks.draft history) level pointers place child q
+  pub free : (q : ℕ) → IsTrue (is_free_slot new.space q)
+      → ReachesEach (told new.blocks.draft history) level pointers_new q → ⊥
 
 -- ---- pointers that are set
 
 -- what is known where pointers of a fresh node are set: what they and the others lead to, and that all items ascend
-pub record CanLead (tree : Tree) (super : Super) (land : Ground) (history : Option (List Event)) (level at from to : ℕ) (instead : Instead) (pointers : List Pointer) (header : Header) (items : List Item) : Type 0 where
+pub record CanLead (tree : Tree) (super : Super) (land : Ground) (history : Option (List Event)) (level at from to : ℕ)
+    (instead : Instead) (pointers : List Pointer) (header : Header) (items : List Item) : Type 0 where
   pub here : fresh_at land.blocks.draft at ≡ Some (Inner header pointers)
   pub member : IsMember tree super (suc level) header
   pub front : List Item
@@ -335,14 +374,20 @@ pub record CanLead (tree : Tree) (super : Super) (land : Ground) (history : Opti
   pub ascending : IsTrue (is_ascending (map (λ item. item.key) items))
 
 -- they are set: these lead to the same items. Nothing but the node is told otherwise, whatever a disk tells
-pub record HasLed (tree : Tree) (super : Super) (old new : Ground) (history : Option (List Event)) (level at from to : ℕ) (instead : Instead) (pointers : List Pointer) (header : Header) (items : List Item) (rest : Option Node) : Type 0 where
+pub record HasLed (tree : Tree) (super : Super) (old new : Ground) (history : Option (List Event))
+    (level at from to : ℕ) (instead : Instead) (pointers : List Pointer) (header : Header) (items : List Item)
+    (rest : Option Node) : Type 0 where
   pub now : Pointer
   pub more : List Pointer
   pub leads : now.child ≡ instead.now
-  pub leads_on : MatchOption instead.more (more ≡ []) (λ address. (pointer : Pointer) × (more ≡ pointer ∷ []) × (pointer.child ≡ address))
-  pub branches : AreBranches tree super (told new.blocks.draft history) level (take from pointers ++ (now ∷ more) ++ drop to pointers) items
-  pub cut : IsCutThere old.space.sizes.nodesize new at (Inner header pointers) (Inner header (take from pointers ++ (now ∷ more) ++ drop to pointers)) rest
-  pub others : (disk : Option (List Event)) (q : ℕ) → q ≢ at → told new.blocks.draft disk q ≡ told old.blocks.draft disk q
+  pub leads_on : MatchOption instead.more (more ≡ []) (λ address. (pointer : Pointer) × (more ≡ pointer ∷ [])
+      × (pointer.child ≡ address))
+  pub branches : AreBranches tree super (told new.blocks.draft history) level (take from pointers ++ (now ∷ more)
+      ++ drop to pointers) items
+  pub cut : IsCutThere old.space.sizes.nodesize new at (Inner header pointers)
+      (Inner header (take from pointers ++ (now ∷ more) ++ drop to pointers)) rest
+  pub others : (disk : Option (List Event)) (q : ℕ) → q ≢ at
+      → told new.blocks.draft disk q ≡ told old.blocks.draft disk q
   pub space : new.space ≡ old.space
 
 -- ---- the leaves of a node whose first child was edited
@@ -351,7 +396,10 @@ pub record HasLed (tree : Tree) (super : Super) (old new : Ground) (history : Op
 abbrev pub IsEmptyIfLeaf : Ground → Option (List Event) → ℕ → ℕ → Type 0
 IsEmptyIfLeaf land history level child = level ≡ 0 → leaves (told land.blocks.draft history) level child ≡ [] ∷ []
 
--- The pointers of a node were set, whose first child was edited: each leaf below keeps its items, and a child that was an empty leaf is gone
-pub record KeepsLeaves (old new : Ground) (history : Option (List Event)) (level at child : ℕ) (pointers : List Pointer) : Type 0 where
+-- The pointers of a node were set, whose first child was edited: each leaf below keeps its items, and a child that was
+-- an empty leaf is gone
+pub record KeepsLeaves (old new : Ground) (history : Option (List Event)) (level at child : ℕ)
+    (pointers : List Pointer) : Type 0 where
   pub kept : leaves (told new.blocks.draft history) (suc level) at
-      ≡ leaves_joined level (leaves (told old.blocks.draft history) level child) (leaves_under (λ q. leaves (told old.blocks.draft history) level q) (drop 1 pointers))
+      ≡ leaves_joined level (leaves (told old.blocks.draft history) level child)
+      (leaves_under (λ q. leaves (told old.blocks.draft history) level q) (drop 1 pointers))

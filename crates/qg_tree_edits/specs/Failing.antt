@@ -1,6 +1,7 @@
 -- Where an edit of a tree names a rule, over a disk that tells, and what does not fit there (this project's own).
 -- Addresses are in bytes.
-use Rattle.std.specs.Prelude.{◌≡◌, ⊤, ◌⊎◌, ℕ, zero, suc, ◌≤◌, ◌<◌, List, [], ◌∷◌, map, length, Option, Some, None, Result, Ok, Err, IsTrue, MatchOption}
+use Rattle.std.specs.Prelude.{◌≡◌, ⊤, ◌⊎◌, ℕ, zero, suc, ◌≤◌, ◌<◌, List, [], ◌∷◌, map, length, Option, Some, None}
+use Rattle.std.specs.Prelude.{Result, Ok, Err, IsTrue, MatchOption}
 use Rattle.std.specs.Ordering.{is_lt}
 use Rattle.qg_device.specs.History.{Event, content}
 use Rattle.qg_num.specs.Key.{key_cmp}
@@ -62,8 +63,8 @@ LacksNeighbour tree root land events node at to level place child rule address =
     × (IsMisread tree root land events beside.way.expected beside.way.address rule address
     ⊎ ((beside.way.address ≡ child) × (rule ≡ Refs) × (address ≡ at))))
 
--- Two fresh nodes, which lie there still, are not joined: their keys don't follow each other, or a body is longer than a
--- tree holds
+-- Two fresh nodes, which lie there still, are not joined: their keys don't follow each other, or a body is longer than
+-- a tree holds
 pub record ArentJoined (land : Ground) (left right : ℕ) (a b : Node) (rule : Rule) (address : ℕ) : Type 0 where
   pub left_here : fresh_at land.blocks.draft left ≡ Some a
   pub right_here : fresh_at land.blocks.draft right ≡ Some b
@@ -124,9 +125,9 @@ pub record LeadsDown (node : Node) (to : Option Key) (level : ℕ) (edit : Edit)
 abbrev pub StandsFor : Ground → ℕ → ℕ → Type 0
 StandsFor land at now = (now ≡ at) ⊎ IsTrue (is_free_slot land.space now)
 
--- A node that an edit has come to by its key does not fit. It is misread. Or it is owned, and is a leaf that is not what
--- the change relies on, or that can't be cut. Or it is owned, and so it is with the node that its pointer leads on to,
--- or with what stands in that one's place once it is edited
+-- A node that an edit has come to by its key does not fit. It is misread. Or it is owned, and is a leaf that is not
+-- what the change relies on, or that can't be cut. Or it is owned, and so it is with the node that its pointer leads on
+-- to, or with what stands in that one's place once it is edited
 unfoldable pub FailsUnder : Tree → Root → Edit → List Event → ℕ → Expected → ℕ → Ground → Ground → Rule → ℕ → Type 0
 FailsUnder tree root edit events zero expected at old new rule address =
     IsMisread tree root old events expected at rule address

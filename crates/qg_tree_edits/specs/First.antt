@@ -45,8 +45,8 @@ leaves_behind [] = []
 leaves_behind (leaf ∷ []) = [] ∷ []
 leaves_behind (leaf ∷ other ∷ leaves) = other ∷ leaves
 
--- Those of a child whose first leaf was emptied, and those behind. A child of a level that is an empty leaf itself is joined with the leaf
--- behind it, which keeps its items
+-- Those of a child whose first leaf was emptied, and those behind. A child of a level that is an empty leaf itself is
+-- joined with the leaf behind it, which keeps its items
 abbrev pub leaves_joined : ℕ → List (List Item) → List (List Item) → List (List Item)
 leaves_joined zero mine behind = behind
 leaves_joined (suc level) mine behind = mine ++ behind

@@ -29,17 +29,19 @@ lone_child (Inner header pointers) = lone_of pointers
 
 -- ---- a tree as it stands between two calls
 
--- A tree stands in nodes and space, and these are its items, from left to right: no free slot is reached, and no body has more than 1024
--- bytes
-pub record IsRooted (tree : Tree) (root : Root) (land : Ground) (history : Option (List Event)) (items : List Item) : Type 0 where
+-- A tree stands in nodes and space, and these are its items, from left to right: no free slot is reached, and no body
+-- has more than 1024 bytes
+pub record IsRooted (tree : Tree) (root : Root) (land : Ground) (history : Option (List Event))
+    (items : List Item) : Type 0 where
   pub tells : TellsTree tree root land.blocks.draft history items
   pub apart : (q : ℕ) → IsTrue (is_free_slot land.space q)
       → Reaches (told land.blocks.draft history) root.height root.address q → ⊥
   pub short : All (λ item. length item.body ≤ 1024) items
 
--- What a call makes of a tree and of nodes and space: it stands with these items. It reaches what it reached before, and slots that were
--- free; only these are told otherwise, and only these get free
-pub record IsReplaced (tree : Tree) (before after : Root) (old new : Ground) (history : Option (List Event)) (items : List Item) : Type 0 where
+-- What a call makes of a tree and of nodes and space: it stands with these items. It reaches what it reached before,
+-- and slots that were free; only these are told otherwise, and only these get free
+pub record IsReplaced (tree : Tree) (before after : Root) (old new : Ground) (history : Option (List Event))
+    (items : List Item) : Type 0 where
   pub rooted : IsRooted tree after new history items
   pub reach : (q : ℕ) → Reaches (told new.blocks.draft history) after.height after.address q
       → Reaches (told old.blocks.draft history) before.height before.address q ⊎ IsTrue (is_free_slot old.space q)
@@ -50,7 +52,8 @@ pub record IsReplaced (tree : Tree) (before after : Root) (old new : Ground) (hi
       → IsTrue (is_free_slot old.space q) ⊎ Reaches (told old.blocks.draft history) before.height before.address q
 
 -- it is one with the items once those of one leaf are edited, the first one where the key is the least
-pub record IsEdited (tree : Tree) (before after : Root) (old new : Ground) (history : Option (List Event)) (edit : Edit) (items : List Item) : Type 0 where
+pub record IsEdited (tree : Tree) (before after : Root) (old new : Ground) (history : Option (List Event)) (edit : Edit)
+    (items : List Item) : Type 0 where
   pub items_new : List Item
   pub edits : IsLeafEdited edit items items_new
   pub first : edit.key ≡ least → edits.leaf ≡ first_leaf (told old.blocks.draft history) before.height before.address
@@ -58,9 +61,10 @@ pub record IsEdited (tree : Tree) (before after : Root) (old new : Ground) (hist
 
 -- ---- over any disk
 
--- what an edit asks: nodes and space in which a tree is edited by the generation to come, a number and a generation that nodes may have
--- which are made for it, and free slots
-pub record IsReady (tree : Tree) (root : Root) (land : Ground) (history : Option (List Event)) (bytes : ℕ) : Type 0 where
+-- what an edit asks: nodes and space in which a tree is edited by the generation to come, a number and a generation
+-- that nodes may have which are made for it, and free slots
+pub record IsReady (tree : Tree) (root : Root) (land : Ground) (history : Option (List Event))
+    (bytes : ℕ) : Type 0 where
   pub editable : IsEditable land history bytes root.next
   pub makes : CanMake tree root
   pub slots : 3 * (root.height + 2) ≤ free_slots land.space
@@ -79,16 +83,19 @@ pub record Grows (most : ℕ) (before after : Root) (old new : Ground) : Type 0 
 -- ---- what stands in the place of a root
 
 -- this stands in the place of a tree's root, and these are the items under it; no free slot is reached
-pub record StandsForRoot (tree : Tree) (root : Root) (land : Ground) (history : Option (List Event)) (instead : Instead) (items : List Item) : Type 0 where
-  pub holds : HoldInstead tree (super_of root land.blocks.draft) (told land.blocks.draft history) root.height instead items
+pub record StandsForRoot (tree : Tree) (root : Root) (land : Ground) (history : Option (List Event)) (instead : Instead)
+    (items : List Item) : Type 0 where
+  pub holds : HoldInstead tree (super_of root land.blocks.draft) (told land.blocks.draft history) root.height instead
+      items
   pub ascending : IsTrue (is_ascending (map (λ item. item.key) items))
   pub short : All (λ item. length item.body ≤ 1024) items
   pub free : (q : ℕ) → IsTrue (is_free_slot land.space q)
       → ReachesInstead (told land.blocks.draft history) root.height instead q → ⊥
 
--- a tree of these items has its root: it reaches what stood there, and slots that were free; only these are told otherwise, and only
--- these get free
-pub record HasRoot (tree : Tree) (before after : Root) (old new : Ground) (history : Option (List Event)) (instead : Instead) (items : List Item) : Type 0 where
+-- a tree of these items has its root: it reaches what stood there, and slots that were free; only these are told
+-- otherwise, and only these get free
+pub record HasRoot (tree : Tree) (before after : Root) (old new : Ground) (history : Option (List Event))
+    (instead : Instead) (items : List Item) : Type 0 where
   pub rooted : IsRooted tree after new history items
   pub reach : (q : ℕ) → Reaches (told new.blocks.draft history) after.height after.address q
       → ReachesInstead (told old.blocks.draft history) before.height instead q ⊎ IsTrue (is_free_slot old.space q)

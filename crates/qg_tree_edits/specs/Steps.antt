@@ -32,11 +32,14 @@ use Rattle.qg_descent.specs.Tree.{Root, super_of}
 use Rattle.qg_tree_edits.specs.declared.instead.Instead.{Instead}
 use Rattle.qg_tree_edits.specs.declared.pairing.Pair.{Pair}
 use Rattle.qg_tree_edits.specs.First.{least, leaves, leaves_behind}
-use Rattle.qg_tree_edits.specs.Editing.{CanLead, CanMake, IsEditable, IsEmptyIfLeaf, IsFreshOn, IsOwned, IsPartEdited, IsPartFit, IsPlacedBehind, IsSettled, IsUnsettled, KeepsLeaves, Moves, RestIsReady, StandsInstead, alone, slots_for}
+use Rattle.qg_tree_edits.specs.Editing.{CanLead, CanMake, IsEditable, IsEmptyIfLeaf, IsFreshOn, IsOwned, IsPartEdited}
+use Rattle.qg_tree_edits.specs.Editing.{IsPartFit, IsPlacedBehind, IsSettled, IsUnsettled, KeepsLeaves, Moves}
+use Rattle.qg_tree_edits.specs.Editing.{RestIsReady, StandsInstead, alone, slots_for}
 use Rattle.qg_tree_edits.specs.Uniting.{IsPaired}
 use Rattle.qg_tree_edits.specs.Rooting.{HasRoot, StandsForRoot, StaysTree}
 use Rattle.qg_tree_edits.specs.Counting.{IsPartTold, IsRootTold, IsSettledTold, TellsUnited}
-use Rattle.qg_tree_edits.specs.Failing.{ArentJoined, CantGrow, CantSettle, FailsUnder, IsMisled, IsRefused, LacksNeighbour, NamesOnly, StandsFor}
+use Rattle.qg_tree_edits.specs.Failing.{ArentJoined, CantGrow, CantSettle, FailsUnder, IsMisled, IsRefused}
+use Rattle.qg_tree_edits.specs.Failing.{LacksNeighbour, NamesOnly, StandsFor}
 
 -- ---- any step
 

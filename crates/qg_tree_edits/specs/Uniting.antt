@@ -32,11 +32,13 @@ pub record AreUnited (old new : Ground) (left right : ℕ) (instead : Instead) :
 -- ---- the neighbour that a child is joined with
 
 -- the child at a place and the neighbour that was owned, from left to right
-pub record IsPaired (tree : Tree) (root : Root) (old new : Ground) (history : Option (List Event)) (pointers : List Pointer) (to : Option Key) (level place child : ℕ) (pair : Pair) : Type 0 where
+pub record IsPaired (tree : Tree) (root : Root) (old new : Ground) (history : Option (List Event))
+    (pointers : List Pointer) (to : Option Key) (level place child : ℕ) (pair : Pair) : Type 0 where
   pub beside : Neighbour
   pub now : ℕ
   pub is : IsBeside pointers to level place beside
   pub owned : IsOwned tree root old new history beside.way.expected beside.way.address now
   pub apart : now ≢ child
   pub front : pair.front ≡ beside.front
-  pub sides : ((beside.front ≡ place) × (pair.left ≡ child) × (pair.right ≡ now)) ⊎ ((beside.front + 1 ≡ place) × (pair.left ≡ now) × (pair.right ≡ child))
+  pub sides : ((beside.front ≡ place) × (pair.left ≡ child) × (pair.right ≡ now))
+      ⊎ ((beside.front + 1 ≡ place) × (pair.left ≡ now) × (pair.right ≡ child))

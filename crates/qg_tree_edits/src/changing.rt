@@ -31,10 +31,11 @@ const LEAST: Key = Key {
 
 /// Puts an item in its place. Its key must not be there; the body has at most 1024 bytes.
 ///
-/// Nodes that are fresh are edited where they lie, others are copied to free slots, from the root down, and the book is told. It takes
-/// at most 2·height + 3 slots, and asks for 3·(height + 2) free ones. `P` says which tree it is. Over a disk that tells, `Image` names a rule
-/// and an address only where what stands there is not what leads to it expects, or not what the edit relies on, as with `refs` where the
-/// key is there. After an `Err` nodes, space and book are of no more use.
+/// Nodes that are fresh are edited where they lie, others are copied to free slots, from the root down, and the book is
+/// told. It takes at most 2·height + 3 slots, and asks for 3·(height + 2) free ones. `P` says which tree it is. Over a
+/// disk that tells, `Image` names a rule and an address only where what stands there is not what leads to it expects,
+/// or not what the edit relies on, as with `refs` where the key is there. After an `Err` nodes, space and book are of
+/// no more use.
 pub fn insert<P: TreePart, D: Disk, L: Ledger, B: Book<D, L>>(
     tree: &mut Tree,
     alloc: Global,
@@ -53,8 +54,10 @@ pub fn insert<P: TreePart, D: Disk, L: Ledger, B: Book<D, L>>(
         (with_item (record { key = key; body = body }) items) book.old book.new result }
     ensures fails { FailsToEditTree P.tree tree.old (record { key = key; change = edit_change.Insert body })
         land.old land.new (D.history disk.old) (D.faults disk.old) (D.faults disk.new) result }
-    ensures tree { MatchResult result (λ done. Grows 1 tree.old tree.new land.old land.new) (λ fault. tree.new ≡ tree.old) }
-    ensures rests { LeavesBe land.old land.new (D.history disk.old) (D.history disk.new) (D.size disk.old) (D.size disk.new) tree.old.next }
+    ensures tree { MatchResult result (λ done. Grows 1 tree.old tree.new land.old land.new)
+        (λ fault. tree.new ≡ tree.old) }
+    ensures rests { LeavesBe land.old land.new (D.history disk.old) (D.history disk.new) (D.size disk.old)
+        (D.size disk.new) tree.old.next }
     ensures book { KeepsBook B.stands B.settled book.old book.new land.old land.new disk.old disk.new result }
     ensures owners { OnOk result (IsOwnedBy tree.old.owner land.old land.new) }
     ensures reads { (most : ℕ) → ((book : B) (q : ℕ) → B.to_read book q ≤ most)
@@ -67,7 +70,8 @@ pub fn insert<P: TreePart, D: Disk, L: Ledger, B: Book<D, L>>(
     edit_tree::<P, D, L, B>(tree, alloc, land, disk, book, edit, reads)
 }
 
-/// Gives the item with a key another body, of at most 1024 bytes. The key must be there. Else as [`insert`], also where it is not.
+/// Gives the item with a key another body, of at most 1024 bytes. The key must be there. Else as [`insert`], also where
+/// it is not.
 pub fn replace<P: TreePart, D: Disk, L: Ledger, B: Book<D, L>>(
     tree: &mut Tree,
     alloc: Global,
@@ -86,8 +90,10 @@ pub fn replace<P: TreePart, D: Disk, L: Ledger, B: Book<D, L>>(
         (with_item (record { key = key; body = body }) items) book.old book.new result }
     ensures fails { FailsToEditTree P.tree tree.old (record { key = key; change = edit_change.Replace body })
         land.old land.new (D.history disk.old) (D.faults disk.old) (D.faults disk.new) result }
-    ensures tree { MatchResult result (λ done. Grows 1 tree.old tree.new land.old land.new) (λ fault. tree.new ≡ tree.old) }
-    ensures rests { LeavesBe land.old land.new (D.history disk.old) (D.history disk.new) (D.size disk.old) (D.size disk.new) tree.old.next }
+    ensures tree { MatchResult result (λ done. Grows 1 tree.old tree.new land.old land.new)
+        (λ fault. tree.new ≡ tree.old) }
+    ensures rests { LeavesBe land.old land.new (D.history disk.old) (D.history disk.new) (D.size disk.old)
+        (D.size disk.new) tree.old.next }
     ensures book { KeepsBook B.stands B.settled book.old book.new land.old land.new disk.old disk.new result }
     ensures owners { OnOk result (IsOwnedBy tree.old.owner land.old land.new) }
     ensures reads { (most : ℕ) → ((book : B) (q : ℕ) → B.to_read book q ≤ most)
@@ -100,7 +106,8 @@ pub fn replace<P: TreePart, D: Disk, L: Ledger, B: Book<D, L>>(
     edit_tree::<P, D, L, B>(tree, alloc, land, disk, book, edit, reads)
 }
 
-/// Takes out the item with a key. The key must be there. The tree gets no higher. Else as [`insert`], also where the key is not there.
+/// Takes out the item with a key. The key must be there. The tree gets no higher. Else as [`insert`], also where the
+/// key is not there.
 pub fn remove<P: TreePart, D: Disk, L: Ledger, B: Book<D, L>>(
     tree: &mut Tree,
     alloc: Global,
@@ -118,8 +125,10 @@ pub fn remove<P: TreePart, D: Disk, L: Ledger, B: Book<D, L>>(
         (without_key key items) book.old book.new result }
     ensures fails { FailsToEditTree P.tree tree.old (record { key = key; change = edit_change.Remove })
         land.old land.new (D.history disk.old) (D.faults disk.old) (D.faults disk.new) result }
-    ensures tree { MatchResult result (λ done. Grows 0 tree.old tree.new land.old land.new) (λ fault. tree.new ≡ tree.old) }
-    ensures rests { LeavesBe land.old land.new (D.history disk.old) (D.history disk.new) (D.size disk.old) (D.size disk.new) tree.old.next }
+    ensures tree { MatchResult result (λ done. Grows 0 tree.old tree.new land.old land.new)
+        (λ fault. tree.new ≡ tree.old) }
+    ensures rests { LeavesBe land.old land.new (D.history disk.old) (D.history disk.new) (D.size disk.old)
+        (D.size disk.new) tree.old.next }
     ensures book { KeepsBook B.stands B.settled book.old book.new land.old land.new disk.old disk.new result }
     ensures owners { OnOk result (IsOwnedBy tree.old.owner land.old land.new) }
     ensures reads { (most : ℕ) → ((book : B) (q : ℕ) → B.to_read book q ≤ most)
@@ -132,8 +141,8 @@ pub fn remove<P: TreePart, D: Disk, L: Ledger, B: Book<D, L>>(
     edit_tree::<P, D, L, B>(tree, alloc, land, disk, book, edit, reads)
 }
 
-/// Takes out exactly the items of the tree's first leaf; of a tree that is one leaf, all. Each other leaf keeps its items. The tree gets no
-/// higher. Else as [`insert`].
+/// Takes out exactly the items of the tree's first leaf; of a tree that is one leaf, all. Each other leaf keeps its
+/// items. The tree gets no higher. Else as [`insert`].
 pub fn drop_first_leaf<P: TreePart, D: Disk, L: Ledger, B: Book<D, L>>(
     tree: &mut Tree,
     alloc: Global,
@@ -153,8 +162,10 @@ pub fn drop_first_leaf<P: TreePart, D: Disk, L: Ledger, B: Book<D, L>>(
         ≡ leaves_behind (leaves (told land.old.blocks.draft (D.history disk.old)) tree.old.height tree.old.address)) }
     ensures fails { FailsToEditTree P.tree tree.old (record { key = least; change = edit_change.Clear })
         land.old land.new (D.history disk.old) (D.faults disk.old) (D.faults disk.new) result }
-    ensures tree { MatchResult result (λ done. Grows 0 tree.old tree.new land.old land.new) (λ fault. tree.new ≡ tree.old) }
-    ensures rests { LeavesBe land.old land.new (D.history disk.old) (D.history disk.new) (D.size disk.old) (D.size disk.new) tree.old.next }
+    ensures tree { MatchResult result (λ done. Grows 0 tree.old tree.new land.old land.new)
+        (λ fault. tree.new ≡ tree.old) }
+    ensures rests { LeavesBe land.old land.new (D.history disk.old) (D.history disk.new) (D.size disk.old)
+        (D.size disk.new) tree.old.next }
     ensures book { KeepsBook B.stands B.settled book.old book.new land.old land.new disk.old disk.new result }
     ensures owners { OnOk result (IsOwnedBy tree.old.owner land.old land.new) }
     ensures reads { (most : ℕ) → ((book : B) (q : ℕ) → B.to_read book q ≤ most)
@@ -185,8 +196,10 @@ fn edit_tree<P: TreePart, D: Disk, L: Ledger, B: Book<D, L>>(
         book.new result }
     ensures fails { FailsToEditTree P.tree tree.old edit land.old land.new (D.history disk.old) (D.faults disk.old)
         (D.faults disk.new) result }
-    ensures tree { MatchResult result (λ done. Grows (growth_of edit.change) tree.old tree.new land.old land.new) (λ fault. tree.new ≡ tree.old) }
-    ensures rests { LeavesBe land.old land.new (D.history disk.old) (D.history disk.new) (D.size disk.old) (D.size disk.new) tree.old.next }
+    ensures tree { MatchResult result (λ done. Grows (growth_of edit.change) tree.old tree.new land.old land.new)
+        (λ fault. tree.new ≡ tree.old) }
+    ensures rests { LeavesBe land.old land.new (D.history disk.old) (D.history disk.new) (D.size disk.old)
+        (D.size disk.new) tree.old.next }
     ensures book { KeepsBook B.stands B.settled book.old book.new land.old land.new disk.old disk.new result }
     ensures owners { OnOk result (IsOwnedBy tree.old.owner land.old land.new) }
     ensures reads { (most : ℕ) → ((book : B) (q : ℕ) → B.to_read book q ≤ most)

@@ -54,7 +54,8 @@ pub(crate) fn way_at(node: &Node, to: Option<Key>, level: u8, place: usize) -> W
     }
 }
 
-// The neighbour of the child at a place: the one behind it, or else the one in front; none where there is no other child.
+// The neighbour of the child at a place: the one behind it, or else the one in front; none where there is no other
+// child.
 pub(crate) fn neighbour_of(
     node: &Node,
     to: Option<Key>,
@@ -63,7 +64,8 @@ pub(crate) fn neighbour_of(
 ) -> Option<Neighbour>
     requires inner { IsInner node.now }
     requires inside { place < length (own_pointers node.now) }
-    ensures { MatchOption result (length (own_pointers node.now) ≡ 1) (λ beside. IsBeside (own_pointers node.now) to level place beside) }
+    ensures { MatchOption result (length (own_pointers node.now) ≡ 1)
+        (λ beside. IsBeside (own_pointers node.now) to level place beside) }
 {
     if place < pointers_of(node).len() - 1 {
         let way = way_at(node, to, level, place + 1);

@@ -22,7 +22,8 @@ use qg_parts::TreePart;
 use std::alloc::Global;
 use std::sync::ledger::Ledger;
 
-// Edits the leaf that a key leads to, from the node of a level on that a way has come to. The answer is what stands in that node's place.
+// Edits the leaf that a key leads to, from the node of a level on that a way has come to. The answer is what stands in
+// that node's place.
 pub(crate) fn edit_under<P: TreePart, D: Disk, L: Ledger, B: Book<D, L>>(
     tree: &Tree,
     alloc: Global,

@@ -42,7 +42,8 @@ fn take_node(alloc: Global, land: &mut Ground, at: Address) -> Node
     mem::replace(node, empty)
 }
 
-// Joins the fresh nodes at two addresses. Where all is in the left one, an empty leaf lies in the place of the right one.
+// Joins the fresh nodes at two addresses. Where all is in the left one, an empty leaf lies in the place of the right
+// one.
 pub(crate) fn join_nodes(
     alloc: Global,
     land: &mut Ground,
@@ -53,9 +54,11 @@ pub(crate) fn join_nodes(
     requires pair { ArePair land.old left right }
     ensures rewritten { AreRewritten land.old land.new left right }
     ensures joined { IfOk result (λ joined. IsJoinedThere land.old land.new left right joined) }
-    ensures sound { (a b : NodeValue) → fresh_at land.old.blocks.draft left ≡ Some a → fresh_at land.old.blocks.draft right ≡ Some b
+    ensures sound { (a b : NodeValue) → fresh_at land.old.blocks.draft left ≡ Some a
+        → fresh_at land.old.blocks.draft right ≡ Some b
         → IsInFront a b → HasShortBodies a → HasShortBodies b → BreaksNone result }
-    ensures broken { (a b : NodeValue) → fresh_at land.old.blocks.draft left ≡ Some a → fresh_at land.old.blocks.draft right ≡ Some b
+    ensures broken { (a b : NodeValue) → fresh_at land.old.blocks.draft left ≡ Some a
+        → fresh_at land.old.blocks.draft right ≡ Some b
         → NamesOnly (ArentJoined land.new left right a b) result }
     ensures no_disk { IsErrOf result BlockFault.Disk → ⊥ }
 {
@@ -69,7 +72,8 @@ pub(crate) fn join_nodes(
     joined
 }
 
-// Joins the fresh nodes at two addresses. The answer is what stands in their place; where all is in the left one, the right one is left.
+// Joins the fresh nodes at two addresses. The answer is what stands in their place; where all is in the left one, the
+// right one is left.
 pub(crate) fn unite<D: Disk, L: Ledger, B: Book<D, L>>(
     alloc: Global,
     land: &mut Ground,

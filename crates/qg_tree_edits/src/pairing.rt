@@ -28,8 +28,8 @@ pub(crate) struct Pair {
     pub right: Address,
 }
 
-// Owns the neighbour of the fresh child at a place of the fresh node at an address. The children are of a level, and `to` is the next key
-// on the way to the node.
+// Owns the neighbour of the fresh child at a place of the fresh node at an address. The children are of a level, and
+// `to` is the next key on the way to the node.
 pub(crate) fn own_neighbour<P: TreePart, D: Disk, L: Ledger, B: Book<D, L>>(
     tree: &Tree,
     alloc: Global,

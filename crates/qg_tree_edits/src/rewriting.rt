@@ -27,11 +27,14 @@ pub(crate) fn rewrite_leaf(
     requires sizes { HasNodeSize land.old }
     requires fresh { IsSome (fresh_at land.old.blocks.draft at) }
     requires leaf { (node : NodeValue) → fresh_at land.old.blocks.draft at ≡ Some node → IsLeaf node }
-    requires sound { (node : NodeValue) → fresh_at land.old.blocks.draft at ≡ Some node → IsNode land.old.space.sizes.nodesize node }
+    requires sound { (node : NodeValue) → fresh_at land.old.blocks.draft at ≡ Some node
+        → IsNode land.old.space.sizes.nodesize node }
     requires short { IsShort edit.change }
-    ensures rewritten { (node : NodeValue) → fresh_at land.old.blocks.draft at ≡ Some node → IsRewritten land.old land.new at node }
+    ensures rewritten { (node : NodeValue) → fresh_at land.old.blocks.draft at ≡ Some node
+        → IsRewritten land.old land.new at node }
     ensures cut { (node : NodeValue) → fresh_at land.old.blocks.draft at ≡ Some node
-        → IfOk result (λ rest. IsCutThere land.old.space.sizes.nodesize land.new at node (with_items node (edited edit (own_items node))) rest) }
+        → IfOk result (λ rest. IsCutThere land.old.space.sizes.nodesize land.new at node
+        (with_items node (edited edit (own_items node))) rest) }
     ensures whole { growth_of edit.change ≡ 0 → IfOk result (λ rest. rest ≡ None) }
     ensures fails { FailsInPlace land.old at (λ node. CanEdit edit (own_items node) × HasShortBodies node)
         (λ node. IsBrokenByChange land.old.space.sizes.nodesize edit.key edit.change node) result }
@@ -51,12 +54,16 @@ pub(crate) fn rewrite_pointers(
     requires sizes { HasNodeSize land.old }
     requires fresh { IsSome (fresh_at land.old.blocks.draft at) }
     requires inner { (node : NodeValue) → fresh_at land.old.blocks.draft at ≡ Some node → IsInner node }
-    requires sound { (node : NodeValue) → fresh_at land.old.blocks.draft at ≡ Some node → IsNode land.old.space.sizes.nodesize node }
-    requires within { (node : NodeValue) → fresh_at land.old.blocks.draft at ≡ Some node → (from ≤ to) × (to ≤ length (own_pointers node)) }
+    requires sound { (node : NodeValue) → fresh_at land.old.blocks.draft at ≡ Some node
+        → IsNode land.old.space.sizes.nodesize node }
+    requires within { (node : NodeValue) → fresh_at land.old.blocks.draft at ≡ Some node
+        → (from ≤ to) × (to ≤ length (own_pointers node)) }
     requires few { (1 ≤ length new.now) × (length new.now ≤ 2) × (length new.now ≤ to - from + 1) }
-    ensures rewritten { (node : NodeValue) → fresh_at land.old.blocks.draft at ≡ Some node → IsRewritten land.old land.new at node }
+    ensures rewritten { (node : NodeValue) → fresh_at land.old.blocks.draft at ≡ Some node
+        → IsRewritten land.old land.new at node }
     ensures cut { (node : NodeValue) → fresh_at land.old.blocks.draft at ≡ Some node
-        → IfOk result (λ rest. IsCutThere land.old.space.sizes.nodesize land.new at node (with_pointers node (spliced from to new.now (own_pointers node))) rest) }
+        → IfOk result (λ rest. IsCutThere land.old.space.sizes.nodesize land.new at node
+        (with_pointers node (spliced from to new.now (own_pointers node))) rest) }
     ensures fits { length new.now ≤ to - from → IfOk result (λ rest. rest ≡ None) }
     ensures fails { FailsInPlace land.old at (λ node. CanSplice from to new.now node)
         (λ node. IsBrokenUnless rule.Refs node (CanSplice from to new.now node)) result }

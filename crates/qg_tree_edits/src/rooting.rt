@@ -32,8 +32,8 @@ use std::sync::ledger::Ledger;
 // The highest level of a node.
 const HIGHEST: u8 = 7;
 
-// Gives the tree its root, once what stands in the place of the old one is known: a node above two, the child of a node with one
-// pointer, or the node itself.
+// Gives the tree its root, once what stands in the place of the old one is known: a node above two, the child of a node
+// with one pointer, or the node itself.
 pub(crate) fn set_root<P: TreePart, D: Disk, L: Ledger, B: Book<D, L>>(
     tree: &mut Tree,
     alloc: Global,
@@ -152,8 +152,10 @@ fn shrink<P: TreePart, D: Disk, L: Ledger, B: Book<D, L>>(
 fn clear_at(land: &mut Ground, at: Address)
     requires size { IsNodeSize land.old.space.sizes.nodesize }
     requires fresh { IsSome (fresh_at land.old.blocks.draft at) }
-    ensures cleared { (node : NodeValue) → fresh_at land.old.blocks.draft at ≡ Some node → IsRewritten land.old land.new at node }
-    ensures here { (node : NodeValue) → fresh_at land.old.blocks.draft at ≡ Some node → fresh_at land.new.blocks.draft at ≡ Some (cleared node) }
+    ensures cleared { (node : NodeValue) → fresh_at land.old.blocks.draft at ≡ Some node
+        → IsRewritten land.old land.new at node }
+    ensures here { (node : NodeValue) → fresh_at land.old.blocks.draft at ≡ Some node
+        → fresh_at land.new.blocks.draft at ≡ Some (cleared node) }
 {
     clear(land.blocks.get_mut(at));
 }

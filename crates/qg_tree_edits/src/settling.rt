@@ -1,5 +1,7 @@
-// A child was edited: the pointers of its node are set, and a child that is not a quarter full is joined with its neighbour.
-ghost use Rattle.std.specs.Prelude.{◌≡◌, ◌+◌, ◌-◌, ◌*◌, ◌<◌, ◌≤◌, ℕ, List, Option, None, Some, IfOk, IsSome, IsTrue, false, length};
+// A child was edited: the pointers of its node are set, and a child that is not a quarter full is joined with its
+// neighbour.
+ghost use Rattle.std.specs.Prelude.{◌≡◌, ◌+◌, ◌-◌, ◌*◌, ◌<◌, ◌≤◌, ℕ, List, Option, None, Some, IfOk, IsSome, IsTrue};
+ghost use Rattle.std.specs.Prelude.{false, length};
 ghost use Rattle.qg_device.specs.History.{Event};
 ghost use Rattle.qg_node.specs.declared.item.Item.{Item as ItemValue};
 ghost use Rattle.qg_node.specs.declared.node.Node.{Node as NodeValue};
@@ -12,9 +14,11 @@ ghost use Rattle.qg_image.specs.declared.tree.Tree.{Tree as TreeValue};
 ghost use Rattle.qg_shape.specs.Filled.{IsThin};
 ghost use Rattle.qg_shape.specs.Parts.{IsInner};
 ghost use Rattle.qg_blocks.specs.Told.{fresh_at};
-ghost use Rattle.qg_tree_edits.specs.Editing.{CanLead, HasLed, IsNamed, IsRewritten, IsUnsettled, OfEach, StandsInstead, StaysCut, alone};
+ghost use Rattle.qg_tree_edits.specs.Editing.{CanLead, HasLed, IsNamed, IsRewritten, IsUnsettled, OfEach};
+ghost use Rattle.qg_tree_edits.specs.Editing.{StandsInstead, StaysCut, alone};
 ghost use Rattle.qg_ground.specs.Calls.{KeepsBook, LeavesBe};
-ghost use Rattle.qg_tree_edits.specs.Steps.{FailsToLead, FailsToSettle, HasNodeSize, HasPlace, IsReadyFor, IsThinOn, SetsPointers, SettlesItems};
+ghost use Rattle.qg_tree_edits.specs.Steps.{FailsToLead, FailsToSettle, HasNodeSize, HasPlace, IsReadyFor, IsThinOn};
+ghost use Rattle.qg_tree_edits.specs.Steps.{SetsPointers, SettlesItems};
 
 use crate::instead::Instead;
 use crate::joining::unite;
@@ -30,8 +34,8 @@ use qg_shape::{is_thin, pointer_to};
 use std::alloc::Global;
 use std::sync::ledger::Ledger;
 
-// Sets the pointers of the fresh node at an address to what stands in the place of one of its children, which are of a level. Where the
-// node then has too much, the answer is what was cut off.
+// Sets the pointers of the fresh node at an address to what stands in the place of one of its children, which are of a
+// level. Where the node then has too much, the answer is what was cut off.
 pub(crate) fn settle<P: TreePart, D: Disk, L: Ledger, B: Book<D, L>>(
     tree: &Tree,
     alloc: Global,
@@ -70,7 +74,8 @@ pub(crate) fn settle<P: TreePart, D: Disk, L: Ledger, B: Book<D, L>>(
     lead_to(land, at, place, place + 1, child)
 }
 
-// Joins a child that is not a quarter full with its neighbour, and sets the pointers of the fresh node at an address to both.
+// Joins a child that is not a quarter full with its neighbour, and sets the pointers of the fresh node at an address to
+// both.
 fn join_child<P: TreePart, D: Disk, L: Ledger, B: Book<D, L>>(
     tree: &Tree,
     alloc: Global,
@@ -112,9 +117,11 @@ fn join_child<P: TreePart, D: Disk, L: Ledger, B: Book<D, L>>(
 fn is_too_thin(land: &Ground, child: &Instead) -> bool
     requires size { IsNodeSize land.now.blocks.draft.sizes.nodesize }
     requires fresh { IsSome (fresh_at land.now.blocks.draft child.now.now) }
-    ensures thin { IsTrue result → (child.entry.now ≡ alone child.entry.now.now) × ((node : NodeValue) → fresh_at land.now.blocks.draft child.entry.now.now ≡ Some node
+    ensures thin { IsTrue result → (child.entry.now ≡ alone child.entry.now.now)
+        × ((node : NodeValue) → fresh_at land.now.blocks.draft child.entry.now.now ≡ Some node
         → IsThin land.now.blocks.draft.sizes.nodesize node) }
-    ensures full { result ≡ false → child.entry.now.more ≡ None → (node : NodeValue) → fresh_at land.now.blocks.draft child.entry.now.now ≡ Some node
+    ensures full { result ≡ false → child.entry.now.more ≡ None → (node : NodeValue)
+        → fresh_at land.now.blocks.draft child.entry.now.now ≡ Some node
         → IsThin land.now.blocks.draft.sizes.nodesize node → ⊥ }
 {
     match child.more {
@@ -123,8 +130,8 @@ fn is_too_thin(land: &Ground, child: &Instead) -> bool
     }
 }
 
-// Sets pointers of the fresh node at an address, from one index up to another, to what stands there instead. Where the node then has too
-// much, the answer is what was cut off.
+// Sets pointers of the fresh node at an address, from one index up to another, to what stands there instead. Where the
+// node then has too much, the answer is what was cut off.
 fn lead_to(
     land: &mut Ground,
     at: Address,
@@ -134,13 +141,18 @@ fn lead_to(
 ) -> Result<Option<Node>, BlockFault>
     requires sizes { HasNodeSize land.old }
     requires fresh { OfEach (IsNamed land.old) instead }
-    requires parent { (node : NodeValue) × (fresh_at land.old.blocks.draft at ≡ Some node) × IsInner node × IsNode land.old.space.sizes.nodesize node × (to ≤ length (own_pointers node)) }
+    requires parent { (node : NodeValue) × (fresh_at land.old.blocks.draft at ≡ Some node) × IsInner node
+        × IsNode land.old.space.sizes.nodesize node × (to ≤ length (own_pointers node)) }
     requires some { (from < to) × (to ≤ from + 2) }
-    ensures rewritten { (node : NodeValue) → fresh_at land.old.blocks.draft at ≡ Some node → IsRewritten land.old land.new at node }
-    ensures rest { (node : NodeValue) → fresh_at land.old.blocks.draft at ≡ Some node → IfOk result (λ rest. StaysCut land.old.space.sizes.nodesize node land.new at rest) }
-    ensures led { (tree : TreeValue) (super : SuperValue) (history : Option (List Event)) (level : ℕ) (pointers : List PointerValue) (header : HeaderValue) (items : List ItemValue)
+    ensures rewritten { (node : NodeValue) → fresh_at land.old.blocks.draft at ≡ Some node
+        → IsRewritten land.old land.new at node }
+    ensures rest { (node : NodeValue) → fresh_at land.old.blocks.draft at ≡ Some node
+        → IfOk result (λ rest. StaysCut land.old.space.sizes.nodesize node land.new at rest) }
+    ensures led { (tree : TreeValue) (super : SuperValue) (history : Option (List Event)) (level : ℕ)
+        (pointers : List PointerValue) (header : HeaderValue) (items : List ItemValue)
         → CanLead tree super land.old history level at from to instead pointers header items
-        → IfOk result (λ rest. HasLed tree super land.old land.new history level at from to instead pointers header items rest) }
+        → IfOk result (λ rest. HasLed tree super land.old land.new history level at from to instead pointers header
+        items rest) }
     ensures fails { FailsToLead land.old at from to instead result }
     ensures fits { to ≡ from + 2 → IfOk result (λ rest. rest ≡ None) }
     ensures whole { instead.more ≡ None → IfOk result (λ rest. rest ≡ None) }

@@ -90,7 +90,8 @@ module _ (old new : Book) (at : ℕ) (what : What) (reference : Reference) (grow
     each = λ one there.
         or_left (recorded new one) false
         (grown old new at what reference one grows
-        ∙ or_right (same_record one (ReferenceTo at reference)) (same_record one (record_known at what) || recorded old one)
+        ∙ or_right (same_record one (ReferenceTo at reference)) (same_record one (record_known at what)
+        || recorded old one)
         (or_right (same_record one (record_known at what)) (recorded old one) there));
   }
 

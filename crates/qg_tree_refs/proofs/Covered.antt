@@ -7,8 +7,8 @@ use Rattle.qg_image.specs.Need.{file_copies, nodes_filled}
 use Rattle.qg_tree_refs.specs.Heavier.{edit_bytes, name_new_bytes}
 use Rattle.qg_tree_refs.specs.Need.{GetsHeavierBy}
 
--- where so many nodes hold the bytes before, and one node fewer than so many doesn't hold those after; `m` is three more
--- than the pieces, and `l` the level
+-- where so many nodes hold the bytes before, and one node fewer than so many doesn't hold those after; `m` is three
+-- more than the pieces, and `l` the level
 module _ (c f g m l before after : ℕ) (wide : 3995 ≤ c) (holds : before ≤ c * f) (fills : c * g ≤ after + (c - 1))
     (most : after ≤ before + m * ((2 * l + 9) * (74 + c)) + m * 204) where
   levels-wide : 3995 * (m * l) ≤ c * (m * l)

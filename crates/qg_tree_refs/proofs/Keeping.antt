@@ -1,5 +1,6 @@
 -- What a copy, a node that is made and one that is left leave standing of a subvolume's book, of nodes and of space.
-use Rattle.std.proofs.Common.{◌≡◌, ◌≢◌, ℕ, zero, suc, ◌+◌, ◌-◌, ◌<◌, ◌≤◌, Bool, true, false, List, [], ◌∷◌, ◌++◌, length, map, Option, Some, None, arith, refl, sym, ap, subst, ◌∙◌, inl, inr}
+use Rattle.std.proofs.Common.{◌≡◌, ◌≢◌, ℕ, zero, suc, ◌+◌, ◌-◌, ◌<◌, ◌≤◌, Bool, true, false, List, [], ◌∷◌, ◌++◌}
+use Rattle.std.proofs.Common.{length, map, Option, Some, None, arith, refl, sym, ap, subst, ◌∙◌, inl, inr}
 use Rattle.std.specs.Prelude.{◌⊎◌, ◌==◌, IsSome, nat_lt, if◌then◌else◌}
 use Rattle.std.specs.List.{filter_map, flat_map}
 use Rattle.std.proofs.lemmas.Bool.{lt-ltb}
@@ -30,12 +31,15 @@ use Rattle.qg_refs.specs.Book.{IsBook, references_at, what_in}
 use Rattle.qg_extents.specs.Table.{book_of}
 use Rattle.qg_tree_refs.specs.declared.tree_refs.TreeRefs.{TreeRefs}
 use Rattle.qg_tree_refs.specs.Exchange.{Exchange, Exchanges, times, what_comes}
-use Rattle.qg_tree_refs.specs.Following.{comes, copying_in, exchange_by_copy, exchange_by_leaving, leaving_in, placed_by, references_to}
+use Rattle.qg_tree_refs.specs.Following.{comes, copying_in, exchange_by_copy, exchange_by_leaving, leaving_in}
+use Rattle.qg_tree_refs.specs.Following.{placed_by, references_to}
 use Rattle.qg_tree_refs.specs.Settled.{IsSettled, what_of}
 use Rattle.qg_tree_refs.proofs.Counted.{many}
 use Rattle.qg_tree_refs.proofs.Keyed.{keyed-under}
 use Rattle.qg_tree_refs.proofs.Owings.{children-alike, many-alike, many-cons, shared-no_block, times-cons}
-use Rattle.qg_tree_refs.proofs.Placing.{IsLetGo, come-elsewhere, fresh-left, gone-there, held-same, known-alike, known-come, known-kept, led-alike, led-before, led-come, slot-beside, slot-elsewhere, slot-taken, unknown-gone}
+use Rattle.qg_tree_refs.proofs.Placing.{IsLetGo, come-elsewhere, fresh-left, gone-there, held-same, known-alike}
+use Rattle.qg_tree_refs.proofs.Placing.{known-come, known-kept, led-alike, led-before, led-come, slot-beside}
+use Rattle.qg_tree_refs.proofs.Placing.{slot-elsewhere, slot-taken, unknown-gone}
 use Rattle.qg_tree_refs.proofs.Settling.{HasCome, HasGone, HasStayed, IsSettled-each}
 use Rattle.qg_tree_refs.proofs.Times.{times-nil, times_there}
 

@@ -1,5 +1,6 @@
 -- A node that is left where references lead to it still: its level is the one that is known.
-use Rattle.std.proofs.Common.{◌≡◌, ℕ, zero, suc, ◌+◌, ◌<◌, ◌≤◌, Bool, true, false, List, [], ◌∷◌, ◌++◌, length, Option, Some, None, arith, refl, sym, ap, ◌∙◌}
+use Rattle.std.proofs.Common.{◌≡◌, ℕ, zero, suc, ◌+◌, ◌<◌, ◌≤◌, Bool, true, false, List, [], ◌∷◌, ◌++◌, length, Option}
+use Rattle.std.proofs.Common.{Some, None, arith, refl, sym, ap, ◌∙◌}
 use Rattle.std.specs.Prelude.{◌&&◌, ◌==◌, not, nat_lt, if◌then◌else◌, unwrap_or}
 use Rattle.std.specs.Option.{option_map}
 use Rattle.std.proofs.lemmas.Bool.{eq-eqb, eqb-true, lt-ltb, ltb-true}
@@ -22,7 +23,8 @@ use Rattle.qg_refs.proofs.Counting.{count-cons, count-nil}
 use Rattle.qg_extents.specs.Table.{IsTable, book_of}
 use Rattle.qg_tree_refs.specs.declared.tree_refs.TreeRefs.{TreeRefs}
 use Rattle.qg_tree_refs.specs.Exchange.{Exchange, Exchanges, times}
-use Rattle.qg_tree_refs.specs.Following.{exchange_by_leaving, is_of_level, leaving_in, other_level, placed_by, references_to}
+use Rattle.qg_tree_refs.specs.Following.{exchange_by_leaving, is_of_level, leaving_in, other_level, placed_by}
+use Rattle.qg_tree_refs.specs.Following.{references_to}
 use Rattle.qg_tree_refs.proofs.Counted.{many, total, total-cons}
 use Rattle.qg_tree_refs.proofs.Keeping.{bare-keyed}
 use Rattle.qg_tree_refs.proofs.Owings.{children-alike, many-alike, many-cons, shared-no_block, times-cons}
@@ -112,7 +114,8 @@ module _ (old new : TreeRefs) (node : Node) (table : IsTable old.refs)
       let all = only_one (references_at (book_of old.refs) at) (KeyedBlock old.tree) few was_there most in
       let moved = total-moved (book_of old.refs) (book_of new.refs)
       (exchange_by_leaving (book_of old.refs) old.tree node) None table.book done at in
-      let none = bare_gains (leaving_in (book_of old.refs) old.tree node) (placed_by (book_of old.refs) node) at no_items
+      let none = bare_gains (leaving_in (book_of old.refs) old.tree node) (placed_by (book_of old.refs) node) at
+      no_items
       no_pointers in
       let lost = many-cons (way_to at old.tree) others at in
       let one = ap {B = ℕ} (λ (b : Bool). if b then 1 else 0) (eq-eqb at at refl) in
@@ -133,7 +136,8 @@ module _ (old new : TreeRefs) (node : Node) (table : IsTable old.refs)
       few_from : (n : ℕ) → nat_lt 1 n ≡ false → n ≤ 1
       few_from zero is = omega arith
       few_from (suc zero) is = omega arith
-      few_from (suc (suc n)) is = let many_there : nat_lt 1 (suc (suc n)) ≡ true = lt-ltb 1 (suc (suc n)) (omega arith) in cc
+      few_from (suc (suc n)) is = let many_there : nat_lt 1 (suc (suc n)) ≡ true =
+          lt-ltb 1 (suc (suc n)) (omega arith) in cc
 
       several : (b : Bool) → nat_lt 1 (references_to (book_of old.refs) at) ≡ b
           → nat_lt 1 (references_to (book_of old.refs) at) ≡ true

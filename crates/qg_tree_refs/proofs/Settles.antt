@@ -1,4 +1,5 @@
--- What a subvolume's book leaves standing where no misfit is met: after a copy, a node that is made and one that is left.
+-- What a subvolume's book leaves standing where no misfit is met: after a copy, a node that is made and one that is
+-- left.
 use Rattle.std.proofs.Common.{◌≡◌, ◌≢◌, ℕ, ◌<◌, List, [], Option, Some, None, refl, sym, ap, subst, ◌∙◌, inl, inr}
 use Rattle.std.specs.Prelude.{◌⊎◌, IsSome}
 use Rattle.std.specs.Option.{option_or}
@@ -122,7 +123,8 @@ Settled-left old new before land after history at node table settled step level 
     let known_there = subst (λ (a : ℕ). 0 < references_to (book_of new.refs) a
     → (what : What) × (what_in (book_of new.refs a) ≡ Some what) × (what.level ≡ Some (header_of node).level))
     emptied.address known in
-    IsSettled-left old new before land after history at node was table.book done nodesize next emptied known_there let_go
+    IsSettled-left old new before land after history at node was table.book done nodesize next emptied known_there
+    let_go
     sizes
 
 -- ---- what a tree does to land, in these words

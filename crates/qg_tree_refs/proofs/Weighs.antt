@@ -16,7 +16,8 @@ use Rattle.qg_weighed.proofs.Recorded.{Table, adds-grows, drops-grows}
 use Rattle.qg_tree_refs.specs.Exchange.{Exchange, Exchanges}
 use Rattle.qg_tree_refs.specs.Heavier.{GetsHeavier, owings_bytes}
 use Rattle.qg_tree_refs.proofs.Besides.{GetsHeavier-besides}
-use Rattle.qg_tree_refs.proofs.Changed.{HasBesides-exchanged, HasBesides-grown, HasBesides-shrunk, added-bytes, gained-bytes}
+use Rattle.qg_tree_refs.proofs.Changed.{HasBesides-exchanged, HasBesides-grown, HasBesides-shrunk, added-bytes}
+use Rattle.qg_tree_refs.proofs.Changed.{gained-bytes}
 use Rattle.qg_tree_refs.proofs.Changed.{records_added, records_gained}
 
 pub GetsHeavier-added : (old new : Table) (at : ℕ) (what : What) (reference : Reference) → IsTable old → IsTable new

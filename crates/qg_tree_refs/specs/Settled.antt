@@ -1,4 +1,5 @@
--- What stands of a subvolume's book, of nodes and of space between two edits of its tree (this project's own). Addresses are in bytes.
+-- What stands of a subvolume's book, of nodes and of space between two edits of its tree (this project's own).
+-- Addresses are in bytes.
 use Rattle.std.specs.Prelude.{◌≡◌, ◌⊎◌, ℕ, ◌<◌, List, Option, Some, None, IsSome, IsTrue, Contains, nat_lt}
 use Rattle.qg_device.specs.History.{Event}
 use Rattle.qg_node.specs.declared.node.Node.{Node}
@@ -17,9 +18,9 @@ use Rattle.qg_tree_refs.specs.Following.{references_to}
 abbrev pub what_of : ℕ → ℕ → Node → What
 what_of bytes generation node = record { bytes = bytes; level = Some (header_of node).level; generation = generation }
 
--- The present state has a slot exactly where references lead to it, and what lies there is fresh, or the last commit holds it. Of a
--- fresh node the book knows the level, and the generation to come, and of no other node this generation; of one that references lead to
--- and that a disk tells, level and generation
+-- The present state has a slot exactly where references lead to it, and what lies there is fresh, or the last commit
+-- holds it. Of a fresh node the book knows the level, and the generation to come, and of no other node this generation;
+-- of one that references lead to and that a disk tells, level and generation
 pub record IsSettled (book : TreeRefs) (land : Ground) (history : Option (List Event)) : Type 0 where
   pub slots : (at : ℕ) → IsTrue (is_slot land.space.sizes at)
       → has_slot land.space at ≡ nat_lt 0 (references_to (book_of book.refs) at)
@@ -27,8 +28,14 @@ pub record IsSettled (book : TreeRefs) (land : Ground) (history : Option (List E
       → IsSome (fresh_at land.blocks.draft at) ⊎ Contains land.space.held_slots at
   pub fresh : (at : ℕ) (node : Node) → fresh_at land.blocks.draft at ≡ Some node
       → what_in (book_of book.refs at) ≡ Some (what_of book.nodesize book.next node)
-  pub newer : (at level : ℕ) → what_in (book_of book.refs at) ≡ Some (record { bytes = book.nodesize; level = Some level; generation = book.next })
+  pub newer : (at level : ℕ)
+      → what_in (book_of book.refs at) ≡ Some (record {
+        bytes = book.nodesize;
+        level = Some level;
+        generation = book.next;
+      })
       → IsSome (fresh_at land.blocks.draft at)
-  pub clean : (at : ℕ) (node : Node) → fresh_at land.blocks.draft at ≡ None → told land.blocks.draft history at ≡ Some node
+  pub clean : (at : ℕ) (node : Node) → fresh_at land.blocks.draft at ≡ None
+      → told land.blocks.draft history at ≡ Some node
       → 0 < references_to (book_of book.refs) at
       → what_in (book_of book.refs at) ≡ Some (what_of book.nodesize (header_of node).generation node)

@@ -4,8 +4,8 @@ ghost use Rattle.qg_tree_refs.specs.Laws.{FollowsWeighs, StepWeighs};
 ghost use Rattle.qg_tree_refs.specs.Need.{NeedCovers, NeedLeaves};
 
 /// A law: whatever the last commit recorded, references that come make the extent tree's items heavier by no more than
-/// what stands for them, and references that go make them no heavier (this project's own). So it is of what a tree tells
-/// its book, where no misfit is met.
+/// what stands for them, and references that go make them no heavier (this project's own). So it is of what a tree
+/// tells its book, where no misfit is met.
 pub fn heavier_law()
     ensures adds { AddsWeigh }
     ensures drops { DropsWeigh }

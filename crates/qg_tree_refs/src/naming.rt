@@ -10,12 +10,13 @@ use qg_num::{Address, NoMemory};
 use qg_refs::{Reference, What};
 
 impl TreeRefs {
-    /// One reference more to an extent of so many bytes, and whether it may be there once more; where not, nothing changes. Of an extent that
-    /// has a reference already what is known stays.
+    /// One reference more to an extent of so many bytes, and whether it may be there once more; where not, nothing
+    /// changes. Of an extent that has a reference already what is known stays.
     pub fn name(&mut self, at: Address, bytes: u64, reference: Reference) -> Result<bool, NoMemory>
         ensures given { IfOk result (λ given. given ≡ true → Adds (book_of self.old.refs) (book_of self.new.refs) at
             (record { bytes = bytes; level = None; generation = self.old.next }) reference) }
-        ensures room { IfOk result (λ given. given ≡ nat_lt (count_at (book_of self.old.refs) at reference) (greatest_count reference)) }
+        ensures room { IfOk result (λ given. given ≡ nat_lt (count_at (book_of self.old.refs) at reference)
+            (greatest_count reference)) }
         ensures same { IfOk result (λ given. given ≡ false → self.new ≡ self.old) }
         ensures others { self.new ≡ record self.old { refs = self.new.refs } }
         ensures err { OnErr result (self.new ≡ self.old) }

@@ -216,14 +216,15 @@ impl TreeRefs {
         Ok(())
     }
 
-    /// The subvolume reaches the node no more: its own reference to it is gone before, or the reference is that of a node
-    /// above which stays. `full` says whether the node was full, which a book forgets with the last reference. The answer
-    /// is what became of it.
+    /// The subvolume reaches the node no more: its own reference to it is gone before, or the reference is that of a
+    /// node above which stays. `full` says whether the node was full, which a book forgets with the last reference. The
+    /// answer is what became of it.
     pub fn part_with(&mut self, node: &Node, full: bool) -> Result<Leaving, NoMemory>
         ensures case { IfOk result (λ case. case
             ≡ parting_in (book_of self.old.refs) self.old.tree (record { node = node.now; full = full })) }
         ensures done { OnOk result (IsExchanged self.old
-            (exchange_by_parting (book_of self.old.refs) self.old.tree (record { node = node.now; full = full })) self.new) }
+            (exchange_by_parting (book_of self.old.refs) self.old.tree (record { node = node.now; full = full }))
+            self.new) }
         ensures kept { (self.new.tree ≡ self.old.tree) × (self.new.nodesize ≡ self.old.nodesize)
             × (self.new.next ≡ self.old.next) }
     {

@@ -1,5 +1,6 @@
 -- The failures of a walk, step by step.
-use Rattle.std.proofs.Common.{◌≡◌, ℕ, zero, suc, ◌-◌, ◌≤◌, true, false, [], ◌∷◌, arith, refl, sym, ap, ◌∙◌, subst, Option, Some, None}
+use Rattle.std.proofs.Common.{◌≡◌, ℕ, zero, suc, ◌-◌, ◌≤◌, true, false, [], ◌∷◌, arith, refl, sym, ap, ◌∙◌, subst}
+use Rattle.std.proofs.Common.{Option, Some, None}
 use Rattle.std.specs.Prelude.{Bool, ◌&&◌, List, IfSome, Result, Ok, Err}
 use Rattle.std.specs.List.{list_all}
 use Rattle.std.proofs.lemmas.Bool.{and_parts, eqb-true}
@@ -18,7 +19,8 @@ use Rattle.qg_image.specs.declared.failure.Failure.{Failure}
 use Rattle.qg_image.specs.declared.tree.Tree.{Tree}
 use Rattle.qg_image.specs.declared.expected.Expected.{Expected}
 use Rattle.qg_image.specs.Failure.{first_failure, unless}
-use Rattle.qg_image.specs.Walk.{begins_at, deepest, ends_before, found_failure, is_generation, is_item_of, is_owner, is_told, node_failure, pointers_failure, shape_failure, walk_failure, way_failure}
+use Rattle.qg_image.specs.Walk.{begins_at, deepest, ends_before, found_failure, is_generation, is_item_of, is_owner}
+use Rattle.qg_image.specs.Walk.{is_told, node_failure, pointers_failure, shape_failure, walk_failure, way_failure}
 use Rattle.qg_walk.specs.declared.fault.OpenFault.{OpenFault}
 use Rattle.qg_walk.specs.declared.fault.OpenFault.TheVariants.{Disk}
 use Rattle.qg_walk.specs.Fault.{FailsAs, TellsFailure, failure_of}
@@ -27,8 +29,10 @@ use Rattle.qg_walk.specs.Standing.{expected_below, form_failure, levels_below, s
 -- ---- faults
 
 -- a fault that tells this failure tells the first one
-pub TellsFailure-of : (fault : OpenFault) (failure : Failure) (first : Option Failure) → failure_of fault ≡ Some failure → first ≡ Some failure → TellsFailure fault first
-TellsFailure-of fault failure first told is = subst (λ (told : Option Failure). IfSome told (λ (failure : Failure). first ≡ Some failure)) (sym told) is
+pub TellsFailure-of : (fault : OpenFault) (failure : Failure) (first : Option Failure) → failure_of fault ≡ Some failure
+    → first ≡ Some failure → TellsFailure fault first
+TellsFailure-of fault failure first told is =
+    subst (λ (told : Option Failure). IfSome told (λ (failure : Failure). first ≡ Some failure)) (sym told) is
 
 -- and is none of the disk
 pub told-no_disk : (fault : OpenFault) (failure : Failure) → failure_of fault ≡ Some failure → fault ≡ Disk → ⊥
@@ -58,7 +62,8 @@ third_alone : (a b c : Option Failure) → first_failure (a ∷ b ∷ []) ≡ No
 third_alone a b None h = let parts = neither a b h in rw (parts.0, parts.1) refl
 third_alone a b (Some failure) h = let parts = neither a b h in rw (parts.0, parts.1) refl
 
-third_later : (a b c : Option Failure) (failure : Failure) → first_failure (a ∷ b ∷ []) ≡ Some failure → first_failure (a ∷ b ∷ c ∷ []) ≡ Some failure
+third_later : (a b c : Option Failure) (failure : Failure) → first_failure (a ∷ b ∷ []) ≡ Some failure
+    → first_failure (a ∷ b ∷ c ∷ []) ≡ Some failure
 third_later None None c failure h = absurd cc
 third_later None (Some b) c failure h = h
 third_later (Some a) b c failure h = h
@@ -70,7 +75,8 @@ kept-none false broken address h = absurd cc
 -- ---- one node
 
 four_kept : (a b c d : Bool) (address : ℕ)
-    → first_failure (unless a rule.Depth address ∷ unless b rule.Owner address ∷ unless c rule.Gen address ∷ unless d rule.Range address ∷ []) ≡ None → (a ≡ true) × (d ≡ true)
+    → first_failure (unless a rule.Depth address ∷ unless b rule.Owner address ∷ unless c rule.Gen address
+    ∷ unless d rule.Range address ∷ []) ≡ None → (a ≡ true) × (d ≡ true)
 four_kept true true true true address h = (refl, refl)
 four_kept true true true false address h = absurd cc
 four_kept true true false d address h = absurd cc
@@ -83,7 +89,8 @@ pub record IsFormed (expected : Expected) (node : Node) : Type 0 where
   pub begins : begins_at expected.from (own_keys node) ≡ true
   pub ends : ends_before expected.to (own_keys node) ≡ true
 
-pub IsFormed-way : (tree : Tree) (super : Super) (expected : Expected) (address : ℕ) (node : Node) → way_failure tree super expected address node ≡ None → IsFormed expected node
+pub IsFormed-way : (tree : Tree) (super : Super) (expected : Expected) (address : ℕ) (node : Node)
+    → way_failure tree super expected address node ≡ None → IsFormed expected node
 unfolding way_failure
 IsFormed-way tree super expected address node none =
     let begins = begins_at expected.from (own_keys node) in
@@ -93,47 +100,63 @@ IsFormed-way tree super expected address node none =
     let parts = and_parts begins ends both.1 in
     record { level = both.0; begins = parts.0; ends = parts.1 }
 
-pub IsFormed-form : (tree : Tree) (super : Super) (expected : Expected) (address : ℕ) (node : Node) → form_failure tree super expected address node ≡ None → IsFormed expected node
+pub IsFormed-form : (tree : Tree) (super : Super) (expected : Expected) (address : ℕ) (node : Node)
+    → form_failure tree super expected address node ≡ None → IsFormed expected node
 IsFormed-form tree super expected address node none =
-    IsFormed-way tree super expected address node (neither (way_failure tree super expected address node) (shape_failure super.nodesize expected address node) none).0
+    IsFormed-way tree super expected address node
+    (neither (way_failure tree super expected address node) (shape_failure super.nodesize expected address node)
+    none).0
 
-pub node_failure-formed : (tree : Tree) (super : Super) (expected : Expected) (address : ℕ) (node : Node) → form_failure tree super expected address node ≡ None
-    → node_failure tree super expected address node ≡ unless (list_all (is_item_of tree super.generation) (own_items node)) rule.Item address
+pub node_failure-formed : (tree : Tree) (super : Super) (expected : Expected) (address : ℕ) (node : Node)
+    → form_failure tree super expected address node ≡ None
+    → node_failure tree super expected address node
+    ≡ unless (list_all (is_item_of tree super.generation) (own_items node)) rule.Item address
 unfolding node_failure
 node_failure-formed tree super expected address node none =
     third_alone (way_failure tree super expected address node) (shape_failure super.nodesize expected address node)
     (unless (list_all (is_item_of tree super.generation) (own_items node)) rule.Item address) none
 
-pub node_failure-form : (tree : Tree) (super : Super) (expected : Expected) (address : ℕ) (node : Node) (failure : Failure)
-    → form_failure tree super expected address node ≡ Some failure → node_failure tree super expected address node ≡ Some failure
+pub node_failure-form : (tree : Tree) (super : Super) (expected : Expected) (address : ℕ) (node : Node)
+    (failure : Failure)
+    → form_failure tree super expected address node ≡ Some failure
+    → node_failure tree super expected address node ≡ Some failure
 unfolding node_failure
 node_failure-form tree super expected address node failure is =
     third_later (way_failure tree super expected address node) (shape_failure super.nodesize expected address node)
     (unless (list_all (is_item_of tree super.generation) (own_items node)) rule.Item address) failure is
 
 -- where a node of a level that was told is read, there are no more levels than a walk looks at
-pub level_within : (told : Option ℕ) (level depth : ℕ) → is_told told level ≡ true → level ≤ 7 → levels_below told ≤ depth → level ≤ depth
+pub level_within : (told : Option ℕ) (level depth : ℕ) → is_told told level ≡ true → level ≤ 7
+    → levels_below told ≤ depth → level ≤ depth
 level_within None level depth is low h = omega arith
 level_within (Some told) level depth is low h = let same = eqb-true told level is in omega arith
 
 -- ---- the walk at one node
 
-found-standing : (tree : Tree) (super : Super) (walk : Expected → ℕ → Option Failure) (expected : Expected) (address : ℕ) (found : Result Node Failure) (failure : Failure)
-    → standing_failure tree super expected address found ≡ Some failure → found_failure (node_failure tree super) walk expected address found ≡ Some failure
+found-standing : (tree : Tree) (super : Super) (walk : Expected → ℕ → Option Failure) (expected : Expected)
+    (address : ℕ) (found : Result Node Failure) (failure : Failure)
+    → standing_failure tree super expected address found ≡ Some failure
+    → found_failure (node_failure tree super) walk expected address found ≡ Some failure
 found-standing tree super walk expected address (Err other) failure is = is
-found-standing tree super walk expected address (Ok node) failure is = rw (node_failure-form tree super expected address node failure is) refl
+found-standing tree super walk expected address (Ok node) failure is =
+    rw (node_failure-form tree super expected address node failure is) refl
 
-pub walk-standing : (tree : Tree) (super : Super) (found : ℕ → Result Node Failure) (depth : ℕ) (expected : Expected) (address : ℕ) (failure : Failure)
-    → standing_failure tree super expected address (found address) ≡ Some failure → walk_failure (node_failure tree super) found depth expected address ≡ Some failure
+pub walk-standing : (tree : Tree) (super : Super) (found : ℕ → Result Node Failure) (depth : ℕ) (expected : Expected)
+    (address : ℕ) (failure : Failure)
+    → standing_failure tree super expected address (found address) ≡ Some failure
+    → walk_failure (node_failure tree super) found depth expected address ≡ Some failure
 unfolding walk_failure
 walk-standing tree super found zero expected address failure is =
     found-standing tree super (λ expected address. None) expected address (found address) failure is
 walk-standing tree super found (suc depth) expected address failure is =
-    found-standing tree super (walk_failure (node_failure tree super) found depth) expected address (found address) failure is
+    found-standing tree super (walk_failure (node_failure tree super) found depth) expected address
+    (found address) failure is
 
-found-leaf : (tree : Tree) (super : Super) (walk : Expected → ℕ → Option Failure) (expected : Expected) (address : ℕ) (found : Result Node Failure) (header : Header) (items : List Item)
+found-leaf : (tree : Tree) (super : Super) (walk : Expected → ℕ → Option Failure) (expected : Expected) (address : ℕ)
+    (found : Result Node Failure) (header : Header) (items : List Item)
     → found ≡ Ok (Leaf header items) → form_failure tree super expected address (Leaf header items) ≡ None
-    → found_failure (node_failure tree super) walk expected address found ≡ unless (list_all (is_item_of tree super.generation) items) rule.Item address
+    → found_failure (node_failure tree super) walk expected address found
+    ≡ unless (list_all (is_item_of tree super.generation) items) rule.Item address
 found-leaf tree super walk expected address found header items is none =
     rw (is, node_failure-formed tree super expected address (Leaf header items) none)
     (first_alone (unless (list_all (is_item_of tree super.generation) items) rule.Item address)) where
@@ -141,29 +164,40 @@ found-leaf tree super walk expected address found header items is none =
       first_alone None = refl
       first_alone (Some failure) = refl
 
-pub walk-leaf : (tree : Tree) (super : Super) (found : ℕ → Result Node Failure) (depth : ℕ) (expected : Expected) (address : ℕ) (header : Header) (items : List Item)
+pub walk-leaf : (tree : Tree) (super : Super) (found : ℕ → Result Node Failure) (depth : ℕ) (expected : Expected)
+    (address : ℕ) (header : Header) (items : List Item)
     → found address ≡ Ok (Leaf header items) → form_failure tree super expected address (Leaf header items) ≡ None
-    → walk_failure (node_failure tree super) found depth expected address ≡ unless (list_all (is_item_of tree super.generation) items) rule.Item address
+    → walk_failure (node_failure tree super) found depth expected address
+    ≡ unless (list_all (is_item_of tree super.generation) items) rule.Item address
 unfolding walk_failure
 walk-leaf tree super found zero expected address header items is none =
     found-leaf tree super (λ expected address. None) expected address (found address) header items is none
 walk-leaf tree super found (suc depth) expected address header items is none =
-    found-leaf tree super (walk_failure (node_failure tree super) found depth) expected address (found address) header items is none
+    found-leaf tree super (walk_failure (node_failure tree super) found depth) expected address
+    (found address) header items is none
 
-pub walk-inner : (tree : Tree) (super : Super) (found : ℕ → Result Node Failure) (depth : ℕ) (expected : Expected) (address : ℕ) (header : Header) (pointers : List Pointer)
-    → found address ≡ Ok (Inner header pointers) → form_failure tree super expected address (Inner header pointers) ≡ None
+pub walk-inner : (tree : Tree) (super : Super) (found : ℕ → Result Node Failure) (depth : ℕ) (expected : Expected)
+    (address : ℕ) (header : Header) (pointers : List Pointer)
+    → found address ≡ Ok (Inner header pointers) → form_failure tree super expected address (Inner header pointers)
+    ≡ None
     → walk_failure (node_failure tree super) found (suc depth) expected address
     ≡ pointers_failure (walk_failure (node_failure tree super) found depth) (header.level - 1) expected.to pointers
 unfolding walk_failure
 walk-inner tree super found depth expected address header pointers is none =
-    let below = pointers_failure (walk_failure (node_failure tree super) found depth) (header.level - 1) expected.to pointers in
-    rw is (second_alone (node_failure tree super expected address (Inner header pointers)) below (node_failure-formed tree super expected address (Inner header pointers) none))
+    let below = pointers_failure (walk_failure (node_failure tree super) found depth) (header.level - 1) expected.to
+    pointers in
+    rw is (second_alone (node_failure tree super expected address (Inner header pointers)) below
+    (node_failure-formed tree super expected address (Inner header pointers) none))
 
 -- ---- the walk below pointers
 
-pub pointers-passed : (walk : Expected → ℕ → Option Failure) (level : ℕ) (to : Option Key) (pointer : Pointer) (pointers : List Pointer)
-    → walk (expected_below level to pointer pointers) pointer.child ≡ None → pointers_failure walk level to (pointer ∷ pointers) ≡ pointers_failure walk level to pointers
-pointers-passed walk level to pointer pointers none = second_alone (walk (expected_below level to pointer pointers) pointer.child) (pointers_failure walk level to pointers) none
+pub pointers-passed : (walk : Expected → ℕ → Option Failure) (level : ℕ) (to : Option Key) (pointer : Pointer)
+    (pointers : List Pointer)
+    → walk (expected_below level to pointer pointers) pointer.child ≡ None
+    → pointers_failure walk level to (pointer ∷ pointers) ≡ pointers_failure walk level to pointers
+pointers-passed walk level to pointer pointers none =
+    second_alone (walk (expected_below level to pointer pointers) pointer.child)
+    (pointers_failure walk level to pointers) none
 
 -- ---- where a walk met no failure
 
@@ -173,7 +207,8 @@ pub record IsPassed (expected : Expected) (found : Result Node Failure) : Type 0
   pub is : found ≡ Ok node
   pub level : is_told expected.level (header_of node).level ≡ true
 
-found-passed : (tree : Tree) (super : Super) (walk : Expected → ℕ → Option Failure) (expected : Expected) (address : ℕ) (found : Result Node Failure)
+found-passed : (tree : Tree) (super : Super) (walk : Expected → ℕ → Option Failure) (expected : Expected) (address : ℕ)
+    (found : Result Node Failure)
     → found_failure (node_failure tree super) walk expected address found ≡ None → IsPassed expected found
 unfolding node_failure
 found-passed tree super walk expected address (Err failure) none = absurd cc
@@ -181,13 +216,20 @@ found-passed tree super walk expected address (Ok node) none =
     let way = way_failure tree super expected address node in
     let shape = shape_failure super.nodesize expected address node in
     let items = unless (list_all (is_item_of tree super.generation) (own_items node)) rule.Item address in
-    let at_node = (neither (first_failure (way ∷ shape ∷ items ∷ [])) (pointers_failure walk ((header_of node).level - 1) expected.to (own_pointers node)) none).0 in
-    record { node = node; is = refl; level = (IsFormed-way tree super expected address node (first_none way shape items at_node)).level }
+    let at_node = (neither (first_failure (way ∷ shape ∷ items ∷ []))
+    (pointers_failure walk ((header_of node).level - 1) expected.to (own_pointers node)) none).0 in
+    record {
+      node = node;
+      is = refl;
+      level = (IsFormed-way tree super expected address node (first_none way shape items at_node)).level;
+    }
 
-pub walk-passed : (tree : Tree) (super : Super) (found : ℕ → Result Node Failure) (depth : ℕ) (expected : Expected) (address : ℕ)
+pub walk-passed : (tree : Tree) (super : Super) (found : ℕ → Result Node Failure) (depth : ℕ) (expected : Expected)
+    (address : ℕ)
     → walk_failure (node_failure tree super) found depth expected address ≡ None → IsPassed expected (found address)
 unfolding walk_failure
-walk-passed tree super found zero expected address none = found-passed tree super (λ expected address. None) expected address (found address) none
+walk-passed tree super found zero expected address none =
+    found-passed tree super (λ expected address. None) expected address (found address) none
 walk-passed tree super found (suc depth) expected address none =
     found-passed tree super (walk_failure (node_failure tree super) found depth) expected address (found address) none
 
@@ -202,25 +244,36 @@ pub level_no_higher : (told : Option ℕ) (level : ℕ) → is_told told level �
 level_no_higher None level is low = low
 level_no_higher (Some told) level is low = let same = eqb-true told level is in omega arith
 
-pub walk-told : (tree : Tree) (super : Super) (found : ℕ → Result Node Failure) (depth : ℕ) (expected : Expected) (address : ℕ) (fault : OpenFault)
-    → TellsFailure fault (standing_failure tree super expected address (found address)) → TellsFailure fault (walk_failure (node_failure tree super) found depth expected address)
+pub walk-told : (tree : Tree) (super : Super) (found : ℕ → Result Node Failure) (depth : ℕ) (expected : Expected)
+    (address : ℕ) (fault : OpenFault)
+    → TellsFailure fault (standing_failure tree super expected address (found address))
+    → TellsFailure fault (walk_failure (node_failure tree super) found depth expected address)
 walk-told tree super found depth expected address fault tells =
-    IfSome_then (failure_of fault) tells (λ failure is. walk-standing tree super found depth expected address failure is)
+    IfSome_then (failure_of fault) tells
+    (λ failure is. walk-standing tree super found depth expected address failure is)
 
 -- the walk fails as the leaf's items do
-pub FailsAs-leaf : (tree : Tree) (super : Super) (found : ℕ → Result Node Failure) (depth : ℕ) (expected : Expected) (address : ℕ) (header : Header) (items : List Item)
-    (result : Result Unit OpenFault) → found address ≡ Ok (Leaf header items) → form_failure tree super expected address (Leaf header items) ≡ None
+pub FailsAs-leaf : (tree : Tree) (super : Super) (found : ℕ → Result Node Failure) (depth : ℕ) (expected : Expected)
+    (address : ℕ) (header : Header) (items : List Item)
+    (result : Result Unit OpenFault) → found address ≡ Ok (Leaf header items)
+    → form_failure tree super expected address (Leaf header items) ≡ None
     → FailsAs result (unless (list_all (is_item_of tree super.generation) items) rule.Item address)
     → FailsAs result (walk_failure (node_failure tree super) found depth expected address)
-FailsAs-leaf tree super found depth expected address header items result is none fails = rw (walk-leaf tree super found depth expected address header items is none) fails
+FailsAs-leaf tree super found depth expected address header items result is none fails =
+    rw (walk-leaf tree super found depth expected address header items is none) fails
 
 -- the walk fails as the one below an inner node's pointers does
-pub FailsAs-inner : (tree : Tree) (super : Super) (found : ℕ → Result Node Failure) (depth : ℕ) (expected : Expected) (address : ℕ) (header : Header) (pointers : List Pointer)
-    (result : Result Unit OpenFault) → found address ≡ Ok (Inner header pointers) → form_failure tree super expected address (Inner header pointers) ≡ None
+pub FailsAs-inner : (tree : Tree) (super : Super) (found : ℕ → Result Node Failure) (depth : ℕ) (expected : Expected)
+    (address : ℕ) (header : Header) (pointers : List Pointer)
+    (result : Result Unit OpenFault) → found address ≡ Ok (Inner header pointers)
+    → form_failure tree super expected address (Inner header pointers) ≡ None
     → 1 ≤ header.level → header.level ≤ depth
-    → ((less : ℕ) → header.level - 1 ≤ less → FailsAs result (pointers_failure (walk_failure (node_failure tree super) found less) (header.level - 1) expected.to pointers))
+    → ((less : ℕ) → header.level - 1 ≤ less
+    → FailsAs result (pointers_failure (walk_failure (node_failure tree super) found less)
+    (header.level - 1) expected.to pointers))
     → FailsAs result (walk_failure (node_failure tree super) found depth expected address)
-FailsAs-inner tree super found zero expected address header pointers result is none above low fails = absurd (omega arith)
+FailsAs-inner tree super found zero expected address header pointers result is none above low fails =
+    absurd (omega arith)
 FailsAs-inner tree super found (suc depth) expected address header pointers result is none above low fails =
     rw (walk-inner tree super found depth expected address header pointers is none) (fails depth (omega arith))
 

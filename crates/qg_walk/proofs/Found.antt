@@ -17,12 +17,15 @@ pub node_found-no_slot : (super : Super) (image : List ℕ) (address : ℕ) → 
 unfolding node_found
 node_found-no_slot super image address none = rw none refl
 
-slice_range-range : (image bytes : List ℕ) (address n m : ℕ) → bytes ≡ range address n image → n ≡ m → slice_range image address (address + m) ≡ bytes
+slice_range-range : (image bytes : List ℕ) (address n m : ℕ) → bytes ≡ range address n image → n ≡ m
+    → slice_range image address (address + m) ≡ bytes
 slice_range-range image bytes address n m same long =
     let size : (address + m) - address ≡ n = omega arith in ap (λ (k : ℕ). take k (drop address image)) size ∙ sym same
 
-pub node_found-read : (super : Super) (image bytes : List ℕ) (address n : ℕ) (read : Result Node NodeFault) → is_slot (sizes_of super) address ≡ true
-    → bytes ≡ range address n image → n ≡ super.nodesize → node_read address bytes ≡ read → node_found super image address ≡ read_there address read
+pub node_found-read : (super : Super) (image bytes : List ℕ) (address n : ℕ) (read : Result Node NodeFault)
+    → is_slot (sizes_of super) address ≡ true
+    → bytes ≡ range address n image → n ≡ super.nodesize → node_read address bytes ≡ read
+    → node_found super image address ≡ read_there address read
 unfolding node_found
 node_found-read super image bytes address n read slot same long is =
     rw slot (rw (slice_range-range image bytes address n super.nodesize same long) (rw is refl))

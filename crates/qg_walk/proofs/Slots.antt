@@ -6,5 +6,6 @@ use Rattle.qg_super.proofs.Served.{SizesFit-is_served}
 use Rattle.qg_super.proofs.Slots.{slot_ends}
 
 -- a slot ends before the data area
-pub slot_inside : (sizes : Sizes) (address : ℕ) → is_served sizes ≡ true → is_slot sizes address ≡ true → address + sizes.nodesize ≤ total_bytes sizes
+pub slot_inside : (sizes : Sizes) (address : ℕ) → is_served sizes ≡ true → is_slot sizes address ≡ true
+    → address + sizes.nodesize ≤ total_bytes sizes
 slot_inside sizes address served slot = omega (arith, slot_ends sizes address (SizesFit-is_served sizes served) slot)

@@ -22,12 +22,14 @@ use Rattle.qg_walk.specs.declared.walked.Walked.{Walked}
 
 -- ---- ranges of keys
 
--- the key is not less than the one told, if one was; of keys that begin at one (`begins_at`) each is so (lemma `begins_at-all`)
+-- the key is not less than the one told, if one was; of keys that begin at one (`begins_at`) each is so (lemma
+-- `begins_at-all`)
 abbrev pub is_from : Option Key → Key → Bool
 is_from None key = true
 is_from (Some from) key = not (is_lt (key_cmp key from))
 
--- the key is less than the one told, if one was: what `ends_before` says of each of some keys (lemma `ends_before-each`)
+-- the key is less than the one told, if one was: what `ends_before` says of each of some keys (lemma
+-- `ends_before-each`)
 abbrev pub is_to : Option Key → Key → Bool
 is_to None key = true
 is_to (Some to) key = is_lt (key_cmp key to)
@@ -41,7 +43,8 @@ pub record AreWithin (from to : Option Key) (keys : List Key) : Type 0 where
 -- each pointer's key lies within a range, and is less than the next one's
 abbrev pub AreSpaced : Option Key → Option Key → List Pointer → Type 0
 AreSpaced from to [] = Unit {0}
-AreSpaced from to (pointer ∷ pointers) = IsTrue (is_from from pointer.key) × IsTrue (is_to (next_key to pointers) pointer.key) × AreSpaced from to pointers
+AreSpaced from to (pointer ∷ pointers) = IsTrue (is_from from pointer.key)
+    × IsTrue (is_to (next_key to pointers) pointer.key) × AreSpaced from to pointers
 
 -- ---- what stands below
 
@@ -54,7 +57,10 @@ pub record Below : Type 0 where
 abbrev pub below_node : Super → ℕ → List ℕ → Below
 below_node super address image =
     let level = level_in super image address in
-    record { items = items_below (nodes_of (node_found super image)) level address; nodes = nodes_below (nodes_of (node_found super image)) level address }
+    record {
+      items = items_below (nodes_of (node_found super image)) level address;
+      nodes = nodes_below (nodes_of (node_found super image)) level address;
+    }
 
 -- those from the nodes of a level that pointers lead to
 abbrev pub below_pointers : Super → ℕ → List Pointer → List ℕ → Below
@@ -72,9 +78,12 @@ pub record Found (P N : Type 0) : Type 0 where
 abbrev pub found_by : {L P N : Type 0} → (L → List P) → Walked L N → Found P N
 found_by list walked = record { parts = list walked.parts; nodes = walked.nodes }
 
--- What was found grew by what some items say, which the tree may hold, whose bodies are bytes and whose keys ascend within a range, and by what is kept of some
--- nodes, which lie in slots. Where the disk tells what it holds, those are the items and nodes that stand there
-pub record HasAdded {P N : Type 0} (tree : Tree) (meaning : Item → Option P) (keeps : N → List Node → Type 0) (super : Super) (history : Option (List Event)) (from to : Option Key) (below : List ℕ → Below) (old new : Found P N) : Type 0 where
+-- What was found grew by what some items say, which the tree may hold, whose bodies are bytes and whose keys ascend
+-- within a range, and by what is kept of some nodes, which lie in slots. Where the disk tells what it holds, those are
+-- the items and nodes that stand there
+pub record HasAdded {P N : Type 0} (tree : Tree) (meaning : Item → Option P) (keeps : N → List Node
+    → Type 0) (super : Super) (history : Option (List Event)) (from to : Option Key) (below : List ℕ
+    → Below) (old new : Found P N) : Type 0 where
   pub items : List Item
   pub nodes : List Node
   pub parts : List P

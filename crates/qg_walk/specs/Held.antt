@@ -10,7 +10,8 @@ use Rattle.qg_image.specs.declared.tree.Tree.{Tree}
 use Rattle.qg_image.specs.Walk.{is_item_of}
 
 -- each of some items, which the tree may hold in an image of this generation, says one of the parts, in their order
-pub record AreHeld {P : Type 0} (tree : Tree) (meaning : Item → Option P) (generation : ℕ) (parts : List P) : Type 0 where
+pub record AreHeld {P : Type 0} (tree : Tree) (meaning : Item → Option P) (generation : ℕ)
+    (parts : List P) : Type 0 where
   pub items : List Item
   pub held : IsTrue (list_all (is_item_of tree generation) items)
   pub said : map meaning items ≡ map (λ part. Some part) parts

@@ -11,12 +11,16 @@ use Rattle.qg_image.specs.Walk.{is_item_of, node_found, tree_failure}
 use Rattle.qg_image.specs.ItemsUnder.{items_under, nodes_under}
 use Rattle.qg_image.specs.ImageState.{level_in, tree_items, tree_nodes}
 
--- In an image the walk of a tree meets no failure. What was found is what the tree's items say, from left to right, and what is kept of its
--- nodes, each before those below it
-pub record IsWalk {P N : Type 0} (tree : Tree) (meaning : Item → Option P) (keeps : N → List Node → Type 0) (super : Super) (image : List ℕ) (expected : Expected) (root : ℕ) (parts : List P) (nodes : N) : Type 0 where
+-- In an image the walk of a tree meets no failure. What was found is what the tree's items say, from left to right, and
+-- what is kept of its nodes, each before those below it
+pub record IsWalk {P N : Type 0} (tree : Tree) (meaning : Item → Option P) (keeps : N → List Node
+    → Type 0) (super : Super) (image : List ℕ) (expected : Expected) (root : ℕ) (parts : List P)
+    (nodes : N) : Type 0 where
   pub sound : tree_failure tree super image expected root ≡ None
-  pub items : items_under tree super (node_found super image) (level_in super image root) expected root ≡ Some (tree_items tree super image expected root)
-  pub reached : nodes_under tree super (node_found super image) (level_in super image root) expected root ≡ Some (tree_nodes tree super image expected root)
+  pub items : items_under tree super (node_found super image) (level_in super image root) expected root
+      ≡ Some (tree_items tree super image expected root)
+  pub reached : nodes_under tree super (node_found super image) (level_in super image root) expected root
+      ≡ Some (tree_nodes tree super image expected root)
   pub held : IsTrue (list_all (is_item_of tree super.generation) (tree_items tree super image expected root))
   pub bytes : All (λ item. IsBytes item.body) (tree_items tree super image expected root)
   pub said : map meaning (tree_items tree super image expected root) ≡ map (λ part. Some part) parts

@@ -14,10 +14,15 @@ use Rattle.qg_image.specs.declared.expected.Expected.{Expected}
 use Rattle.qg_image.specs.Failure.{first_failure}
 use Rattle.qg_image.specs.Walk.{next_key, way_failure, shape_failure, deepest}
 
--- what is expected of the node of a level that a pointer leads to: the pointer's generation and key, and the next key on the way, that of
--- the pointer behind it, if there is one
+-- what is expected of the node of a level that a pointer leads to: the pointer's generation and key, and the next key
+-- on the way, that of the pointer behind it, if there is one
 abbrev pub expected_below : ℕ → Option Key → Pointer → List Pointer → Expected
-expected_below level to pointer pointers = record { level = Some level; generation = Some pointer.generation; from = Some pointer.key; to = next_key to pointers }
+expected_below level to pointer pointers = record {
+  level = Some level;
+  generation = Some pointer.generation;
+  from = Some pointer.key;
+  to = next_key to pointers;
+}
 
 -- the node was read in the slot at an address
 pub record StandsAt (super : Super) (address : ℕ) (node : Node) : Type 0 where
@@ -25,13 +30,15 @@ pub record StandsAt (super : Super) (address : ℕ) (node : Node) : Type 0 where
   pub placed : (header_of node).address ≡ address
   pub sound : IsNode super.nodesize node
 
--- the rules from `depth` to `shape`, in their order; `node_failure` has rule `item` behind them (lemmas `node_failure-form` and
--- `node_failure-formed`)
+-- the rules from `depth` to `shape`, in their order; `node_failure` has rule `item` behind them (lemmas
+-- `node_failure-form` and `node_failure-formed`)
 abbrev pub form_failure : Tree → Super → Expected → ℕ → Node → Option Failure
-form_failure tree super expected address node = first_failure (way_failure tree super expected address node ∷ shape_failure super.nodesize expected address node ∷ [])
+form_failure tree super expected address node =
+    first_failure (way_failure tree super expected address node ∷ shape_failure super.nodesize expected address node
+    ∷ [])
 
--- the rules from `slot` to `shape`, in their order, where this was found at an address: a walk from there fails so first (lemma
--- `walk-standing`)
+-- the rules from `slot` to `shape`, in their order, where this was found at an address: a walk from there fails so
+-- first (lemma `walk-standing`)
 abbrev pub standing_failure : Tree → Super → Expected → ℕ → Result Node Failure → Option Failure
 standing_failure tree super expected address (Err failure) = Some failure
 standing_failure tree super expected address (Ok node) = form_failure tree super expected address node

@@ -13,8 +13,8 @@ use qg_num::{Address, Generation, Key, Rule};
 use qg_parts::TreePart;
 use qg_super::Super;
 
-/// What is expected of the node of a level that a pointer leads to. `others` are the pointers behind it, `to` the next key on the way
-/// to its own node.
+/// What is expected of the node of a level that a pointer leads to. `others` are the pointers behind it, `to` the next
+/// key on the way to its own node.
 pub fn expected_below(level: u8, to: Option<Key>, pointer: &Pointer, others: &[Pointer]) -> Expected
     ensures { result ≡ expected_below level to pointer.now others.now }
 {

@@ -14,7 +14,8 @@ pub trait NodeList: Sized + Drop {
 
     /// Keeps what it wants of one more node.
     fn push(&mut self, node: &Node) -> Result<(), NoMemory>
-        ensures { (nodes : List NodeValue) → keeps self.old nodes → OnOk result (keeps self.new (nodes ++ node.now ∷ [])) };
+        ensures { (nodes : List NodeValue) → keeps self.old nodes
+            → OnOk result (keeps self.new (nodes ++ node.now ∷ [])) };
 }
 
 /// Where nodes lie, in bytes.

@@ -34,11 +34,13 @@ pub fn visit<P: TreePart, N: NodeList, D: Disk>(
     requires inside { total_bytes (sizes_of superblock.now) ≤ D.size disk.old }
     requires buffer { length buffer.old ≡ superblock.now.nodesize }
     ensures failure { (events : List Event) → D.history disk.old ≡ Some events
-        → FailsAs result (standing_failure P.tree superblock.now expected.now address (node_found superblock.now (content events) address)) }
+        → FailsAs result (standing_failure P.tree superblock.now expected.now address
+        (node_found superblock.now (content events) address)) }
     ensures found { (events : List Event) → D.history disk.old ≡ Some events
         → IfOk result (λ node. node_found superblock.now (content events) address ≡ Ok node) }
     ensures judged { IfOk result (λ node. IsJudged P.tree superblock.now expected.now address node) }
-    ensures kept { IfOk result (λ node. (before : List NodeValue) → N.keeps nodes.old before → N.keeps nodes.new (before ++ node ∷ [])) }
+    ensures kept { IfOk result (λ node. (before : List NodeValue) → N.keeps nodes.old before
+        → N.keeps nodes.new (before ++ node ∷ [])) }
     ensures history { D.history disk.new ≡ D.history disk.old }
     ensures size { D.size disk.new ≡ D.size disk.old }
     ensures cause { HasCause OpenFault.Disk (D.faults disk.old) (D.faults disk.new) result }

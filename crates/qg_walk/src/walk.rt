@@ -24,10 +24,12 @@ use qg_parts::{PartList, TreePart};
 use qg_super::Super;
 use std::alloc::Global;
 
-/// Reads the tree under a root: each node once, judged by all rules in their order before those below it (this project's own).
+/// Reads the tree under a root: each node once, judged by all rules in their order before those below it (this
+/// project's own).
 ///
-/// `root` is an address in bytes. `nodes` keeps nothing yet, and takes in what is wanted of each node. What it finds is kept in the order of
-/// the walk. Where it answers a fault, nothing is known of the tree but a failure that it tells, which is the first one.
+/// `root` is an address in bytes. `nodes` keeps nothing yet, and takes in what is wanted of each node. What it finds is
+/// kept in the order of the walk. Where it answers a fault, nothing is known of the tree but a failure that it tells,
+/// which is the first one.
 pub fn walk_tree<P: TreePart, L: PartList<P>, N: NodeList, D: Disk>(
     alloc: Global,
     disk: &mut D,
@@ -43,9 +45,11 @@ pub fn walk_tree<P: TreePart, L: PartList<P>, N: NodeList, D: Disk>(
 
     // Over a disk that tells what it holds.
     ensures found { (events : List Event) → D.history disk.old ≡ Some events
-        → IfOk result (λ walked. IsWalk P.tree P.meaning N.keeps superblock.now (content events) expected.now root (L.list walked.parts) walked.nodes) }
+        → IfOk result (λ walked. IsWalk P.tree P.meaning N.keeps superblock.now (content events) expected.now root
+        (L.list walked.parts) walked.nodes) }
     ensures unsound { (events : List Event) → D.history disk.old ≡ Some events
-        → IfErr result (λ fault. TellsFailure fault (tree_failure P.tree superblock.now (content events) expected.now root)) }
+        → IfErr result (λ fault. TellsFailure fault
+        (tree_failure P.tree superblock.now (content events) expected.now root)) }
 
     // Over any disk.
     ensures ascending { IfOk result (λ walked. AreSaid P.meaning (L.list walked.parts)) }
@@ -86,9 +90,12 @@ fn walk<P: TreePart, L: PartList<P>, N: NodeList, D: Disk>(
     requires served { IsTrue (is_served (sizes_of superblock.now)) }
     requires inside { total_bytes (sizes_of superblock.now) ≤ D.size disk.old }
     requires buffer { length buffer.old ≡ superblock.now.nodesize }
-    ensures failure { (events : List Event) (depth : ℕ) → D.history disk.old ≡ Some events → levels_below expected.now.level ≤ depth
-        → FailsAs result (walk_failure (node_failure P.tree superblock.now) (node_found superblock.now (content events)) depth expected.now address) }
-    ensures added { OnOk result (HasAdded P.tree P.meaning N.keeps superblock.now (D.history disk.old) expected.now.from expected.now.to
+    ensures failure { (events : List Event) (depth : ℕ) → D.history disk.old ≡ Some events
+        → levels_below expected.now.level ≤ depth
+        → FailsAs result (walk_failure (node_failure P.tree superblock.now) (node_found superblock.now (content events))
+        depth expected.now address) }
+    ensures added { OnOk result (HasAdded P.tree P.meaning N.keeps superblock.now (D.history disk.old) expected.now.from
+        expected.now.to
         (below_node superblock.now address) (found_by L.list walked.old) (found_by L.list walked.new)) }
     ensures history { D.history disk.new ≡ D.history disk.old }
     ensures size { D.size disk.new ≡ D.size disk.old }
@@ -123,7 +130,8 @@ fn walk<P: TreePart, L: PartList<P>, N: NodeList, D: Disk>(
     }
 }
 
-// Walks from the nodes of a level down that pointers lead to, one after the other. Their keys lie in the range that is expected of all.
+// Walks from the nodes of a level down that pointers lead to, one after the other. Their keys lie in the range that is
+// expected of all.
 #[cycle(walk)]
 fn walk_pointers<P: TreePart, L: PartList<P>, N: NodeList, D: Disk>(
     alloc: Global,
@@ -140,9 +148,11 @@ fn walk_pointers<P: TreePart, L: PartList<P>, N: NodeList, D: Disk>(
     requires buffer { length buffer.old ≡ superblock.now.nodesize }
     requires spaced { AreSpaced expected.now.from expected.now.to pointers.now }
     ensures failure { (events : List Event) (depth : ℕ) → D.history disk.old ≡ Some events → level ≤ depth
-        → FailsAs result (pointers_failure (walk_failure (node_failure P.tree superblock.now) (node_found superblock.now (content events)) depth)
+        → FailsAs result (pointers_failure
+        (walk_failure (node_failure P.tree superblock.now) (node_found superblock.now (content events)) depth)
         level expected.now.to pointers.now) }
-    ensures added { OnOk result (HasAdded P.tree P.meaning N.keeps superblock.now (D.history disk.old) expected.now.from expected.now.to
+    ensures added { OnOk result (HasAdded P.tree P.meaning N.keeps superblock.now (D.history disk.old) expected.now.from
+        expected.now.to
         (below_pointers superblock.now level pointers.now) (found_by L.list walked.old) (found_by L.list walked.new)) }
     ensures history { D.history disk.new ≡ D.history disk.old }
     ensures size { D.size disk.new ≡ D.size disk.old }

@@ -1,5 +1,6 @@
 -- Words one by one.
-use Rattle.std.proofs.Common.{Option, Some, None, ◌≡◌, ℕ, ◌^◌, ◌≤◌, ◌<◌, List, [], ◌∷◌, length, get_or, sym, ◌∙◌, refl, arith, String, Global}
+use Rattle.std.proofs.Common.{Option, Some, None, ◌≡◌, ℕ, ◌^◌, ◌≤◌, ◌<◌, List, [], ◌∷◌, length, get_or, sym, ◌∙◌, refl}
+use Rattle.std.proofs.Common.{arith, String, Global}
 use Rattle.std.specs.Prelude.{string_bytes, codes, IfSome, IfNone}
 use Rattle.std.specs.Fmt.{decimal}
 use Rattle.qg_super.specs.declared.sizes.Sizes.{Sizes}
@@ -42,7 +43,8 @@ four_texts {words = w ∷ []} some few a b c d = absurd (omega arith)
 four_texts {words = w ∷ x ∷ []} some few a b c d = absurd (omega arith)
 four_texts {words = w ∷ x ∷ y ∷ []} some few a b c d = absurd (omega arith)
 four_texts {words = w ∷ x ∷ y ∷ z ∷ []} some few a b c d =
-    rw a.text_is (rw b.text_is (rw c.text_is (rw d.text_is (rw a.stands (rw b.stands (rw c.stands (rw d.stands refl)))))))
+    rw a.text_is (rw b.text_is
+    (rw c.text_is (rw d.text_is (rw a.stands (rw b.stands (rw c.stands (rw d.stands refl)))))))
 four_texts {words = w ∷ x ∷ y ∷ z ∷ v ∷ words} some few a b c d = absurd (omega arith)
 
 -- the last three are these sizes
@@ -53,12 +55,14 @@ SpellSizes nodesize slots sectors sizes =
 -- the last three are no sizes
 abbrev pub SpellNone : List ℕ → List ℕ → List ℕ → Type 0
 SpellNone nodesize slots sectors =
-    (sizes : Sizes) → SizesFit sizes → nodesize ≡ decimal sizes.nodesize → slots ≡ decimal sizes.slots → sectors ≡ decimal sizes.sectors → ⊥
+    (sizes : Sizes) → SizesFit sizes → nodesize ≡ decimal sizes.nodesize → slots ≡ decimal sizes.slots
+    → sectors ≡ decimal sizes.sectors → ⊥
 
 -- where they are no sizes, the four ask for no image
 no_image :
     {words : List (List ℕ)} {name nodesize slots sectors : List ℕ}
-    → words ≡ name ∷ nodesize ∷ slots ∷ sectors ∷ [] → SpellNone nodesize slots sectors → (sizes : Sizes) → AskForImage words sizes → ⊥
+    → words ≡ name ∷ nodesize ∷ slots ∷ sectors ∷ [] → SpellNone nodesize slots sectors → (sizes : Sizes)
+    → AskForImage words sizes → ⊥
 no_image {words} {name} {nodesize} {slots} {sectors} are none sizes ask =
     let same = sym are ∙ ask.are in
     let first : nodesize ≡ decimal sizes.nodesize = cc in
@@ -70,7 +74,8 @@ no_image {words} {name} {nodesize} {slots} {sectors} are none sizes ask =
 pub ask-found :
     (result : Option Sizes) {words : List (List ℕ)} {name nodesize slots sectors : List ℕ}
     → words ≡ name ∷ nodesize ∷ slots ∷ sectors ∷ [] → name ≡ codes "mkfs" → IfSome result SizesFit
-    → IfSome result (λ sizes. SpellSizes nodesize slots sectors sizes) → IfSome result (λ sizes. AskForImage words sizes)
+    → IfSome result (λ sizes. SpellSizes nodesize slots sectors sizes)
+    → IfSome result (λ sizes. AskForImage words sizes)
 ask-found None are named fits found = tt
 ask-found (Some sizes) are named fits found =
     record { fits = fits; are = are ∙ rw named (rw found.0 (rw found.1 (rw found.2 refl))) }
@@ -88,7 +93,8 @@ none-found (Some sizes) are none = tt
 -- what is read of the last two of three words is what the three ask for
 pub lines-found :
     (result : Option (ℕ × ℕ)) {words : List (List ℕ)} {name seed count : List ℕ}
-    → words ≡ name ∷ seed ∷ count ∷ [] → name ≡ codes "gen" → IfSome result (λ pair. (pair.0 < 2 ^ 64) × (pair.1 < 2 ^ 64))
+    → words ≡ name ∷ seed ∷ count ∷ [] → name ≡ codes "gen"
+    → IfSome result (λ pair. (pair.0 < 2 ^ 64) × (pair.1 < 2 ^ 64))
     → IfSome result (λ pair. (seed ≡ decimal pair.0) × (count ≡ decimal pair.1))
     → IfSome result (λ pair. AskForLines words pair.0 pair.1)
 lines-found None are named fits found = tt

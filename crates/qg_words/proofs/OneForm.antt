@@ -6,7 +6,8 @@ use Rattle.std.proofs.lemmas.Fmt.{decimal_injective}
 use Rattle.qg_super.specs.declared.sizes.Sizes.{Sizes}
 use Rattle.qg_words.specs.declared.form.Form.{Form}
 use Rattle.qg_words.specs.declared.form.Form.TheVariants.{Mkfs, Run, Check, Generate}
-use Rattle.qg_words.specs.Words.{AskFor, AskForImage, AskForLines, HaveForm, check_words, generate_words, mkfs_words, run_words}
+use Rattle.qg_words.specs.Words.{AskFor, AskForImage, AskForLines, HaveForm, check_words, generate_words, mkfs_words}
+use Rattle.qg_words.specs.Words.{run_words}
 
 same_sizes : (a b : Sizes) → a.nodesize ≡ b.nodesize → a.slots ≡ b.slots → a.sectors ≡ b.sectors → a ≡ b
 same_sizes a b first second third = λ i. record { nodesize = first i; slots = second i; sectors = third i }
@@ -34,13 +35,15 @@ one_count words a b c d is_one is_other =
     decimal_injective b d is_one.count_fits is_other.count_fits second
 
 -- words of one form are not so many as those of another, or else their first bytes differ
-not_many : {words : List (List ℕ)} (one other : List (List ℕ)) → words ≡ one → words ≡ other → length one ≢ length other → ⊥
+not_many : {words : List (List ℕ)} (one other : List (List ℕ)) → words ≡ one → words ≡ other → length one ≢ length other
+    → ⊥
 not_many one other are_one are_other apart = apart (ap length (sym are_one ∙ are_other))
 
 run_or_check : {words : List (List ℕ)} → words ≡ run_words → words ≡ check_words → ⊥
 run_or_check {words} run check =
     let same : run_words ≡ check_words = sym run ∙ check in
-    let counts : length (codes "run") ≡ length (codes "check") = ap (λ (words : List (List ℕ)). length (get_or words 0 [])) same in
+    let counts : length (codes "run") ≡ length (codes "check") =
+    ap (λ (words : List (List ℕ)). length (get_or words 0 [])) same in
     absurd (omega (arith, counts))
 
 pub one_form : (words : List (List ℕ)) (a b : Form) → AskFor words a → AskFor words b → a ≡ b
@@ -72,13 +75,15 @@ one_form words (Generate seed count) (Generate other more) is_a is_b =
 
 -- ---- and for none of the four
 
-by-form : (words : List (List ℕ)) (form : Form) → (words ≡ run_words → ⊥) → (words ≡ check_words → ⊥) → ((seed count : ℕ) → AskForLines words seed count → ⊥)
+by-form : (words : List (List ℕ)) (form : Form) → (words ≡ run_words → ⊥) → (words ≡ check_words → ⊥)
+    → ((seed count : ℕ) → AskForLines words seed count → ⊥)
     → ((sizes : Sizes) → AskForImage words sizes → ⊥) → AskFor words form → ⊥
 by-form words (Mkfs sizes) run check lines image ask = image sizes ask
 by-form words Run run check lines image ask = run ask
 by-form words Check run check lines image ask = check ask
 by-form words (Generate seed count) run check lines image ask = lines seed count ask
 
-pub no_form : (words : List (List ℕ)) → (words ≡ run_words → ⊥) → (words ≡ check_words → ⊥) → ((seed count : ℕ) → AskForLines words seed count → ⊥)
+pub no_form : (words : List (List ℕ)) → (words ≡ run_words → ⊥) → (words ≡ check_words → ⊥)
+    → ((seed count : ℕ) → AskForLines words seed count → ⊥)
     → ((sizes : Sizes) → AskForImage words sizes → ⊥) → HaveForm words → ⊥
 no_form words run check lines image have = by-form words have.form run check lines image have.ask

@@ -4,8 +4,8 @@ ghost use Rattle.std.specs.Fmt.{decimal};
 
 use itoa::Buffer;
 
-/// The number whose digits these are: one to twenty of them, with no sign and no leading zero, below 2^64; `None` exactly where the
-/// text is no such number's (this project's own).
+/// The number whose digits these are: one to twenty of them, with no sign and no leading zero, below 2^64; `None`
+/// exactly where the text is no such number's (this project's own).
 pub fn decimal_of(text: &str) -> Option<u64>
     ensures found { IfSome result (λ n. text.now ≡ decimal n) }
     ensures none { IfNone result ((n : ℕ) → n < 2 ^ 64 → text.now ≡ decimal n → ⊥) }

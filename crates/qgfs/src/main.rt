@@ -1,8 +1,9 @@
-//! The accounting engine of Btrfs quota groups: `qgfs IMAGE mkfs NODESIZE SLOTS SECTORS` makes a fresh image, `qgfs IMAGE run` answers the
-//! lines of its input over one, `qgfs IMAGE check` tells what one is, and `qgfs IMAGE gen SEED COUNT` answers lines that are drawn.
+//! The accounting engine of Btrfs quota groups: `qgfs IMAGE mkfs NODESIZE SLOTS SECTORS` makes a fresh image, `qgfs
+//! IMAGE run` answers the lines of its input over one, `qgfs IMAGE check` tells what one is, and `qgfs IMAGE gen SEED
+//! COUNT` answers lines that are drawn.
 //!
-//! The first word is the path of the image, a file that is made where there is none. The other words, standard input and standard
-//! output go to `qg_program::run_program`, and the process ends with its status.
+//! The first word is the path of the image, a file that is made where there is none. The other words, standard input
+//! and standard output go to `qg_program::run_program`, and the process ends with its status.
 #![tactic(auto)]
 
 use qg_disk::FileDisk;

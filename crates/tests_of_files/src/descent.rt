@@ -1,5 +1,5 @@
-// What no clause says: that calls succeed with ample memory, over a disk and with room for one node. What is expected was worked out by
-// hand.
+// What no clause says: that calls succeed with ample memory, over a disk and with room for one node. What is expected
+// was worked out by hand.
 ghost use Rattle.std.specs.Prelude.{◌≡◌, ◌<◌, ◌≤◌, IfOk};
 ghost use Rattle.qg_descent.specs.Way.{IsReadable};
 
@@ -15,7 +15,8 @@ use std::process::Abort;
 use std::sync::ledger::{Blank, Ledger};
 use std::test::Fail;
 
-// 62 leaves of 4096 bytes, one after the other from the first slot on, two nodes of level 1 above them, and the root of level 2.
+// 62 leaves of 4096 bytes, one after the other from the first slot on, two nodes of level 1 above them, and the root of
+// level 2.
 const FIRST: u64 = 1048576;
 
 const LEAVES: u64 = 62;
@@ -48,7 +49,8 @@ fn item(alloc: Global, object: u64, offset: u8) -> Result<Item, NoMemory> {
     })
 }
 
-// The leaf with that number, whose items have 490 bytes, of 3 and of 7, at offsets 3 and 7 of the object with that number.
+// The leaf with that number, whose items have 490 bytes, of 3 and of 7, at offsets 3 and 7 of the object with that
+// number.
 fn leaf(alloc: Global, number: u64) -> Result<Node, NoMemory>
     requires { number ≤ 61 }
 {

@@ -1,5 +1,5 @@
-// What no clause says: that calls succeed with ample memory, and that the book of a tree which shares no node gives back slots. Addresses
-// and counts were worked out by hand.
+// What no clause says: that calls succeed with ample memory, and that the book of a tree which shares no node gives
+// back slots. Addresses and counts were worked out by hand.
 ghost use Rattle.std.specs.Prelude.{◌≡◌, ◌<◌, ℕ, List, Option, IfOk};
 ghost use Rattle.qg_device.specs.History.{Event};
 ghost use Rattle.qg_blocks.specs.Told.{IsBacked};
@@ -93,7 +93,8 @@ fn has_moved(land: &Ground, book: &SlotBook) -> bool {
     book.told() == 1 && land.space.free_slots() == 62 && !land.space.has_slot(Address::new(FIRST))
 }
 
-// A copied node is edited where it lies from then on, and its own slot is given back, which the last commit still holds.
+// A copied node is edited where it lies from then on, and its own slot is given back, which the last commit still
+// holds.
 fn own_twice<D: Disk, L: Ledger>(
     rt: &impl Abort,
     alloc: Global,

@@ -1,5 +1,5 @@
-// What no clause says: that calls succeed with ample memory, and what is answered of items that are those of no file. What is expected was
-// worked out by hand.
+// What no clause says: that calls succeed with ample memory, and what is answered of items that are those of no file.
+// What is expected was worked out by hand.
 ghost use Rattle.std.specs.Prelude.{◌≡◌, ◌<◌, IfOk};
 ghost use Rattle.qg_descent.specs.Way.{IsReadable};
 

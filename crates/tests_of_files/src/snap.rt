@@ -1,4 +1,5 @@
-// That a subvolume without files and a snapshot of it are made with ample memory, in which slots, and what refers to them.
+// That a subvolume without files and a snapshot of it are made with ample memory, in which slots, and what refers to
+// them.
 ghost use Rattle.std.specs.Prelude.{◌≡◌, ◌<◌, ◌≤◌, IsTrue, OnOk};
 ghost use Rattle.qg_image.specs.ItemMeaning.{is_subvolume_number};
 ghost use Rattle.qg_super.specs.Places.{second_place};

@@ -1,5 +1,5 @@
-// A leaf and an inner node whose bytes were written out by hand; their checksums are of another program. Which rule bytes break is shown by
-// the cases of the crate `examples`.
+// A leaf and an inner node whose bytes were written out by hand; their checksums are of another program. Which rule
+// bytes break is shown by the cases of the crate `examples`.
 use qg_node::*;
 use qg_num::{Address, Generation, Key, RootId, put_bytes};
 use std::alloc::{AllocError, Global};

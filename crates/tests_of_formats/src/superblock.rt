@@ -70,8 +70,8 @@ fn a_superblock_and_its_texts(rt: HostRuntime) {
     assert_eq!(rt; read_super(&long, FIRST_PLACE), None);
 }
 
-// With its checksum made anew, a changed text is a superblock's only where the changed byte is of the generation or the root, or
-// is the lowest of the slots, which are 1152 then.
+// With its checksum made anew, a changed text is a superblock's only where the changed byte is of the generation or the
+// root, or is the lowest of the slots, which are 1152 then.
 #[test]
 fn each_byte_is_looked_at(rt: HostRuntime) {
     let mut whole = small_fields();

@@ -1,5 +1,5 @@
-// What no clause says: that calls succeed, in which order clean nodes go, and what is answered over a disk that changes by itself. Which
-// rule is broken was worked out by hand.
+// What no clause says: that calls succeed, in which order clean nodes go, and what is answered over a disk that changes
+// by itself. Which rule is broken was worked out by hand.
 ghost use Rattle.std.specs.Prelude.{◌≡◌, ◌<◌, IfOk, IsSome, IsTrue, List, OnOk, Option, Some};
 ghost use Rattle.qg_device.specs.History.{Event};
 ghost use Rattle.qg_node.specs.declared.node.Node.{Node as NodeValue};
@@ -79,7 +79,8 @@ fn is_placed(node: &Node, bytes: u64, address: Address) -> bool
 // Writes a fresh node.
 fn write_one<D: Disk>(blocks: &Blocks, disk: &mut D, address: Address) -> Result<(), Fail>
     requires { IsSome (fresh_at blocks.now.draft address) }
-    ensures kept { OnOk result ((node : NodeValue) → fresh_at blocks.now.draft address ≡ Some node → IsNodeAt 4096 address node) }
+    ensures kept { OnOk result ((node : NodeValue) → fresh_at blocks.now.draft address ≡ Some node
+        → IsNodeAt 4096 address node) }
     ensures written { OnOk result ((node : NodeValue) → fresh_at blocks.now.draft address ≡ Some node
         → HasWritten (slots_of 4096 64) (D.history disk.old) (D.history disk.new) address node) }
 {
@@ -263,8 +264,8 @@ fn a_read_that_failed_is_done_again(rt: HostRuntime) -> Result<(), Fail> {
     read_twice::<Brand>(&rt, rt.alloc(), Blank::new(1))
 }
 
-// What is answered at the first leaf, again there, at the second leaf and at the first, where a bit of the first leaf is another from
-// one read on. The second answer takes no read where the first was a node.
+// What is answered at the first leaf, again there, at the second leaf and at the first, where a bit of the first leaf
+// is another from one read on. The second answer takes no read where the first was a node.
 fn flipped_answers<L: Ledger>(
     alloc: Global,
     from: u64,

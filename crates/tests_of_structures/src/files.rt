@@ -10,7 +10,14 @@ use std::test::Fail;
 
 // A piece of an extent of 65536 bytes, by its position, its length and where it begins in the extent.
 fn piece(position: u64, len: u64, offset: u64) -> Piece
-    ensures { result ≡ record { position = position; len = len; extent = 67108864; offset = offset; stamp = 7; extent_bytes = 65536 } }
+    ensures { result ≡ record {
+      position = position;
+      len = len;
+      extent = 67108864;
+      offset = offset;
+      stamp = 7;
+      extent_bytes = 65536;
+    } }
 {
     Piece {
         position,
@@ -260,7 +267,8 @@ fn ranges_take_out_whole_pieces(rt: HostRuntime) -> Result<(), Fail> {
     let second = piece(8192, 4096, 0);
     let third = piece(16384, 12288, 40960);
     let front = piece(16384, 4096, 40960);
-    // All three with two rests, one in its midst, at its front, whole, none in the hole, and one in its midst for no byte.
+    // All three with two rests, one in its midst, at its front, whole, none in the hole, and one in its midst for no
+    // byte.
     assert!(rt;
         parts(
             alloc,

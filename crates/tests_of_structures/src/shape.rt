@@ -49,7 +49,11 @@ fn item_of(alloc: Global, objectid: u64, body: &[u8]) -> Result<Item, NoMemory>
 }
 
 fn pointer_of(objectid: u64) -> Pointer
-    ensures { result ≡ record { key = record { objectid = objectid; kind = 0; offset = 0 }; child = 1064960; generation = 9 } }
+    ensures { result ≡ record {
+      key = record { objectid = objectid; kind = 0; offset = 0 };
+      child = 1064960;
+      generation = 9;
+    } }
 {
     Pointer {
         key: key_of(objectid),
@@ -194,7 +198,8 @@ fn join_leaves(
     requires short { length body.now ≤ 1024 }
     requires left_fits { 101 + count * (25 + length body.now) ≤ nodesize }
     requires right_fits { 101 + others * (25 + length body.now) ≤ nodesize }
-    requires thin { (4 * (count * (25 + length body.now)) < capacity nodesize) ⊎ (4 * (others * (25 + length body.now)) < capacity nodesize) }
+    requires thin { (4 * (count * (25 + length body.now)) < capacity nodesize)
+        ⊎ (4 * (others * (25 + length body.now)) < capacity nodesize) }
 {
     let mut left = leaf(alloc, 0, count, body)?;
     let mut right = leaf(alloc, count, others, body)?;

@@ -37,23 +37,30 @@ module _ (land : Ground) (history : Option (List Event)) (bytes generation : ℕ
       record { backed = readable.backed; drafted = rests.drafted; room = rw read.size is.room }
 
 -- what rests is edited, on a disk with room
-pub rested_land : (old new : Ground) (history : Option (List Event)) (bytes generation : ℕ) → Rests old new history generation → second_place ≤ bytes
+pub rested_land : (old new : Ground) (history : Option (List Event)) (bytes generation : ℕ)
+    → Rests old new history generation → second_place ≤ bytes
     → IsEditable new history bytes generation
-rested_land old new history bytes generation rests room = record { backed = rests.backed; drafted = rests.drafted; room = room }
+rested_land old new history bytes generation rests room = record {
+  backed = rests.backed;
+  drafted = rests.drafted;
+  room = room;
+}
 
 -- the tree of the first subvolume has such nodes
 own_number : is_subvolume_number 5 ≡ true
 unfolding is_subvolume_number
 own_number = refl
 
-pub makes_files : (root : Root) (address height next : ℕ) → root ≡ record { address = address; height = height; owner = 5; next = next } → 0 < next → CanMake Files root
+pub makes_files : (root : Root) (address height next : ℕ)
+    → root ≡ record { address = address; height = height; owner = 5; next = next } → 0 < next → CanMake Files root
 makes_files root address height next is later = record {
   owner = rw is own_number;
   next = rw is later;
 }
 
 -- nodes and space of these sizes, of which no node is fresh
-module _ (land : Ground) (sizes : Sizes) (served : is_served sizes ≡ true) (draft : land.blocks.draft ≡ nothing_fresh sizes) (space : land.space.sizes ≡ sizes) where
+module _ (land : Ground) (sizes : Sizes) (served : is_served sizes ≡ true)
+    (draft : land.blocks.draft ≡ nothing_fresh sizes) (space : land.space.sizes ≡ sizes) where
   empty_drafted : (generation : ℕ) → IsDrafted land generation
   empty_drafted generation =
       let same : land.blocks.draft.sizes ≡ land.space.sizes = ap (λ (d : Draft). d.sizes) draft ∙ sym space in
@@ -64,8 +71,13 @@ module _ (land : Ground) (sizes : Sizes) (served : is_served sizes ≡ true) (dr
       } in
       IsDrafted-none land generation ground (ap (λ (d : Draft). d.fresh) draft)
 
-  pub empty_land : (history : Option (List Event)) (bytes generation : ℕ) → IsBacked land.blocks history → second_place ≤ bytes → IsEditable land history bytes generation
-  empty_land history bytes generation backed room = record { backed = backed; drafted = empty_drafted generation; room = room }
+  pub empty_land : (history : Option (List Event)) (bytes generation : ℕ) → IsBacked land.blocks history
+      → second_place ≤ bytes → IsEditable land history bytes generation
+  empty_land history bytes generation backed room = record {
+    backed = backed;
+    drafted = empty_drafted generation;
+    room = room;
+  }
 
 -- and so their sizes are those of nodes in memory
 pub draft_sizes : (draft : Draft) (sizes : Sizes) → draft ≡ nothing_fresh sizes → draft.sizes ≡ sizes

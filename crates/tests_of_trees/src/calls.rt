@@ -1,5 +1,5 @@
-// That each call succeeds with ample memory, and what is answered where a key is there or is not, which no clause says. Answers were
-// worked out by hand.
+// That each call succeeds with ample memory, and what is answered where a key is there or is not, which no clause says.
+// Answers were worked out by hand.
 ghost use Rattle.std.specs.Prelude.{◌≡◌, ◌<◌};
 
 use crate::Setting;

@@ -1,5 +1,6 @@
-// What is answered over a disk that tells nothing and changes by itself, of which no clause says that it is right: each call over a tree of
-// three levels, where after so many reads a bit of what is read is another. How many reads a call takes was worked out by hand.
+// What is answered over a disk that tells nothing and changes by itself, of which no clause says that it is right: each
+// call over a tree of three levels, where after so many reads a bit of what is read is another. How many reads a call
+// takes was worked out by hand.
 ghost use Rattle.std.specs.Prelude.{◌≡◌, ◌<◌};
 
 mod disk;
@@ -40,7 +41,8 @@ const CALLS: [(Call, u64); 8] = [
     (Call::Remove, 3),
     // The next leaf too, which the first one takes.
     (Call::DropFirst, 4),
-    // The way to the first leaf, the 31 leaves behind it, and at last the other node of level 1, since 30 pointers are too few.
+    // The way to the first leaf, the 31 leaves behind it, and at last the other node of level 1, since 30 pointers are
+    // too few.
     (Call::DropMany, 35),
 ];
 
@@ -87,8 +89,8 @@ fn drop_first<L: Ledger>(
     Ok(())
 }
 
-// Whether a call is answered as it should, where what is read is right so many times alone: with a checksum that is wrong where it takes
-// more reads, and else so that the tree is right.
+// Whether a call is answered as it should, where what is read is right so many times alone: with a checksum that is
+// wrong where it takes more reads, and else so that the tree is right.
 fn is_right<L: Ledger>(
     alloc: Global,
     setting: &mut Setting<FlipDisk, L>,

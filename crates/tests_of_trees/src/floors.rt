@@ -1,5 +1,5 @@
-// A tree of three levels that was written, over a disk and with room for one clean node: that each look-up reads again, and which nodes an
-// edit copies, which no clause says. All numbers were worked out by hand.
+// A tree of three levels that was written, over a disk and with room for one clean node: that each look-up reads again,
+// and which nodes an edit copies, which no clause says. All numbers were worked out by hand.
 ghost use Rattle.std.specs.Prelude.{◌≡◌, ◌<◌};
 
 use crate::Setting;
@@ -38,8 +38,9 @@ pub(crate) fn even_items(alloc: Global) -> Result<Plain, AllocError> {
 
 /// The tree, whose nodes are fresh.
 ///
-/// Items of 1049 bytes come in with descending keys. A leaf that gets a fourth one is cut in two and two, and then it is the front one that
-/// gets more, so that each has two in the end. At its 122nd pointer the root is cut at a half too.
+/// Items of 1049 bytes come in with descending keys. A leaf that gets a fourth one is cut in two and two, and then it
+/// is the front one that gets more, so that each has two in the end. At its 122nd pointer the root is cut at a half
+/// too.
 pub(crate) fn three_levels<D: Disk + Drop, L: Ledger>(
     alloc: Global,
     disk: D,
@@ -103,7 +104,8 @@ fn edit_both<L: Ledger>(
     }
 }
 
-// Edits of the tree as it was committed. Of each, how many nodes the book was told of, and how many slots are taken then.
+// Edits of the tree as it was committed. Of each, how many nodes the book was told of, and how many slots are taken
+// then.
 const EDITS: [(Edit, u64, u64); 9] = [
     // The root, a node of level 1 and the first leaf are copied. The last commit holds their slots.
     (Edit::Put(2), 3, 128),
@@ -113,7 +115,8 @@ const EDITS: [(Edit, u64, u64); 9] = [
     // The first leaf gets a third item and a fourth, and is cut in two.
     (Edit::Put(5), 0, 129),
     (Edit::Put(3), 1, 130),
-    // The third leaf is copied. It gets empty, takes all of the fourth one, which is copied for that, and the copy is left.
+    // The third leaf is copied. It gets empty, takes all of the fourth one, which is copied for that, and the copy is
+    // left.
     (Edit::Take(10), 1, 131),
     (Edit::Take(12), 2, 131),
     // The first leaf takes all of the second one, which is left.

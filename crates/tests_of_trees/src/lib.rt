@@ -1,4 +1,5 @@
-//! A tree that is edited with all that its calls are lent, and tests of such trees: what no clause says, and answers worked out by hand.
+//! A tree that is edited with all that its calls are lent, and tests of such trees: what no clause says, and answers
+//! worked out by hand.
 #![tactic(auto)]
 
 mod buildable;

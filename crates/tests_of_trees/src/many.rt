@@ -1,5 +1,6 @@
-// Many edits beside a plain sorted list, with commits between them. That the tree has the list's items a clause says too; this is to show
-// that the definitions say what they mean, that nodes of all levels are cut and joined on the way, and that no slot is lost, which none says.
+// Many edits beside a plain sorted list, with commits between them. That the tree has the list's items a clause says
+// too; this is to show that the definitions say what they mean, that nodes of all levels are cut and joined on the way,
+// and that no slot is lost, which none says.
 ghost use Rattle.std.specs.Prelude.{◌≡◌, ◌≤◌, ◌<◌};
 ghost use Rattle.qg_blocks.specs.Held.{most_clean};
 
@@ -13,7 +14,8 @@ use std::process::Abort;
 use std::sync::ledger::{Blank, Ledger};
 use std::test::Fail;
 
-// What items or pointers may take of a node of 4096 bytes behind its header, and must where it is not the root: a quarter.
+// What items or pointers may take of a node of 4096 bytes behind its header, and must where it is not the root: a
+// quarter.
 const MOST: u64 = 3995;
 
 const LEAST: u64 = 999;
@@ -71,7 +73,8 @@ fn grow<D: Disk + Drop, L: Ledger>(
     put(setting, plain, draws.entry(number))
 }
 
-// An edit of a tree that is to shrink: seven times in eight an item that is there is taken out, else it gets another body.
+// An edit of a tree that is to shrink: seven times in eight an item that is there is taken out, else it gets another
+// body.
 fn shrink<D: Disk + Drop, L: Ledger>(
     setting: &mut Setting<D, L>,
     plain: &mut Plain,

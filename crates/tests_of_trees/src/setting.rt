@@ -26,8 +26,9 @@ const OWNER: u64 = 5;
 /// The longest body of an item, in bytes.
 const LONGEST_BODY: usize = 1024;
 
-/// A tree that is edited, with all that its calls are lent: nodes and space, a disk, who is told of nodes, and a count of steps. What
-/// the calls ask stands between any two of them; where slots are wanting, or a body is too long, the answer is `NoMemory`.
+/// A tree that is edited, with all that its calls are lent: nodes and space, a disk, who is told of nodes, and a count
+/// of steps. What the calls ask stands between any two of them; where slots are wanting, or a body is too long, the
+/// answer is `NoMemory`.
 #[derive(Drop)]
 pub struct Setting<D: Disk + Drop, L: Ledger> {
     alloc: Global,
@@ -52,7 +53,8 @@ impl<D: Disk + Drop, L: Ledger> Model for Setting<D, L> {
     ghost view = { λ _. tt };
 
     ghost invariant = { λ s. IsEditable s.land (D.history s.disk) (D.size s.disk) s.tree.next × CanMake Files s.tree
-        × (s.land.blocks.draft.sizes ≡ slots_of s.nodesize s.slots) × (s.land.space.sizes ≡ slots_of s.nodesize s.slots) × (0 < s.generation) };
+        × (s.land.blocks.draft.sizes ≡ slots_of s.nodesize s.slots) × (s.land.space.sizes ≡ slots_of s.nodesize s.slots)
+        × (0 < s.generation) };
 }
 
 impl<D: Disk + Drop, L: Ledger> Setting<D, L> {
@@ -95,8 +97,8 @@ impl<D: Disk + Drop, L: Ledger> Setting<D, L> {
         })
     }
 
-    /// A tree that is built of these items, of fresh nodes, over a disk that may be empty. At most `bound` clean nodes are
-    /// kept. Where keys don't ascend, the answer is `NoMemory` too.
+    /// A tree that is built of these items, of fresh nodes, over a disk that may be empty. At most `bound` clean nodes
+    /// are kept. Where keys don't ascend, the answer is `NoMemory` too.
     pub fn built(
         alloc: Global,
         disk: D,
@@ -178,7 +180,8 @@ impl<D: Disk + Drop, L: Ledger> Setting<D, L> {
         })
     }
 
-    /// The tree as a commit left it, with its root at an address and of that height, in the first so many slots. No node is in memory.
+    /// The tree as a commit left it, with its root at an address and of that height, in the first so many slots. No
+    /// node is in memory.
     pub fn opened_again(
         self,
         root: Address,

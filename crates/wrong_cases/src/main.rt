@@ -8,8 +8,8 @@ use qg_disk::Disk;
 use qg_edge::{MemSink, MemSource, Sink, Source};
 use std::rt::Files;
 
-/// It writes two bytes at 4, makes sure of them, takes eight bytes of the source and puts them. Its status is 6, 4 or 5 where that
-/// fails, and 2 without words.
+/// It writes two bytes at 4, makes sure of them, takes eight bytes of the source and puts them. Its status is 6, 4 or 5
+/// where that fails, and 2 without words.
 struct Echo;
 
 // The status of a call of that program.
@@ -34,9 +34,9 @@ const FIRST_PLACE: u64 = 65536;
 const SECOND_PLACE: u64 = 67108864;
 
 /// It counts, by a digit that it keeps at two places. With the word `count` it writes one more than the first place has
-/// at both, one behind the other, and makes sure before, between and behind. With any other word it puts the digit of the
-/// place of which the source has the number, 1 or 2. Its status is 6, 4 or 5 where that fails, and 2 where there is no
-/// such place.
+/// at both, one behind the other, and makes sure before, between and behind. With any other word it puts the digit of
+/// the place of which the source has the number, 1 or 2. Its status is 6, 4 or 5 where that fails, and 2 where there is
+/// no such place.
 struct Counter;
 
 // The digit at a place, and 0 where the disk ends before it.

@@ -8,7 +8,8 @@ use qg_disk::{Disk, DiskFault, SureDisk};
 use std::alloc::Global;
 use std::marker::Model;
 
-/// A disk in memory that tells nothing of what it holds. From one of its reads on a bit of the byte at a place is another.
+/// A disk in memory that tells nothing of what it holds. From one of its reads on a bit of the byte at a place is
+/// another.
 #[derive(Drop)]
 pub struct FlipDisk {
     disk: SureDisk,
@@ -27,7 +28,8 @@ impl Model for FlipDisk {
 }
 
 impl FlipDisk {
-    /// An empty disk, whose byte at `place` is another from the read with the number `from` on. The first read has the number 1.
+    /// An empty disk, whose byte at `place` is another from the read with the number `from` on. The first read has the
+    /// number 1.
     pub fn new(alloc: Global, place: u64, from: u64) -> FlipDisk {
         FlipDisk {
             disk: SureDisk::new(alloc),

@@ -8,7 +8,8 @@ use Rattle.qg_check.proofs.Staging.{fails_same}
 use Rattle.qg_check.proofs.counts.judge_counts.Goals as goal
 
 pub judge_state-requires-clause-tracked : goal.judge_state-requires-clause-tracked
-judge_state-requires-clause-tracked c = subst (λ (quota : Option QuotaState). IfSome quota IsTracked) c.in-Some.is c.requires.tracked
+judge_state-requires-clause-tracked c =
+    subst (λ (quota : Option QuotaState). IfSome quota IsTracked) c.in-Some.is c.requires.tracked
 
 pub returns-in-Some-clause-failure : goal.returns-in-Some-clause-failure
 returns-in-Some-clause-failure c = λ layout are.

@@ -3,7 +3,8 @@ use Rattle.qg_num.specs.declared.counters.Counters.{Counters}
 use Rattle.qg_image.specs.Verdict.{group_failure}
 use Rattle.qg_walk.specs.declared.fault.OpenFault.TheVariants.{Disk}
 use Rattle.qg_walk.proofs.Failures.{TellsFailure-of, told-no_disk}
-use Rattle.qg_check.proofs.Counters.{counted_at, judged_so, HaveJudged-none, HaveJudged-more, HaveJudged-found, HaveJudged-all}
+use Rattle.qg_check.proofs.Counters.{counted_at, judged_so, HaveJudged-none, HaveJudged-more, HaveJudged-found}
+use Rattle.qg_check.proofs.Counters.{HaveJudged-all}
 use Rattle.qg_check.proofs.counts.judge_groups.Goals as goal
 
 pub loop-i-init : goal.loop-i-init
@@ -16,9 +17,12 @@ loop-i-preserved c = λ layout hierarchy numbers are.
     let counters = c.args.counters.now in
     let i = c.loop-i.i in
     let entry = c.index-groups-i.result in
-    let direct = counted_at layout hierarchy groups counters i entry nothing numbers are c.requires c.loop-i-test.true c.index-groups-i.is in
-    let none = judged_so layout hierarchy entry (get_or counters i nothing) c.own_failure.result direct c.own_failure.ensures ∙ c.in_default.is in
-    HaveJudged-more (group_failure layout hierarchy) i groups entry c.loop-i-test.true c.index-groups-i.is none (c.loop-i.invariant layout hierarchy numbers are)
+    let direct = counted_at layout hierarchy groups counters i entry nothing numbers are c.requires c.loop-i-test.true
+    c.index-groups-i.is in
+    let none = judged_so layout hierarchy entry (get_or counters i nothing) c.own_failure.result direct
+    c.own_failure.ensures ∙ c.in_default.is in
+    HaveJudged-more (group_failure layout hierarchy) i groups entry c.loop-i-test.true c.index-groups-i.is none
+    (c.loop-i.invariant layout hierarchy numbers are)
 
 pub returns-in-Some-clause-failure : goal.returns-in-Some-clause-failure
 returns-in-Some-clause-failure c = λ layout hierarchy numbers are.
@@ -27,15 +31,20 @@ returns-in-Some-clause-failure c = λ layout hierarchy numbers are.
     let counters = c.args.counters.now in
     let i = c.loop-i.i in
     let entry = c.index-groups-i.result in
-    let direct = counted_at layout hierarchy groups counters i entry nothing numbers are c.requires c.loop-i-test.true c.index-groups-i.is in
-    let some = judged_so layout hierarchy entry (get_or counters i nothing) c.own_failure.result direct c.own_failure.ensures ∙ c.in-Some.is in
-    let found = HaveJudged-found (group_failure layout hierarchy) i groups entry c.in-Some.failure c.loop-i-test.true c.index-groups-i.is some
+    let direct = counted_at layout hierarchy groups counters i entry nothing numbers are c.requires c.loop-i-test.true
+    c.index-groups-i.is in
+    let some = judged_so layout hierarchy entry (get_or counters i nothing) c.own_failure.result direct
+    c.own_failure.ensures ∙ c.in-Some.is in
+    let found = HaveJudged-found (group_failure layout hierarchy) i groups entry c.in-Some.failure c.loop-i-test.true
+    c.index-groups-i.is some
     (c.loop-i.invariant layout hierarchy numbers are) in
     TellsFailure-of c.from.result c.in-Some.failure _ c.from.ensures found
 
 pub returns-in-Some-clause-no_disk : goal.returns-in-Some-clause-no_disk
-returns-in-Some-clause-no_disk c = λ is. let disk : c.from.result ≡ Disk = cc in told-no_disk c.from.result c.in-Some.failure c.from.ensures disk
+returns-in-Some-clause-no_disk c = λ is. let disk : c.from.result ≡ Disk = cc in
+    told-no_disk c.from.result c.in-Some.failure c.from.ensures disk
 
 pub returns-clause-failure : goal.returns-clause-failure
 returns-clause-failure c = λ layout hierarchy numbers are.
-    HaveJudged-all (group_failure layout hierarchy) c.loop-i.i c.args.groups.now c.loop-i-test.false (c.loop-i.invariant layout hierarchy numbers are)
+    HaveJudged-all (group_failure layout hierarchy) c.loop-i.i c.args.groups.now c.loop-i-test.false
+    (c.loop-i.invariant layout hierarchy numbers are)

@@ -9,5 +9,6 @@ use Rattle.qg_check.proofs.counts.judge_groups.Given as goal
 
 abbrev pub invariant-loop-i : goal.invariant-loop-i
 invariant-loop-i l =
-    (layout : Layout) (hierarchy : Hierarchy) → hierarchy.groups ≡ keys_of l.groups → AreGroupCounts layout hierarchy l.counters
+    (layout : Layout) (hierarchy : Hierarchy) → hierarchy.groups ≡ keys_of l.groups
+    → AreGroupCounts layout hierarchy l.counters
     → HaveJudged (group_failure layout hierarchy) l.i l.groups

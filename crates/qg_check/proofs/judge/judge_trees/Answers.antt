@@ -6,11 +6,13 @@ use Rattle.qg_check.proofs.judge.judge_trees.Goals as goal
 
 pub keep-requires-clause-parts : goal.keep-requires-clause-parts
 keep-requires-clause-parts c =
-    subst (λ (tree : ExtentTree). AreFitParts c.args.superblock.generation tree.parts) (sym c.in_ok-judged.ensures.judged.extents) c.requires.parts
+    subst (λ (tree : ExtentTree). AreFitParts c.args.superblock.generation tree.parts)
+    (sym c.in_ok-judged.ensures.judged.extents) c.requires.parts
 
 pub returns-in_err-judged-clause-failure : goal.returns-in_err-judged-clause-failure
 returns-in_err-judged-clause-failure c = λ bytes are.
-    fails_handed c.from_residual.result c.in_err-judged.field-0.0 _ c.from_residual.ensures.1 (c.in_err-judged.ensures.failure bytes are)
+    fails_handed c.from_residual.result c.in_err-judged.field-0.0 _ c.from_residual.ensures.1
+    (c.in_err-judged.ensures.failure bytes are)
 
 pub returns-clause-failure : goal.returns-clause-failure
 returns-clause-failure c = λ bytes are.

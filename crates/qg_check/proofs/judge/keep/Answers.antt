@@ -38,7 +38,8 @@ returns-in_err-nodes-clause-sound c = λ bytes read are is none.
     rw found.1 (rw found.2 refl)
 
 pub read_book-requires : goal.read_book-requires
-read_book-requires c = subst (λ (parts : List ExtentPart). IsNonDecreasingBy part_address parts) (sym c.as_slice.ensures) c.requires.parts.ordered
+read_book-requires c = subst (λ (parts : List ExtentPart). IsNonDecreasingBy part_address parts)
+    (sym c.as_slice.ensures) c.requires.parts.ordered
 
 -- the book can be read
 pub returns-in_err-book-clause-sound : goal.returns-in_err-book-clause-sound
@@ -48,7 +49,8 @@ returns-in_err-book-clause-sound c = λ bytes read are is none.
     let fit = subst (λ (tree : ExtentTree). AreFitParts super.generation tree.parts) is.extents c.requires.parts in
     let parts = c.as_slice.ensures ∙ ap (λ (tree : ExtentTree). tree.parts) is.extents in
     let sound = ap records_failure parts
-    ∙ book-told super bytes read are c.requires.served c.args.judged.runs is.named is.space (references_kept super bytes none) fit.few in
+    ∙ book-told super bytes read are c.requires.served c.args.judged.runs is.named is.space
+    (references_kept super bytes none) fit.few in
     sound_handed c.from_residual-in_err-book.result fault c.from_residual-in_err-book.ensures.1
     (none_told fault (tells_same fault (sym (ap (option_map (Broken rule.Refs)) sound)) c.in_err-book.ensures.failure))
 
@@ -64,17 +66,21 @@ returns-clause-image c = λ bytes read are is none.
     let lie = c.in_ok-nodes.ensures ∙ ap (map (λ (node : Surveyed). node.linked.address)) c.as_slice-2.ensures.value in
     let same_parts = c.as_slice.ensures ∙ ap (λ (tree : ExtentTree). tree.parts) is.extents in
     let parts = parts-read super bytes read are served runs is.named is.space in
-    let book = subst (λ (parts : List ExtentPart). IsTold super.nodesize parts (book_of c.in_ok-book.book)) same_parts c.in_ok-book.ensures.told in
+    let book = subst (λ (parts : List ExtentPart). IsTold super.nodesize parts (book_of c.in_ok-book.book)) same_parts
+    c.in_ok-book.ensures.told in
     kept_read super bytes read _ are (record {
       same = refl;
       roots = ap (λ (trees : Trees). trees.subvolumes) is.trees;
       quota = is.quota;
       others = c.in_ok-others.ensures
-          ∙ three (ap (λ (trees : Trees). trees.nodes) is.trees) (ap (λ (tree : ExtentTree). tree.nodes) is.extents) is.quota_nodes;
-      nodes = subst (λ (list : List ℕ). HaveSame list (map (λ node. node.linked.address) read.nodes.nodes.items)) (sym lie) is.same;
+          ∙ three (ap (λ (trees : Trees). trees.nodes) is.trees) (ap (λ (tree : ExtentTree). tree.nodes) is.extents)
+          is.quota_nodes;
+      nodes = subst (λ (list : List ℕ). HaveSame list (map (λ node. node.linked.address) read.nodes.nodes.items))
+          (sym lie) is.same;
       ascending = subst IsStrictlyIncreasing (sym lie) is.ascending;
       extents = extents-read super bytes read are runs is.named;
-      recorded = subst (λ (parts : List ExtentPart). IsTold super.nodesize parts (book_of c.in_ok-book.book)) parts book;
+      recorded = subst (λ (parts : List ExtentPart). IsTold super.nodesize parts (book_of c.in_ok-book.book)) parts
+          book;
       owed = book-owed super bytes read are served runs is.named is.space kept (book_of c.in_ok-book.book) book;
       agrees = agrees-recorded super bytes read are served runs is.named is.space kept;
       home = all_at_home super bytes layout kept;
@@ -91,10 +97,12 @@ returns-clause-keeps c = λ read is slots.
       roots = ap (λ (trees : Trees). trees.subvolumes) is.trees;
       quota = is.quota;
       others = c.in_ok-others.ensures
-          ∙ three (ap (λ (trees : Trees). trees.nodes) is.trees) (ap (λ (tree : ExtentTree). tree.nodes) is.extents) is.quota_nodes;
+          ∙ three (ap (λ (trees : Trees). trees.nodes) is.trees) (ap (λ (tree : ExtentTree). tree.nodes) is.extents)
+          is.quota_nodes;
       nodes = subst (λ (list : List ℕ). list_all (is_slot sizes) list ≡ true) (sym lie)
           (list_all-from_AllPass (is_slot sizes) (map (λ (node : Surveyed). node.linked.address) those) inside);
       space = is.space;
-      book = subst (λ (parts : List ExtentPart). IsTold c.args.superblock.nodesize parts (book_of c.in_ok-book.book)) same_parts c.in_ok-book.ensures.told;
+      book = subst (λ (parts : List ExtentPart). IsTold c.args.superblock.nodesize parts (book_of c.in_ok-book.book))
+          same_parts c.in_ok-book.ensures.told;
       table = c.in_ok-book.ensures.table;
     }

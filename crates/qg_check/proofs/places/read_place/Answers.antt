@@ -10,4 +10,5 @@ returns-then-len-place-clause-found g c = λ events told.
 
 pub returns-clause-found : goal.returns-clause-found
 returns-clause-found g c = λ events told.
-    c.read_super.ensures.exact ∙ super_in-range (content events) c.args.place c.read.new.buf (c.in_ok-read.ensures.bytes events told)
+    c.read_super.ensures.exact ∙ super_in-range (content events) c.args.place c.read.new.buf
+    (c.in_ok-read.ensures.bytes events told)

@@ -29,7 +29,8 @@ judge_trees-requires-clause-tracked g c = c.in_ok-whole.ensures.fit.tracked
 
 pub returns-in_err-whole-clause-failure : goal.returns-in_err-whole-clause-failure
 returns-in_err-whole-clause-failure g c = λ events told.
-    fails_handed c.from_residual.result c.in_err-whole.field-0.0 _ c.from_residual.ensures.1 (c.in_err-whole.ensures.failure events told)
+    fails_handed c.from_residual.result c.in_err-whole.field-0.0 _ c.from_residual.ensures.1
+    (c.in_err-whole.ensures.failure events told)
 
 pub returns-in_err-image-clause-failure : goal.returns-in_err-image-clause-failure
 returns-in_err-image-clause-failure g c = λ events told.
@@ -53,7 +54,8 @@ returns-clause-image g c = λ events told.
       sound = returns-clause-failure g c events told;
       chosen = whole.chosen ∙ ap (λ (s : Super). Some s) (sym kept.same);
       stale = whole.stale;
-      kept = subst (λ (s : Super). StandsFor s (content events) (record c.in_ok-image.image { stale = c.in_ok-whole.whole.stale })) (sym kept.same)
+      kept = subst (λ (s : Super). StandsFor s (content events)
+          (record c.in_ok-image.image { stale = c.in_ok-whole.whole.stale })) (sym kept.same)
           (record {
             same = kept.same;
             roots = kept.roots;
@@ -71,14 +73,17 @@ returns-clause-image g c = λ events told.
     }
 
 pub returns-clause-served : goal.returns-clause-served
-returns-clause-served g c = subst (λ (s : Super). is_super s ≡ true) (sym c.in_ok-image.ensures.superblock) c.in_ok-whole.ensures.fit.superblock
+returns-clause-served g c =
+    subst (λ (s : Super). is_super s ≡ true) (sym c.in_ok-image.ensures.superblock) c.in_ok-whole.ensures.fit.superblock
 
 pub returns-clause-editable : goal.returns-clause-editable
 returns-clause-editable g c =
     let whole = c.in_ok-whole.whole in
     stale_editable c.in_ok-image.image whole.stale
-    (read_editable whole.superblock whole.read c.in_ok-image.image c.in_ok-image.ensures.superblock c.in_ok-image.ensures.keeps c.in_ok-whole.ensures.fit)
+    (read_editable whole.superblock whole.read c.in_ok-image.image c.in_ok-image.ensures.superblock
+    c.in_ok-image.ensures.keeps c.in_ok-whole.ensures.fit)
 
 pub returns-clause-inside : goal.returns-clause-inside
 returns-clause-inside g c =
-    subst (λ (s : Super). total_bytes (sizes_of s) ≤ g.D.Disk.size c.read_whole.new.disk) (sym c.in_ok-image.ensures.superblock) c.in_ok-whole.ensures.inside
+    subst (λ (s : Super). total_bytes (sizes_of s) ≤ g.D.Disk.size c.read_whole.new.disk)
+    (sym c.in_ok-image.ensures.superblock) c.in_ok-whole.ensures.inside

@@ -8,7 +8,8 @@ use Rattle.qg_check.proofs.references.look_at_counts.Goals as goal
 
 pub loop-part-preserved : goal.loop-part-preserved
 loop-part-preserved c =
-    All-more CountFits c.args.parts.now c.loop-part.part-index c.part-item.result c.loop-part-test.true c.loop-part.invariant
+    All-more CountFits c.args.parts.now c.loop-part.part-index c.part-item.result c.loop-part-test.true
+    c.loop-part.invariant
     (subst CountFits c.part-item.is c.look_at_count.ensures)
 
 pub returns : goal.returns

@@ -7,4 +7,6 @@ use Rattle.qg_extents.specs.Told.{IsFault}
 use Rattle.qg_check.proofs.references.opening_fault.Goals as goal
 
 pub returns-in-Broken-clause-told : goal.returns-in-Broken-clause-told
-returns-in-Broken-clause-told c = λ first is. ap (option_map (Broken rule.Refs)) (subst (λ (fault : RefsFault). IsFault first fault) c.in-Broken.is is)
+returns-in-Broken-clause-told c =
+    λ first is. ap (option_map (Broken rule.Refs))
+    (subst (λ (fault : RefsFault). IsFault first fault) c.in-Broken.is is)

@@ -24,7 +24,8 @@ judge-requires-clause-tracked g c = c.in_ok-whole.ensures.fit.tracked
 
 pub returns-in_err-whole-clause-failure : goal.returns-in_err-whole-clause-failure
 returns-in_err-whole-clause-failure g c = λ events told.
-    fails_handed c.from_residual.result c.in_err-whole.field-0.0 _ c.from_residual.ensures.1 (c.in_err-whole.ensures.failure events told)
+    fails_handed c.from_residual.result c.in_err-whole.field-0.0 _ c.from_residual.ensures.1
+    (c.in_err-whole.ensures.failure events told)
 
 pub returns-in_err-judge-clause-failure : goal.returns-in_err-judge-clause-failure
 returns-in_err-judge-clause-failure g c = λ events told.
@@ -41,4 +42,9 @@ returns-clause-failure g c = λ events told.
 pub returns-clause-at : goal.returns-clause-at
 returns-clause-at g c = λ events told.
     let whole = c.in_ok-whole.ensures.whole events told in
-    record { sound = returns-clause-failure g c events told; super = c.in_ok-whole.whole.superblock; chosen = whole.chosen; at = refl }
+    record {
+      sound = returns-clause-failure g c events told;
+      super = c.in_ok-whole.whole.superblock;
+      chosen = whole.chosen;
+      at = refl;
+    }

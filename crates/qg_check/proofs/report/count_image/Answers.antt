@@ -8,7 +8,8 @@ returns-in-Ok-clause-report g c = λ events told. c.in-Ok.ensures.at events told
 
 pub returns-in-Err-clause-report : goal.returns-in-Err-clause-report
 returns-in-Err-clause-report g c = λ events told.
-    report-told (content events) c.in-Err.fault c.report_of.result c.report_of.ensures.told (c.in-Err.ensures.failure events told)
+    report-told (content events) c.in-Err.fault c.report_of.result c.report_of.ensures.told
+    (c.in-Err.ensures.failure events told)
 
 pub returns-in-Err-clause-cause : goal.returns-in-Err-clause-cause
 returns-in-Err-clause-cause g c = record {

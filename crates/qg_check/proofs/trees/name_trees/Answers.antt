@@ -11,14 +11,16 @@ none_of None P impossible = absurd impossible
 none_of (Some x) P impossible = tt
 
 -- the number that was looked for
-at : (n m : ℕ) (roots : List (ℕ × RootItem)) (found : Option RootItem) → n ≡ m → found ≡ value_at n roots → value_at m roots ≡ found
+at : (n m : ℕ) (roots : List (ℕ × RootItem)) (found : Option RootItem) → n ≡ m → found ≡ value_at n roots
+    → value_at m roots ≡ found
 at n m roots found same is = ap (λ (k : ℕ). value_at k roots) (sym same) ∙ sym is
 
 pub returns-in_err-extents-clause-none : goal.returns-in_err-extents-clause-none
 returns-in_err-extents-clause-none c =
     let roots = c.args.roots.now in
     let asked = are_roots_asked roots (sym c.are_roots.ensures ∙ c.if-not-are_roots.false) in
-    none_of c.from_residual.result _ (missing (value_at 2 roots) (at c.new.result 2 roots None c.new.ensures c.in_err-extents.ensures) asked.extents)
+    none_of c.from_residual.result _
+    (missing (value_at 2 roots) (at c.new.result 2 roots None c.new.ensures c.in_err-extents.ensures) asked.extents)
 
 pub returns-clause-some : goal.returns-clause-some
 returns-clause-some c =

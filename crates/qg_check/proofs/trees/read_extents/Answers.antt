@@ -17,7 +17,9 @@ use Rattle.qg_check.proofs.trees.read_extents.Goals as goal
 
 pub returns-clause-tree : goal.returns-clause-tree
 returns-clause-tree g c = λ events told.
-    let walk = subst (λ (expected : Expected). IsWalk Extents extent_part AreAddressesOf c.args.superblock.now (content events) expected c.args.root.now.bytenr c.in_ok-walked.walked.parts c.in_ok-walked.walked.nodes) c.root_told.ensures (c.in_ok-walked.ensures.found events told) in
+    let walk = subst (λ (expected : Expected). IsWalk Extents extent_part AreAddressesOf c.args.superblock.now
+    (content events) expected c.args.root.now.bytenr c.in_ok-walked.walked.parts c.in_ok-walked.walked.nodes)
+    c.root_told.ensures (c.in_ok-walked.ensures.found events told) in
     record {
       said = sym (tree_read Extents extent_part c.args.superblock.now (content events) c.args.root.now _ _ walk);
       placed = walk.kept;
@@ -27,7 +29,8 @@ pub returns-clause-parts : goal.returns-clause-parts
 returns-clause-parts g c =
     let parts = c.in_ok-walked.walked.parts in
     let said = c.in_ok-walked.ensures.ascending in
-    let fit : All CountFits parts = subst (λ (list : List ExtentPart). All CountFits list) c.as_slice.ensures c.look_at_counts.ensures in
+    let fit : All CountFits parts =
+    subst (λ (list : List ExtentPart). All CountFits list) c.as_slice.ensures c.look_at_counts.ensures in
     record {
       ordered = parts_ordered parts said;
       few = parts_few parts said fit;
@@ -35,4 +38,5 @@ returns-clause-parts g c =
     }
 
 pub returns-clause-slots : goal.returns-clause-slots
-returns-clause-slots g c = slots_of_addresses (sizes_of c.args.superblock.now) c.in_ok-walked.walked.nodes c.in_ok-walked.ensures.slots
+returns-clause-slots g c =
+    slots_of_addresses (sizes_of c.args.superblock.now) c.in_ok-walked.walked.nodes c.in_ok-walked.ensures.slots

@@ -14,7 +14,8 @@ returns-in_err-tree-in-Some-clause-failure g c = λ events extents told named.
     let super = c.args.superblock.now in
     let roots = roots_in super (content events) in
     let fault = c.in_err-tree-in-Some.field-0.0 in
-    let here = subst (λ (root : Option RootItem). AreNamed roots extents root c.args.subvolumes.now) c.in-Some.is named in
+    let here = subst (λ (root : Option RootItem). AreNamed roots extents root c.args.subvolumes.now) c.in-Some.is
+    named in
     let same = ap (quota_failure super (content events) roots) c.in-Some.is in
     fails_handed c.from_residual.result fault _ c.from_residual.ensures.1
     (tells_same fault same (c.in_err-tree-in-Some.ensures.failure events extents told here))
@@ -23,8 +24,10 @@ pub returns-in_ok-tree-in-Some-clause-failure : goal.returns-in_ok-tree-in-Some-
 returns-in_ok-tree-in-Some-clause-failure g c = λ events extents told named.
     let super = c.args.superblock.now in
     let roots = roots_in super (content events) in
-    let here = subst (λ (root : Option RootItem). AreNamed roots extents root c.args.subvolumes.now) c.in-Some.is named in
-    ap (quota_failure super (content events) roots) c.in-Some.is ∙ c.in_ok-tree-in-Some.ensures.failure events extents told here
+    let here = subst (λ (root : Option RootItem). AreNamed roots extents root c.args.subvolumes.now) c.in-Some.is
+    named in
+    ap (quota_failure super (content events) roots) c.in-Some.is
+    ∙ c.in_ok-tree-in-Some.ensures.failure events extents told here
 
 -- ---- quota is off
 
@@ -35,4 +38,5 @@ returns-in-None-clause-failure g c = λ events extents told named.
 
 pub returns-in-None-clause-tree : goal.returns-in-None-clause-tree
 returns-in-None-clause-tree g c = λ events told.
-    subst (λ (root : Option RootItem). IsQuotaTreeOf c.args.superblock.now (content events) root None) (sym c.in-None.is) tt
+    subst (λ (root : Option RootItem). IsQuotaTreeOf c.args.superblock.now (content events) root None)
+    (sym c.in-None.is) tt

@@ -4,7 +4,8 @@ use Rattle.std.proofs.lemmas.List.Elements.{All-from_recursion}
 use Rattle.qg_super.specs.Places.{slot_at}
 use Rattle.qg_refs.specs.declared.kept.Kept.{Kept}
 use Rattle.qg_extents.specs.Fresh.{fresh_table}
-use Rattle.qg_commit.proofs.FreshTrees.{fresh-enough, fresh_groups, fresh_slots-IsDistinct, fresh_subvolumes, nodes_are, superblock_is}
+use Rattle.qg_commit.proofs.FreshTrees.{fresh-enough, fresh_groups, fresh_slots-IsDistinct, fresh_subvolumes, nodes_are}
+use Rattle.qg_commit.proofs.FreshTrees.{superblock_is}
 use Rattle.qg_commit.proofs.fresh.lay_fresh.Goals as goal
 
 -- what is known is of generation 1

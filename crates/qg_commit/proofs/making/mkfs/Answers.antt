@@ -113,7 +113,8 @@ returns-clause-calls g c =
     let size3 = c.write_nodes-2.auto.buffer ∙ size2 in
     let size4 = c.write_nodes-3.auto.buffer ∙ size3 in
     let own_is : c.lay_own_leaf.result ∷ [] ≡ own = ap (λ (node : Node). node ∷ []) c.lay_own_leaf.ensures in
-    let one = first_calls super _ _ trees.roots.nodes (history c.write_at.new.self) (history c.write_nodes.new.disk) size
+    let one = first_calls super _ _ trees.roots.nodes (history c.write_at.new.self) (history c.write_nodes.new.disk)
+    size
     c.as_slice.ensures c.in_ok-write_nodes.ensures.calls in
     let two = first_calls super _ _ trees.extents.nodes (history c.write_nodes.new.disk)
     (history c.write_nodes-2.new.disk) size2 c.as_slice-2.ensures c.in_ok-write_nodes-2.ensures.calls in
@@ -121,20 +122,24 @@ returns-clause-calls g c =
     own_is c.in_ok-write_nodes-3.ensures.calls in
     let four = first_calls super _ _ (quota_nodes_laid trees.quotas) (history c.write_nodes-3.new.disk)
     (history c.write_nodes-4.new.disk) size4 c.quota_nodes.ensures c.in_ok-write_nodes-4.ensures.calls in
-    let commits = four_lists super trees.roots.nodes trees.extents.nodes own (quota_nodes_laid trees.quotas) (history c.write_at.new.self)
+    let commits = four_lists super trees.roots.nodes trees.extents.nodes own (quota_nodes_laid trees.quotas)
+    (history c.write_at.new.self)
     (history c.write_nodes.new.disk) (history c.write_nodes-2.new.disk) (history c.write_nodes-3.new.disk)
     (history c.write_nodes-4.new.disk) (history c.write_superblocks.new.disk) one two three four
     c.in_ok-write_superblocks.ensures.calls in
-    image_calls sizes super (trees.roots.nodes ++ trees.extents.nodes ++ own ++ (quota_nodes_laid trees.quotas)) c.total_bytes.result
+    image_calls sizes super (trees.roots.nodes ++ trees.extents.nodes ++ own ++ (quota_nodes_laid trees.quotas))
+    c.total_bytes.result
     c.in_ok-trees.ensures.superblock c.in_ok-trees.ensures.nodes c.total_bytes.ensures (history c.args.disk.now)
-    (history c.cut.new.self) (history c.write_at.new.self) (history c.write_superblocks.new.disk) c.in_ok-cut.ensures.event
+    (history c.cut.new.self) (history c.write_at.new.self) (history c.write_superblocks.new.disk)
+    c.in_ok-cut.ensures.event
     c.in_ok-write_at.ensures.event commits
 
 pub returns-clause-fresh : goal.returns-clause-fresh
 returns-clause-fresh g c before was =
     let served : is_served c.args.sizes ≡ true = sym c.is_served.ensures ∙ c.if-not-is_served.false in
     let super = fresh_super c.args.sizes (slot_at c.args.sizes 0) in
-    let calls : g.D.Disk.history c.write_superblocks.new.disk ≡ Some (with_image super (fresh_nodes c.args.sizes) before) =
+    let calls : g.D.Disk.history c.write_superblocks.new.disk
+    ≡ Some (with_image super (fresh_nodes c.args.sizes) before) =
     returns-clause-calls g c ∙ rw was refl in
     rw calls (made-HoldsFreshImage c.args.sizes c.in_ok-trees.trees served c.in_ok-trees.ensures.fits
     c.in_ok-trees.ensures.trees c.in_ok-trees.ensures.table before)

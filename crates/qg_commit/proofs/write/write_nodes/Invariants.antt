@@ -12,7 +12,8 @@ invariant-loop-node g l = record {
   calls :
       option_map (with_nodes (length l.buffer) (drop l.node-index l.nodes)) (g.D.Disk.history l.disk)
       ≡ option_map (with_nodes (length l.buffer) l.nodes) (g.D.Disk.history l.initial.disk);
-  leads : (new : Option (List Event)) → ComesTo (node_calls (length l.buffer) (drop l.node-index l.nodes)) (g.D.Disk.history l.disk) new
+  leads : (new : Option (List Event)) → ComesTo (node_calls (length l.buffer) (drop l.node-index l.nodes))
+      (g.D.Disk.history l.disk) new
       → ComesTo (node_calls (length l.buffer) l.nodes) (g.D.Disk.history l.initial.disk) new;
   writable : AllByRecursion (IsWritable (length l.buffer)) (drop l.node-index l.nodes);
   size : g.D.Disk.size l.initial.disk ≤ g.D.Disk.size l.disk;

@@ -18,28 +18,37 @@ abbrev first_calls : Super → List Call
 first_calls super = WriteAt first_place (super_text first_place super) ∷ Sync ∷ second_calls super
 
 pub returns-in_err-sync-clause-front : goal.returns-in_err-sync-clause-front
-returns-in_err-sync-clause-front g c = comes-sync (first_calls c.args.superblock.now) _ _ c.sync.result c.sync.ensures.event
+returns-in_err-sync-clause-front g c =
+    comes-sync (first_calls c.args.superblock.now) _ _ c.sync.result c.sync.ensures.event
 
 pub returns-in_err-write_at-clause-front : goal.returns-in_err-write_at-clause-front
 returns-in_err-write_at-clause-front g c =
     let super = c.args.superblock.now in
     let history = g.D.Disk.history in
-    comes-synced (first_calls super) (history c.args.disk.now) (history c.sync.new.self) (history c.write_at.new.self) c.in_ok-sync.ensures.event
-    (comes-write first_place (super_text first_place super) (Sync ∷ second_calls super) (history c.sync.new.self) (history c.write_at.new.self) c.write_at.result
-    (subst (Writes (history c.sync.new.self) (history c.write_at.new.self) c.write_at.result first_place) c.write_super.ensures c.write_at.ensures.event))
+    comes-synced (first_calls super) (history c.args.disk.now) (history c.sync.new.self) (history c.write_at.new.self)
+    c.in_ok-sync.ensures.event
+    (comes-write first_place (super_text first_place super) (Sync ∷ second_calls super) (history c.sync.new.self)
+    (history c.write_at.new.self) c.write_at.result
+    (subst (Writes (history c.sync.new.self) (history c.write_at.new.self) c.write_at.result first_place)
+    c.write_super.ensures c.write_at.ensures.event))
 
 -- what was done once the first superblock was written
-wrote : (old new : Option (List Event)) (place : ℕ) {bytes text : List ℕ} → bytes ≡ text → new ≡ with_event (Wrote place bytes) old → new ≡ with_event (Wrote place text) old
+wrote : (old new : Option (List Event)) (place : ℕ) {bytes text : List ℕ} → bytes ≡ text
+    → new ≡ with_event (Wrote place bytes) old → new ≡ with_event (Wrote place text) old
 wrote old new place same is = is ∙ ap (λ (text : List ℕ). with_event (Wrote place text) old) same
 
 pub returns-in_err-sync-2-clause-front : goal.returns-in_err-sync-2-clause-front
 returns-in_err-sync-2-clause-front g c =
     let super = c.args.superblock.now in
     let history = g.D.Disk.history in
-    comes-synced (first_calls super) (history c.args.disk.now) (history c.sync.new.self) (history c.sync-2.new.self) c.in_ok-sync.ensures.event
-    (comes-written first_place (super_text first_place super) (Sync ∷ second_calls super) (history c.sync.new.self) (history c.write_at.new.self) (history c.sync-2.new.self)
-    (wrote (history c.sync.new.self) (history c.write_at.new.self) first_place c.write_super.ensures c.in_ok-write_at.ensures.event)
-    (comes-sync (second_calls super) (history c.write_at.new.self) (history c.sync-2.new.self) c.sync-2.result c.sync-2.ensures.event))
+    comes-synced (first_calls super) (history c.args.disk.now) (history c.sync.new.self) (history c.sync-2.new.self)
+    c.in_ok-sync.ensures.event
+    (comes-written first_place (super_text first_place super) (Sync ∷ second_calls super) (history c.sync.new.self)
+    (history c.write_at.new.self) (history c.sync-2.new.self)
+    (wrote (history c.sync.new.self) (history c.write_at.new.self) first_place c.write_super.ensures
+    c.in_ok-write_at.ensures.event)
+    (comes-sync (second_calls super) (history c.write_at.new.self) (history c.sync-2.new.self) c.sync-2.result
+    c.sync-2.ensures.event))
 
 pub returns-in_err-write_at-2-clause-front : goal.returns-in_err-write_at-2-clause-front
 returns-in_err-write_at-2-clause-front g c =
@@ -47,11 +56,16 @@ returns-in_err-write_at-2-clause-front g c =
     let history = g.D.Disk.history in
     let last = history c.write_at-2.new.self in
     comes-synced (first_calls super) (history c.args.disk.now) (history c.sync.new.self) last c.in_ok-sync.ensures.event
-    (comes-written first_place (super_text first_place super) (Sync ∷ second_calls super) (history c.sync.new.self) (history c.write_at.new.self) last
-    (wrote (history c.sync.new.self) (history c.write_at.new.self) first_place c.write_super.ensures c.in_ok-write_at.ensures.event)
-    (comes-synced (second_calls super) (history c.write_at.new.self) (history c.sync-2.new.self) last c.in_ok-sync-2.ensures.event
-    (comes-write second_place (super_text second_place super) (Sync ∷ []) (history c.sync-2.new.self) last c.write_at-2.result
-    (subst (Writes (history c.sync-2.new.self) last c.write_at-2.result second_place) c.write_super-2.ensures c.write_at-2.ensures.event))))
+    (comes-written first_place (super_text first_place super) (Sync ∷ second_calls super) (history c.sync.new.self)
+    (history c.write_at.new.self) last
+    (wrote (history c.sync.new.self) (history c.write_at.new.self) first_place c.write_super.ensures
+    c.in_ok-write_at.ensures.event)
+    (comes-synced (second_calls super) (history c.write_at.new.self) (history c.sync-2.new.self) last
+    c.in_ok-sync-2.ensures.event
+    (comes-write second_place (super_text second_place super) (Sync ∷ []) (history c.sync-2.new.self) last
+    c.write_at-2.result
+    (subst (Writes (history c.sync-2.new.self) last c.write_at-2.result second_place) c.write_super-2.ensures
+    c.write_at-2.ensures.event))))
 
 pub returns-in_err-sync-3-clause-front : goal.returns-in_err-sync-3-clause-front
 returns-in_err-sync-3-clause-front g c =
@@ -59,11 +73,16 @@ returns-in_err-sync-3-clause-front g c =
     let history = g.D.Disk.history in
     let last = history c.sync-3.new.self in
     comes-synced (first_calls super) (history c.args.disk.now) (history c.sync.new.self) last c.in_ok-sync.ensures.event
-    (comes-written first_place (super_text first_place super) (Sync ∷ second_calls super) (history c.sync.new.self) (history c.write_at.new.self) last
-    (wrote (history c.sync.new.self) (history c.write_at.new.self) first_place c.write_super.ensures c.in_ok-write_at.ensures.event)
-    (comes-synced (second_calls super) (history c.write_at.new.self) (history c.sync-2.new.self) last c.in_ok-sync-2.ensures.event
-    (comes-written second_place (super_text second_place super) (Sync ∷ []) (history c.sync-2.new.self) (history c.write_at-2.new.self) last
-    (wrote (history c.sync-2.new.self) (history c.write_at-2.new.self) second_place c.write_super-2.ensures c.in_ok-write_at-2.ensures.event)
+    (comes-written first_place (super_text first_place super) (Sync ∷ second_calls super) (history c.sync.new.self)
+    (history c.write_at.new.self) last
+    (wrote (history c.sync.new.self) (history c.write_at.new.self) first_place c.write_super.ensures
+    c.in_ok-write_at.ensures.event)
+    (comes-synced (second_calls super) (history c.write_at.new.self) (history c.sync-2.new.self) last
+    c.in_ok-sync-2.ensures.event
+    (comes-written second_place (super_text second_place super) (Sync ∷ []) (history c.sync-2.new.self)
+    (history c.write_at-2.new.self) last
+    (wrote (history c.sync-2.new.self) (history c.write_at-2.new.self) second_place c.write_super-2.ensures
+    c.in_ok-write_at-2.ensures.event)
     (comes-sync [] (history c.write_at-2.new.self) last c.sync-3.result c.sync-3.ensures.event))))
 
 pub returns-clause-front : goal.returns-clause-front
@@ -72,9 +91,14 @@ returns-clause-front g c =
     let history = g.D.Disk.history in
     let last = history c.sync-3.new.self in
     comes-synced (first_calls super) (history c.args.disk.now) (history c.sync.new.self) last c.in_ok-sync.ensures.event
-    (comes-written first_place (super_text first_place super) (Sync ∷ second_calls super) (history c.sync.new.self) (history c.write_at.new.self) last
-    (wrote (history c.sync.new.self) (history c.write_at.new.self) first_place c.write_super.ensures c.in_ok-write_at.ensures.event)
-    (comes-synced (second_calls super) (history c.write_at.new.self) (history c.sync-2.new.self) last c.in_ok-sync-2.ensures.event
-    (comes-written second_place (super_text second_place super) (Sync ∷ []) (history c.sync-2.new.self) (history c.write_at-2.new.self) last
-    (wrote (history c.sync-2.new.self) (history c.write_at-2.new.self) second_place c.write_super-2.ensures c.in_ok-write_at-2.ensures.event)
+    (comes-written first_place (super_text first_place super) (Sync ∷ second_calls super) (history c.sync.new.self)
+    (history c.write_at.new.self) last
+    (wrote (history c.sync.new.self) (history c.write_at.new.self) first_place c.write_super.ensures
+    c.in_ok-write_at.ensures.event)
+    (comes-synced (second_calls super) (history c.write_at.new.self) (history c.sync-2.new.self) last
+    c.in_ok-sync-2.ensures.event
+    (comes-written second_place (super_text second_place super) (Sync ∷ []) (history c.sync-2.new.self)
+    (history c.write_at-2.new.self) last
+    (wrote (history c.sync-2.new.self) (history c.write_at-2.new.self) second_place c.write_super-2.ensures
+    c.in_ok-write_at-2.ensures.event)
     (comes-sync [] (history c.write_at-2.new.self) last c.sync-3.result c.sync-3.ensures.event))))

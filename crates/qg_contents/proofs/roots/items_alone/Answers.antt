@@ -15,7 +15,8 @@ loop-subvolume-preserved c =
     let entry = c.subvolume-item.result in
     let inside : i < length subvolumes = c.loop-subvolume-test.true in
     record {
-      items = one_put (item_of_root 2 c.args.extents.now ∷ []) c.loop-subvolume.items c.put_root.new.items subvolumes i entry
+      items = one_put (item_of_root 2 c.args.extents.now ∷ []) c.loop-subvolume.items c.put_root.new.items subvolumes i
+          entry
           inside c.subvolume-item.is c.loop-subvolume.invariant.items c.in_ok-put_root.ensures.ok;
       fits = All-more (λ (e : ℕ × RootItem). RootFits e.1) subvolumes i entry inside c.loop-subvolume.invariant.fits
           (subst (λ (e : ℕ × RootItem). RootFits e.1) c.subvolume-item.is c.in_ok-put_root.ensures.fits);
@@ -34,4 +35,5 @@ returns-clause-fits c =
     let subvolumes = c.args.subvolumes.now in
     let all : take c.loop-subvolume.subvolume-index subvolumes ≡ subvolumes =
     take_all c.loop-subvolume.subvolume-index subvolumes (omega arith) in
-    subst (λ (list : List (ℕ × RootItem)). All (λ (e : ℕ × RootItem). RootFits e.1) list) all c.loop-subvolume.invariant.fits
+    subst (λ (list : List (ℕ × RootItem)). All (λ (e : ℕ × RootItem). RootFits e.1) list) all
+    c.loop-subvolume.invariant.fits

@@ -15,12 +15,15 @@ loop-subvolume-preserved c =
     let entry = c.subvolume-item.result in
     let inside : i < length subvolumes = c.loop-subvolume-test.true in
     let number : is_subvolume_number entry.0 ≡ true =
-    subst (λ (e : ℕ × RootItem). is_subvolume_number e.0 ≡ true) (sym c.subvolume-item.is) (c.requires i entry inside) in
+    subst (λ (e : ℕ × RootItem). is_subvolume_number e.0 ≡ true) (sym c.subvolume-item.is)
+    (c.requires i entry inside) in
     let split = drop_more subvolumes i entry inside
     ∙ ap (λ (e : ℕ × RootItem). e ∷ drop (i + 1) subvolumes) (sym c.subvolume-item.is) in
     record {
-      items = roots-put c.loop-subvolume.items c.put_roots.new.items c.loop-subvolume.named c.is_named-named.result c.stands_next.result
-          c.args.quotas.now entry (drop i subvolumes) (drop (i + 1) subvolumes) number split c.is_named-named.ensures c.stands_next.ensures
+      items = roots-put c.loop-subvolume.items c.put_roots.new.items c.loop-subvolume.named c.is_named-named.result
+          c.stands_next.result
+          c.args.quotas.now entry (drop i subvolumes) (drop (i + 1) subvolumes) number split c.is_named-named.ensures
+          c.stands_next.ensures
           c.in_ok-put_roots.ensures.ok
           ∙ c.loop-subvolume.invariant.items;
       fits = All-more (λ (e : ℕ × RootItem). RootFits e.1) subvolumes i entry inside c.loop-subvolume.invariant.fits
@@ -32,4 +35,5 @@ returns-clause-fits c =
     let subvolumes = c.args.subvolumes.now in
     let all : take c.loop-subvolume.subvolume-index subvolumes ≡ subvolumes =
     take_all c.loop-subvolume.subvolume-index subvolumes (omega arith) in
-    subst (λ (list : List (ℕ × RootItem)). All (λ (e : ℕ × RootItem). RootFits e.1) list) all c.loop-subvolume.invariant.fits
+    subst (λ (list : List (ℕ × RootItem)). All (λ (e : ℕ × RootItem). RootFits e.1) list) all
+    c.loop-subvolume.invariant.fits

@@ -16,7 +16,8 @@ items_of_roots-requires c = c.requires.subvolumes.numbers
 pub returns-clause-told : goal.returns-clause-told
 returns-clause-told c =
     ap (filter_map root_part) c.in_ok-items_of_roots.ensures.exact
-    ∙ roots-told c.args.extents.now c.args.subvolumes.now c.args.quotas.now c.requires.extents c.requires.subvolumes c.in_ok-items_of_roots.ensures.fits c.requires.quotas
+    ∙ roots-told c.args.extents.now c.args.subvolumes.now c.args.quotas.now c.requires.extents c.requires.subvolumes
+    c.in_ok-items_of_roots.ensures.fits c.requires.quotas
 
 pub returns-clause-allowed : goal.returns-clause-allowed
 returns-clause-allowed c generation e s q =
@@ -31,13 +32,15 @@ returns-clause-ascending c =
 
 pub returns-clause-short : goal.returns-clause-short
 returns-clause-short c =
-    subst (λ (items : List Item). All (λ (item : Item). length item.body ≤ 1024) items) (sym c.in_ok-items_of_roots.ensures.exact)
+    subst (λ (items : List Item). All (λ (item : Item). length item.body ≤ 1024) items)
+    (sym c.in_ok-items_of_roots.ensures.exact)
     (roots-short c.args.extents.now c.args.subvolumes.now c.args.quotas.now)
 
 pub returns-clause-fit : goal.returns-clause-fit
 returns-clause-fit c =
     subst (λ (items : List Item). All ItemFits items) (sym c.in_ok-items_of_roots.ensures.exact)
-    (roots-fit c.args.extents.now c.args.subvolumes.now c.args.quotas.now c.requires.extents c.requires.subvolumes c.in_ok-items_of_roots.ensures.fits c.requires.quotas)
+    (roots-fit c.args.extents.now c.args.subvolumes.now c.args.quotas.now c.requires.extents c.requires.subvolumes
+    c.in_ok-items_of_roots.ensures.fits c.requires.quotas)
 
 pub returns-clause-weight : goal.returns-clause-weight
 returns-clause-weight c =

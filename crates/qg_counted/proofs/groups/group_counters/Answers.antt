@@ -65,15 +65,18 @@ loop-set-preserved c =
     subst (λ (set : ℕ). AreMembers (row_of rows set) (length above) members) c.new.ensures c.in_ok-members.ensures in
     let is = c.in_ok-named.ensures ∙ ap (λ (list : List ℕ). flat_map (list_at above) list) c.as_slice.ensures in
     let of_names =
-    subst (λ (list : List ℕ). HaveHits list n c.len.result bytes c.as_mut_slice.result.now new) c.as_slice-in-loop-set.ensures
+    subst (λ (list : List ℕ). HaveHits list n c.len.result bytes c.as_mut_slice.result.now new)
+    c.as_slice-in-loop-set.ensures
     c.hit_all.ensures in
     let of_many =
     subst (λ many. HaveHits named n many bytes c.as_mut_slice.result.now new) c.len.ensures of_names in
     let hits =
-    subst (λ (old : List Tally). HaveHits named n (length members) bytes old new) c.as_mut_slice.ensures.value of_many in
+    subst (λ (old : List Tally). HaveHits named n (length members) bytes old new) c.as_mut_slice.ensures.value
+    of_many in
     let written = sym (take_at new _ tallies.len (hits.same ∙ sym tallies.ok.0)) in
     subst (TalliedFirst rows above sums c.args.groups (n + 1)) written
-    (tallied_more rows above sums c.args.groups n members named tallies.items new c.loop-set-test.true c.requires.once are
+    (tallied_more rows above sums c.args.groups n members named tallies.items new c.loop-set-test.true c.requires.once
+    are
     is c.loop-set.invariant hits)
 
 pub returns-clause-all : goal.returns-clause-all
@@ -91,5 +94,6 @@ returns-clause-each c =
     ∙ ap (λ (list : List Tally). map (λ (tally : Tally). tally.counters) list) c.as_slice-told.ensures.value in
     tallied_all rows c.args.above.now c.args.portions.now sums c.args.groups c.loop-set.set c.loop-set.tallies.items
     c.in_ok-counters_in.field-0.items
-    (λ test. ap (λ (ns : List ℕ). sum_where test 0 ns) c.deref-bytes-items.ensures.value ∙ c.in_ok-sums.ensures.sums test)
+    (λ test. ap (λ (ns : List ℕ). sum_where test 0 ns) c.deref-bytes-items.ensures.value
+    ∙ c.in_ok-sums.ensures.sums test)
     c.loop-set-test.false is c.loop-set.invariant

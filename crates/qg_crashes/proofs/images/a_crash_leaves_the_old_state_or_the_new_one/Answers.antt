@@ -1,4 +1,5 @@
-use Rattle.qg_crashes.proofs.States.{leaves_either_state, leaves_the_old_state, leaves_the_new_state, mirrors_the_new_state}
+use Rattle.qg_crashes.proofs.States.{leaves_either_state, leaves_the_old_state, leaves_the_new_state}
+use Rattle.qg_crashes.proofs.States.{mirrors_the_new_state}
 use Rattle.qg_crashes.proofs.images.a_crash_leaves_the_old_state_or_the_new_one.Goals as goal
 
 pub returns-clause-either : goal.returns-clause-either

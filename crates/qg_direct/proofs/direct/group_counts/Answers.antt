@@ -28,7 +28,8 @@ pub push_nodes-requires : goal.push_nodes-requires
 push_nodes-requires c =
     let nodes = c.args.nodes.now in
     let told = c.in_ok-portions.ensures (links_in nodes) c.args.roots.now c.in_ok-reached.ensures
-    (among nodes c.in_ok-namers.namers.items c.as_slice.result.now c.as_slice.ensures.value c.in_ok-namers.ensures.within)
+    (among nodes c.in_ok-namers.namers.items c.as_slice.result.now c.as_slice.ensures.value
+    c.in_ok-namers.ensures.within)
     in
     told.0.same ∙ length-map nodes (λ (node : Surveyed). node.linked)
 
@@ -48,7 +49,8 @@ group_counters-requires c =
     let sets = reached.numbers.items in
     let first = c.in_ok-portions.portions.items in
     let told = c.in_ok-portions.ensures (links_in nodes) c.args.roots.now c.in_ok-reached.ensures
-    (among nodes c.in_ok-namers.namers.items c.as_slice.result.now c.as_slice.ensures.value c.in_ok-namers.ensures.within)
+    (among nodes c.in_ok-namers.namers.items c.as_slice.result.now c.as_slice.ensures.value
+    c.in_ok-namers.ensures.within)
     in
     let list = c.as_slice-3.ensures.value ∙ c.in_ok-push_nodes.ensures in
     let many = told.0.same ∙ length-map nodes (λ (node : Surveyed). node.linked) in
@@ -60,7 +62,8 @@ group_counters-requires c =
           told.1 told.0.inside);
       small = subst (λ n. n < 2 ^ 64)
           (sym (ap (bytes_where (λ set. true)) list
-          ∙ all_bytes (links_in nodes) c.args.roots.now rows c.as_slice.result.now extents first c.args.nodesize sets told.1
+          ∙ all_bytes (links_in nodes) c.args.roots.now rows c.as_slice.result.now extents first c.args.nodesize sets
+          told.1
           ∙ ap (λ n. c.args.nodesize * n + bytes_of extents) many)) c.requires.small;
       places = subst (λ n. AreWithin n c.as_slice-4.result.now) (sym count)
           (subst (AreWithin (length hierarchy.groups)) (sym above)
@@ -88,10 +91,12 @@ returns-clause-direct c = λ layout are.
     let first = c.in_ok-portions.portions.items in
     let above = c.as_slice-4.result.now in
     let told = c.in_ok-portions.ensures (links_in nodes) roots c.in_ok-reached.ensures
-    (among nodes c.in_ok-namers.namers.items c.as_slice.result.now c.as_slice.ensures.value c.in_ok-namers.ensures.within)
+    (among nodes c.in_ok-namers.namers.items c.as_slice.result.now c.as_slice.ensures.value
+    c.in_ok-namers.ensures.within)
     in
     let list = c.as_slice-3.ensures.value ∙ c.in_ok-push_nodes.ensures in
-    let namers = subst (AreNamers nodes extents) (sym c.as_slice.ensures.value) (c.in_ok-namers.ensures.namers are.ascending)
+    let namers = subst (AreNamers nodes extents) (sym c.as_slice.ensures.value)
+    (c.in_ok-namers.ensures.namers are.ascending)
     in
     let count = c.len-count.ensures ∙ ap (λ (groups : List ℕ). length groups) c.in_ok-groups.ensures in
     let memberships = subst (AreMemberships roots hierarchy) (sym c.as_slice-4.ensures.value) c.in_ok-above.ensures in
@@ -99,7 +104,8 @@ returns-clause-direct c = λ layout are.
     ≡ Some (counted_for rows (length above) c.as_slice-3.result.now (is_above above group)))
     (λ (counters : Vec Counters Global). AreGroupCounts layout hierarchy counters.items) c.group_counters.result
     (λ counters each.
-    groups_direct layout roots nodes c.args.nodesize extents are (links_ascend nodes c.requires.ascending) reached told.0
+    groups_direct layout roots nodes c.args.nodesize extents are (links_ascend nodes c.requires.ascending) reached
+    told.0
     c.as_slice.result.now namers first told.1 hierarchy above memberships counters.items
     (λ place short.
     subst (λ (portions : List Portion). slice_get counters.items place

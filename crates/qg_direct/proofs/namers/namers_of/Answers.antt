@@ -3,7 +3,8 @@ use Rattle.std.proofs.lemmas.List.{take_at}
 use Rattle.qg_home.proofs.Listed.{at_read}
 use Rattle.qg_counted.specs.Groups.{AreWithin}
 use Rattle.qg_direct.specs.Namers.{HasAtMost, HasNoted}
-use Rattle.qg_direct.proofs.Noting.{NamersFirst, within_none, within_more, within_all, namers_none, namers_more, namers_all}
+use Rattle.qg_direct.proofs.Noting.{NamersFirst, within_none, within_more, within_all, namers_none, namers_more}
+use Rattle.qg_direct.proofs.Noting.{namers_all}
 use Rattle.qg_direct.proofs.namers.namers_of.Goals as goal
 
 pub loop-i-init : goal.loop-i-init

@@ -45,11 +45,13 @@ loop-address-preserved c =
             most = subst (HasAtMost index old) (sym w.lists-is) before.most;
             noted = λ up.
                 subst (HasNoted extents (take (i + 1) named) index old) (sym w.lists-is)
-                (noted_other extents named i address short is index old lists (w.in_default.ensures.absent up) (before.noted up));
+                (noted_other extents named i address short is index old lists (w.in_default.ensures.absent up)
+                (before.noted up));
           }
     ]
 
 pub returns-clause-noted : goal.returns-clause-noted
 returns-clause-noted c = λ up.
     subst (λ (named : List ℕ). HasNoted c.args.extents.now named c.args.index c.args.lists.now c.loop-address.lists)
-    (take_all c.loop-address.address-index c.args.named.now c.loop-address-test.false) (c.loop-address.invariant.noted up)
+    (take_all c.loop-address.address-index c.args.named.now c.loop-address-test.false)
+    (c.loop-address.invariant.noted up)

@@ -9,7 +9,8 @@ use Rattle.qg_direct.proofs.namers.place_of_extent.Goals as goal
 pub returns-clause-there : goal.returns-clause-there
 returns-clause-there c =
     let facts = c.binary_search_by_key.ensures in
-    let by = facts.position (λ (extent : Element). extent.address) (answers_always _ _ _ (λ f a r g called. search rules)) in
+    let by = facts.position (λ (extent : Element). extent.address)
+    (answers_always _ _ _ (λ f a r g called. search rules)) in
     there_if_some (λ place. StandsAt (λ (extent : Element). extent.address) c.args.extents.now c.args.address place)
     c.binary_search_by_key.result c.ok.result c.ok.ensures.value
     (searched (λ (extent : Element). extent.address)

@@ -29,7 +29,8 @@ loop-i-preserved c =
     (map (λ (place : ℕ). slice_index mid.numbers.items place) list) new.sets.rows.items portion.set) places
     c.in_ok-portion_of.ensures.union in
     subst (Told c.args.reached.now new namers extents (i + 1)) (sym c.in_ok-push.ensures.items)
-    (told_more c.args.reached.now mid new namers extents i c.loop-i.portions.items extent portion c.loop-i.invariant here
+    (told_more c.args.reached.now mid new namers extents i c.loop-i.portions.items extent portion c.loop-i.invariant
+    here
     c.in_ok-portion_of.ensures.bytes union c.in_ok-portion_of.ensures.reach)
 
 pub returns : goal.returns

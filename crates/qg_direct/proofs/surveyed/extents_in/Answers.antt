@@ -22,7 +22,8 @@ loop-item-preserved c =
       | in-Some+in_ok-push w ↦
           w.extents-is ∙ w.in_ok-push.ensures.ok
           ∙ ap (λ (extents : List ℕ). extents ++ w.in-Some.piece.extent ∷ []) c.loop-item.invariant
-          ∙ sym (named_some tells items i item short c.item-item.is w.in-Some.piece (sym c.piece_in.ensures ∙ w.in-Some.is))
+          ∙ sym (named_some tells items i item short c.item-item.is w.in-Some.piece (sym c.piece_in.ensures
+          ∙ w.in-Some.is))
       | in_default w ↦
           w.extents-is ∙ c.loop-item.invariant
           ∙ sym (named_none tells items i item short c.item-item.is (sym c.piece_in.ensures ∙ w.in_default.is))

@@ -6,5 +6,6 @@ use Rattle.qg_disk.proofs.replay.redo_all.Given as goal
 
 abbrev pub invariant-loop-call : goal.invariant-loop-call
 invariant-loop-call l =
-    (content (history_of l.disk) ≡ with_calls_torn l.tear (take l.call-index l.calls) (content (history_of l.initial.disk)))
+    (content (history_of l.disk) ≡ with_calls_torn l.tear (take l.call-index l.calls)
+    (content (history_of l.initial.disk)))
     × (count_by (λ call. call.failed) l.disk ≡ count_by (λ call. call.failed) l.initial.disk)

@@ -1,4 +1,5 @@
-use Rattle.std.proofs.Common.{◌≡◌, ℕ, suc, ◌+◌, ◌*◌, ◌-◌, ◌<◌, Bool, List, [], ◌∷◌, Some, arith, refl, sym, ap, subst, ◌∙◌}
+use Rattle.std.proofs.Common.{◌≡◌, ℕ, suc, ◌+◌, ◌*◌, ◌-◌, ◌<◌, Bool, List, [], ◌∷◌, Some, arith, refl, sym, ap, subst}
+use Rattle.std.proofs.Common.{◌∙◌}
 use Rattle.std.specs.Prelude.{◌==◌, ◌&&◌, not}
 use Rattle.std.specs.List.{All}
 use Rattle.std.proofs.lemmas.List.{nil_from_length}
@@ -20,7 +21,9 @@ use Rattle.qg_drop.proofs.Knowing.{knows-on, knows-same}
 use Rattle.qg_drop.proofs.Opened.{open-part}
 use Rattle.qg_drop.proofs.Under.{children-are, top-formed, top-open}
 use Rattle.qg_drop.proofs.Leaving.{holds-read, inner-counts, inner-leaves, leaf-leaves, part-some, peeked}
-use Rattle.qg_drop.proofs.Stepping.{Went, edit-still, few-all, few-part, never-err, never-ok, times_on, rests-on, rests-read, rests-still, times-some, cause-handed, weighs-all, weighs-most, weighs-on, went-all, went-none, went-on}
+use Rattle.qg_drop.proofs.Stepping.{Went, edit-still, few-all, few-part, never-err, never-ok, times_on, rests-on}
+use Rattle.qg_drop.proofs.Stepping.{rests-read, rests-still, times-some, cause-handed, weighs-all, weighs-most}
+use Rattle.qg_drop.proofs.Stepping.{weighs-on, went-all, went-none, went-on}
 use Rattle.qg_drop.proofs.dropping.+dropping.Goals as goal
 
 pub drop_each-parts-init : goal.drop_each-parts-init

@@ -12,7 +12,8 @@ use Rattle.qg_drop.specs.Dropping.{KnowsNoMore}
 use Rattle.qg_drop.proofs.Knowing.{knows-dropped, knows-on}
 use Rattle.qg_drop.proofs.Resting.{unbroken-handed}
 use Rattle.qg_drop.specs.declared.child.Child.{Child}
-use Rattle.qg_drop.proofs.Called.{finished, first-open, reference-there, root-count, root-part, same-next, started, weighs}
+use Rattle.qg_drop.proofs.Called.{finished, first-open, reference-there, root-count, root-part, same-next, started}
+use Rattle.qg_drop.proofs.Called.{weighs}
 use Rattle.qg_drop.proofs.Stepping.{never-ok}
 use Rattle.qg_drop.proofs.dropping.drop_all.Goals as goal
 

@@ -8,7 +8,12 @@ use Rattle.qg_extents.specs.Table.{book_of}
 use Rattle.qg_drop.specs.Dropping.{without_references}
 use Rattle.qg_drop.proofs.Naming.{gone-here, gone-more, gone-same, has-run, lacks-run, whole-bytes}
 use Rattle.qg_drop.proofs.extents.without_references.Goals as goal
-use Rattle.qg_drop.proofs.extents.without_references.Goals.{then-how_many-eq0+else-sectors-extent+else-not-has_run+in_ok-push, else-how_many-eq0, then-sectors-extent-via-then-sectors-extent, then-sectors-extent-via-else-sectors-extent+then-not-has_run}
+use Rattle.qg_drop.proofs.extents.without_references.Goals.{
+  then-how_many-eq0+else-sectors-extent+else-not-has_run+in_ok-push,
+  else-how_many-eq0,
+  then-sectors-extent-via-then-sectors-extent,
+  then-sectors-extent-via-else-sectors-extent+then-not-has_run,
+}
 
 pub loop-extent-preserved : goal.loop-extent-preserved
 loop-extent-preserved c =

@@ -15,7 +15,8 @@ writes-preserved g c =
 pub returns-in_err-flush-clause-err : goal.returns-in_err-flush-clause-err
 returns-in_err-flush-clause-err g c =
     let same = err_from_is_err_and c.from_residual.result c.from_residual.ensures.1 in
-    rw same.1 (front_written (none_more_written (g.W.Write.contents c.flush.new.self) c.writes.invariant c.flush.ensures.bytes))
+    rw same.1 (front_written
+    (none_more_written (g.W.Write.contents c.flush.new.self) c.writes.invariant c.flush.ensures.bytes))
 
 pub returns-in-Ok-2-clause-err : goal.returns-in-Ok-2-clause-err
 returns-in-Ok-2-clause-err g c =

@@ -6,4 +6,5 @@ use Rattle.qg_edit.proofs.changing.edit_leaf.Goals as goal
 
 pub returns-in-Clear-clause-node : goal.returns-in-Clear-clause-node
 returns-in-Clear-clause-node c =
-    subst (λ (n : Node). IsNodeFor c.args.nodesize c.args.leaf.now n) (sym c.clear.ensures) (IsNodeFor-cleared c.args.nodesize c.args.leaf.now c.requires.size)
+    subst (λ (n : Node). IsNodeFor c.args.nodesize c.args.leaf.now n) (sym c.clear.ensures)
+    (IsNodeFor-cleared c.args.nodesize c.args.leaf.now c.requires.size)

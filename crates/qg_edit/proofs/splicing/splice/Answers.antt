@@ -9,5 +9,7 @@ pub returns-in-Err-clause-node : goal.returns-in-Err-clause-node
 returns-in-Err-clause-node c =
     subst (λ (n : Node). IsNodeFor c.args.nodesize c.args.node.now n) (sym c.clear.ensures)
     (IsNodeFor-header c.args.nodesize c.args.node.now c.put_pointers.new.node (cleared c.put_pointers.new.node)
-    (ap header_of c.in-Err.ensures.err ∙ header-pointers c.args.node.now (take c.args.from (own_pointers c.args.node.now) ++ drop c.args.to (own_pointers c.args.node.now)) c.requires.inner)
+    (ap header_of c.in-Err.ensures.err
+    ∙ header-pointers c.args.node.now (take c.args.from (own_pointers c.args.node.now)
+    ++ drop c.args.to (own_pointers c.args.node.now)) c.requires.inner)
     (IsNodeFor-cleared c.args.nodesize c.put_pointers.new.node c.requires.size))

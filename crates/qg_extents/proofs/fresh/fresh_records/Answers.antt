@@ -38,12 +38,14 @@ returns-clause-exact c = made c
 
 pub returns-clause-owed : goal.returns-clause-owed
 returns-clause-owed c others =
-    subst (λ (table : List (ℕ × Kept)). AgreesWithOwed (layout_of (fresh_state c.args.sizes others c.args.root)) (book_of table))
+    subst (λ (table : List (ℕ × Kept)). AgreesWithOwed (layout_of (fresh_state c.args.sizes others c.args.root))
+    (book_of table))
     (sym (made c))
     (fresh-owed c.args.sizes c.args.root others
     (subst IsTable (made c) (subst IsTable c.extents.view_is c.extents.invariant)))
 
 pub returns-clause-agrees : goal.returns-clause-agrees
 returns-clause-agrees c others =
-    subst (λ (table : List (ℕ × Kept)). Agrees (layout_of (fresh_state c.args.sizes others c.args.root)) (parts_of_book table))
+    subst (λ (table : List (ℕ × Kept)). Agrees (layout_of (fresh_state c.args.sizes others c.args.root))
+    (parts_of_book table))
     (sym (made c)) (fresh-agrees c.args.sizes c.args.root others)

@@ -5,9 +5,11 @@ use Rattle.qg_image.specs.Owed.{reference_told}
 use Rattle.qg_refs.specs.declared.counted.Counted.{Counted}
 use Rattle.qg_refs.specs.Counts.{IsRefList}
 use Rattle.qg_extents.specs.Told.{told_in}
-use Rattle.qg_extents.proofs.Telling.{IsSoFar, Told, add_up, part-refused, part-taken, so_far-none, so_far-short, so_far-some, so_far-sound, told-cut, told-next}
+use Rattle.qg_extents.proofs.Telling.{IsSoFar, Told, add_up, part-refused, part-taken, so_far-none, so_far-short}
+use Rattle.qg_extents.proofs.Telling.{so_far-some, so_far-sound, told-cut, told-next}
 use Rattle.qg_extents.proofs.gather.read_references.Goals as goal
-use Rattle.qg_extents.proofs.gather.read_references.Goals.{then-refs-eq0-via-then-refs-eq0, then-refs-eq0-via-else-refs-eq0+then-gathered-ne0}
+use Rattle.qg_extents.proofs.gather.read_references.Goals.{then-refs-eq0-via-then-refs-eq0}
+use Rattle.qg_extents.proofs.gather.read_references.Goals.{then-refs-eq0-via-else-refs-eq0+then-gathered-ne0}
 
 pub loop-part-init : goal.loop-part-init
 loop-part-init c = subst (λ (references : List Counted). IsSoFar c.args.refs c.args.refs [] references)

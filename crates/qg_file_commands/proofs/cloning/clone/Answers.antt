@@ -18,7 +18,8 @@ use Rattle.qg_kept.specs.Editing.{clone_refusal}
 use Rattle.qg_file_commands.proofs.Accepting.{judged-node, listed-still, path-still, path-told, quota-read}
 use Rattle.qg_file_commands.proofs.Cloned.{refuses-clone, refuses-limit, source-there, target-listed}
 use Rattle.qg_kept.proofs.Looked.{holds-looked, keeps-looked, looked-again, owner-read}
-use Rattle.qg_file_commands.proofs.Reasons.{missing-clone, none-there, other-clone, other-target, overlap-clone, some-there}
+use Rattle.qg_file_commands.proofs.Reasons.{missing-clone, none-there, other-clone, other-target, overlap-clone}
+use Rattle.qg_file_commands.proofs.Reasons.{some-there}
 use Rattle.qg_kept.proofs.Turned.{same-read, same-then, unchanged-then}
 use Rattle.qg_file_commands.proofs.cloning.clone.Goals as goal
 
@@ -28,7 +29,8 @@ turn_to-requires g c = record { fitted = c.requires.kept.fitted }
 pub turn_to-requires-2 : goal.turn_to-requires-2
 turn_to-requires-2 g c = record {
   fitted =
-      (c.turn_to.ensures.kept (g.D.Disk.history c.args.disk.now) (g.D.Disk.size c.args.disk.now) c.requires.kept).fitted;
+      (c.turn_to.ensures.kept (g.D.Disk.history c.args.disk.now) (g.D.Disk.size c.args.disk.now)
+      c.requires.kept).fitted;
 }
 
 pub inode_in-requires : goal.inode_in-requires
@@ -103,11 +105,14 @@ returns-in_default-clause-step g c = λ state given.
     let looked = c.in_ok-inode.ensures.looked in
     let still = keeps-looked kept read before then bytes left state (other_names state) looked keeps in
     let told = sym c.in_default.is ∙ c.in_ok-inode.ensures.found keeps.files keeps.keeps.holds in
-    let hand = sym (c.turn_to-2.ensures.hand c.if-not-turn_to-2.false) ∙ owner-read kept read before then bytes left looked
+    let hand = sym (c.turn_to-2.ensures.hand c.if-not-turn_to-2.false)
+    ∙ owner-read kept read before then bytes left looked
     in
-    refuses-clone read state then c.args.sub c.args.ino c.args.off c.args.len c.args.to_sub c.args.to_ino c.args.to_off _
+    refuses-clone read state then c.args.sub c.args.ino c.args.off c.args.len c.args.to_sub c.args.to_ino c.args.to_off
+    _
     still
-    (ap (λ (sub : ℕ). clone_refusal state sub c.args.ino c.args.off c.args.len c.args.to_sub c.args.to_ino c.args.to_off)
+    (ap (λ (sub : ℕ). clone_refusal state sub c.args.ino c.args.off c.args.len c.args.to_sub c.args.to_ino
+    c.args.to_off)
     hand
     ∙ missing-clone read state then still c.args.ino c.args.off c.args.len c.args.to_sub c.args.to_ino c.args.to_off
     (target-listed c.args.kept.now read state before then given still c.args.to_sub
@@ -135,11 +140,13 @@ returns-in-Some-refusal_of_clone-clause-step g c = λ state given.
     let still = keeps-looked kept read before then bytes left state (other_names state) looked keeps in
     let told = sym c.in-Some.is ∙ c.in_ok-inode.ensures.found keeps.files keeps.keeps.holds in
     let there = some-there (value_at c.args.ino keeps.files) c.in-Some.inode told in
-    let hand = sym (c.turn_to-2.ensures.hand c.if-not-turn_to-2.false) ∙ owner-read kept read before then bytes left looked
+    let hand = sym (c.turn_to-2.ensures.hand c.if-not-turn_to-2.false)
+    ∙ owner-read kept read before then bytes left looked
     in
     refuses-clone read state then c.args.sub c.args.ino c.args.off c.args.len c.args.to_sub c.args.to_ino c.args.to_off
     c.in-Some-refusal_of_clone.why still
-    (ap (λ (sub : ℕ). clone_refusal state sub c.args.ino c.args.off c.args.len c.args.to_sub c.args.to_ino c.args.to_off)
+    (ap (λ (sub : ℕ). clone_refusal state sub c.args.ino c.args.off c.args.len c.args.to_sub c.args.to_ino
+    c.args.to_off)
     hand
     ∙ overlap-clone read state then still c.args.ino c.args.off c.args.len c.args.to_sub c.args.to_ino c.args.to_off
     (target-listed c.args.kept.now read state before then given still c.args.to_sub
@@ -163,7 +170,8 @@ judge-requires g c = record {
   fitted = c.in_ok-inode.ensures.kept.fitted;
   there = listed-still c.args.kept.now c.inode_in.new.kept
       (same-read c.args.kept.now c.turn_to-2.new.kept c.inode_in.new.kept _ _ _ _
-      (same-then c.args.kept.now c.turn_to.new.kept c.turn_to-2.new.kept c.turn_to.ensures.same c.turn_to-2.ensures.same)
+      (same-then c.args.kept.now c.turn_to.new.kept c.turn_to-2.new.kept c.turn_to.ensures.same
+      c.turn_to-2.ensures.same)
       c.in_ok-inode.ensures.looked) c.args.to_sub (sym c.turn_to.ensures.there ∙ c.if-not-turn_to.false);
 }
 
@@ -182,11 +190,13 @@ returns-in-Over-clause-step g c = λ state given.
     let still = keeps-looked kept read before then bytes left state (other_names state) looked keeps in
     let told = sym c.in-Some.is ∙ c.in_ok-inode.ensures.found keeps.files keeps.keeps.holds in
     let there = some-there (value_at c.args.ino keeps.files) c.in-Some.inode told in
-    let hand = sym (c.turn_to-2.ensures.hand c.if-not-turn_to-2.false) ∙ owner-read kept read before then bytes left looked
+    let hand = sym (c.turn_to-2.ensures.hand c.if-not-turn_to-2.false)
+    ∙ owner-read kept read before then bytes left looked
     in
     refuses-limit read state then c.args.sub c.args.ino c.args.off c.args.len c.args.to_sub c.args.to_ino c.args.to_off
     (why.Quota c.in-Over.group c.in-Over.which) still
-    (ap (λ (sub : ℕ). clone_refusal state sub c.args.ino c.args.off c.args.len c.args.to_sub c.args.to_ino c.args.to_off)
+    (ap (λ (sub : ℕ). clone_refusal state sub c.args.ino c.args.off c.args.len c.args.to_sub c.args.to_ino
+    c.args.to_off)
     hand
     ∙ overlap-clone read state then still c.args.ino c.args.off c.args.len c.args.to_sub c.args.to_ino c.args.to_off
     (target-listed c.args.kept.now read state before then given still c.args.to_sub
@@ -292,7 +302,8 @@ returns-clause-step g c = λ state given.
     (source-there kept state before keeps c.args.sub (c.turn_to-2.ensures.hand c.if-not-turn_to-2.false))
     (source ∙ ap (λ (files : List (ℕ × File)). pieces_met c.args.off (c.args.off + c.args.len)
     (pieces_of c.args.ino files)) (sym keeps.keeps.are))
-    (ap (λ (sub : ℕ). clone_refusal state sub c.args.ino c.args.off c.args.len c.args.to_sub c.args.to_ino c.args.to_off)
+    (ap (λ (sub : ℕ). clone_refusal state sub c.args.ino c.args.off c.args.len c.args.to_sub c.args.to_ino
+    c.args.to_off)
     hand
     ∙ overlap-clone read state then at_read c.args.ino c.args.off c.args.len c.args.to_sub c.args.to_ino c.args.to_off
     (target-listed c.args.kept.now read state before then given at_read c.args.to_sub

@@ -129,13 +129,15 @@ accept-requires g c =
     let own = c.in_ok-clone_into.ensures.own in
     record {
       fitted = (kept-changed mid c.clone_into.new.fs between (g.D.Disk.history c.clone_into.new.disk) left
-          (g.D.Disk.size c.clone_into.new.disk) c.in_ok-found.ensures.kept c.in_ok-clone_into.ensures.leaves own).fitted;
+          (g.D.Disk.size c.clone_into.new.disk) c.in_ok-found.ensures.kept c.in_ok-clone_into.ensures.leaves
+          own).fitted;
       few = subst (λ (k : Kept). k.pending < 65536) (sym looked.same)
           (subst (λ (k : Kept). k.pending < 65536) (sym c.turn_to.ensures.same.rest) c.requires.reserves.few);
       small = node-small mid c.in_ok-found.ensures.kept.fitted c.from-amount.result c.from-amount.ensures;
       path = path-still c.args.kept.now.quota mid.quota c.args.to_sub c.clone_into.new.fs.tree.owner c.args.path.now
           c.requires.reserves.path
-          (quota-read kept mid before between bytes left looked ∙ quota-turned c.args.kept.now kept c.turn_to.ensures.same)
+          (quota-read kept mid before between bytes left looked
+          ∙ quota-turned c.args.kept.now kept c.turn_to.ensures.same)
           (own.owner ∙ sym (owner-read kept mid before between bytes left looked)
           ∙ c.turn_to.ensures.hand c.if-not-turn_to.false);
     }

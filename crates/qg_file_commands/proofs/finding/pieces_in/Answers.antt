@@ -20,5 +20,6 @@ returns-clause-sound g c = λ files holds. c.pieces_meeting.ensures.sound files
 pub returns-clause-kept : goal.returns-clause-kept
 returns-clause-kept g c =
     kept-read c.args.kept.now c.pieces_meeting.new.blocks (g.D.Disk.history c.args.disk.now)
-    (g.D.Disk.history c.pieces_meeting.new.disk) (g.D.Disk.size c.args.disk.now) (g.D.Disk.size c.pieces_meeting.new.disk)
+    (g.D.Disk.history c.pieces_meeting.new.disk) (g.D.Disk.size c.args.disk.now)
+    (g.D.Disk.size c.pieces_meeting.new.disk)
     c.requires.kept c.pieces_meeting.ensures.read c.pieces_meeting.ensures.readable

@@ -30,7 +30,8 @@ returns-in_err-file-clause-sound g c = λ state events told given.
     handed-sound (Option File) c.from_residual.result _ (handed c.from_residual.result _ c.from_residual.ensures.1)
     (c.in_err-file.ensures.sound keeps.files
     (tells-files c.turn_to.new.kept.fs (g.D.Disk.history c.args.disk.now) keeps.files keeps.keeps.holds
-    (is-near c.turn_to.new.kept (c.turn_to.ensures.kept (g.D.Disk.history c.args.disk.now) (g.D.Disk.size c.args.disk.now) c.requires.kept).fitted)))
+    (is-near c.turn_to.new.kept (c.turn_to.ensures.kept (g.D.Disk.history c.args.disk.now)
+    (g.D.Disk.size c.args.disk.now) c.requires.kept).fitted)))
 
 pub returns-in-None-clause-kept : goal.returns-in-None-clause-kept
 returns-in-None-clause-kept g c =
@@ -88,13 +89,16 @@ returns-in-None-clause-step g c = λ state given.
     let before = g.D.Disk.history c.args.disk.now in
     let after = g.D.Disk.history c.file_of.new.disk in
     let kept = c.turn_to.new.kept in
-    let tells = tells-files kept.fs before keeps.files keeps.keeps.holds (is-near kept (c.turn_to.ensures.kept (g.D.Disk.history c.args.disk.now) (g.D.Disk.size c.args.disk.now) c.requires.kept).fitted) in
+    let tells = tells-files kept.fs before keeps.files keeps.keeps.holds
+    (is-near kept (c.turn_to.ensures.kept (g.D.Disk.history c.args.disk.now) (g.D.Disk.size c.args.disk.now)
+    c.requires.kept).fitted) in
     lists-no-file (with_blocks kept c.file_of.new.blocks) state after c.args.sub c.args.ino
     (keeps-looked kept (with_blocks kept c.file_of.new.blocks) before after (g.D.Disk.size c.args.disk.now)
     (g.D.Disk.size c.file_of.new.disk) state (other_names state)
     (looked-read kept c.file_of.new.blocks before after (g.D.Disk.size c.args.disk.now)
     (g.D.Disk.size c.file_of.new.disk) c.in_ok-file.ensures.read) keeps)
-    (sym (c.turn_to.ensures.hand c.if-not-turn_to.false)) (sym (c.in_ok-file.ensures.found keeps.files tells) ∙ c.in-None.is)
+    (sym (c.turn_to.ensures.hand c.if-not-turn_to.false)) (sym (c.in_ok-file.ensures.found keeps.files tells)
+    ∙ c.in-None.is)
 
 pub returns-in-Some-clause-step : goal.returns-in-Some-clause-step
 returns-in-Some-clause-step g c = λ state given.
@@ -103,7 +107,9 @@ returns-in-Some-clause-step g c = λ state given.
     let before = g.D.Disk.history c.args.disk.now in
     let after = g.D.Disk.history c.file_of.new.disk in
     let kept = c.turn_to.new.kept in
-    let tells = tells-files kept.fs before keeps.files keeps.keeps.holds (is-near kept (c.turn_to.ensures.kept (g.D.Disk.history c.args.disk.now) (g.D.Disk.size c.args.disk.now) c.requires.kept).fitted) in
+    let tells = tells-files kept.fs before keeps.files keeps.keeps.holds
+    (is-near kept (c.turn_to.ensures.kept (g.D.Disk.history c.args.disk.now) (g.D.Disk.size c.args.disk.now)
+    c.requires.kept).fitted) in
     lists (with_blocks kept c.file_of.new.blocks) state after c.args.sub c.args.ino
     (keeps-looked kept (with_blocks kept c.file_of.new.blocks) before after (g.D.Disk.size c.args.disk.now)
     (g.D.Disk.size c.file_of.new.disk) state (other_names state)

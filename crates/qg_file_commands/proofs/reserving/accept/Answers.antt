@@ -1,7 +1,8 @@
 use Rattle.std.proofs.Common.{ℕ, List, arith, subst}
 use Rattle.qg_extents.specs.Table.{IsTable}
 use Rattle.qg_refs.specs.declared.kept.Kept.{Kept as Reference}
-use Rattle.qg_file_commands.proofs.ReservedBy.{counted-pending, counted-rest, fitted-counted, hand-group, held-rest, holds-counted}
+use Rattle.qg_file_commands.proofs.ReservedBy.{counted-pending, counted-rest, fitted-counted, hand-group, held-rest}
+use Rattle.qg_file_commands.proofs.ReservedBy.{holds-counted}
 use Rattle.qg_file_commands.proofs.ReservedBy.{pending-still, room-kept, table-still}
 use Rattle.qg_file_commands.proofs.reserving.accept.Goals as goal
 

@@ -1,5 +1,6 @@
 use Rattle.qg_groups.specs.Tracked.{IsTracked}
-use Rattle.qg_file_commands.proofs.ReservedBy.{ascends-on, fits-on, holds-off, holds-on, most-off, most-on, ok-anyway, quota-on}
+use Rattle.qg_file_commands.proofs.ReservedBy.{ascends-on, fits-on, holds-off, holds-on, most-off, most-on, ok-anyway}
+use Rattle.qg_file_commands.proofs.ReservedBy.{quota-on}
 use Rattle.qg_file_commands.proofs.ReservedBy.{tracked-on}
 use Rattle.qg_file_commands.proofs.reserving.hold.Goals as goal
 
@@ -39,5 +40,6 @@ returns-in-Some-clause-most c =
 
 pub returns-in-Some-clause-holds : goal.returns-in-Some-clause-holds
 returns-in-Some-clause-holds c =
-    holds-on c.args.kept.now.quota c.in-Some.quota c.in-Some.is c.args.path.now c.args.n c.requires.tracked c.hold.result
+    holds-on c.args.kept.now.quota c.in-Some.quota c.in-Some.is c.args.path.now c.args.n c.requires.tracked
+    c.hold.result
     c.hold.new.self c.requires.path c.hold.ensures.holds

@@ -149,7 +149,8 @@ returns-in-Some-2-clause-step g c = λ state given.
     (sym (c.turn_to.ensures.hand c.if-not-turn_to.false) ∙ owner-read kept mid before between bytes left looked)
     (sym (ap (λ (sub : ℕ). size_refusal state sub c.args.ino c.args.size)
     (owner-read read mid then between _ left c.in_ok-met.ensures.looked))
-    ∙ there-size read state then (keeps-looked kept read before then bytes _ state (other_names state) first keeps) c.args.ino c.args.size
+    ∙ there-size read state then (keeps-looked kept read before then bytes _ state (other_names state) first keeps)
+    c.args.ino c.args.size
     there.file there.is ∙ sym c.in_default-refusal_of_size.ensures.value)
     there.is
     (c.len.ensures
@@ -206,12 +207,14 @@ returns-clause-step g c = λ state given.
     let met = c.in_ok-met.ensures.found keeps.files
     (holds-looked kept read before then bytes _ keeps.files first keeps.keeps.holds) in
     let still = keeps-looked kept mid before between bytes left state (other_names state) looked keeps in
-    sized mid state between left c.args.sub c.args.ino c.args.size c.len.result there.file c.in_ok-met.ensures.kept still
+    sized mid state between left c.args.sub c.args.ino c.args.size c.len.result there.file c.in_ok-met.ensures.kept
+    still
     c.in_ok-why.ensures.table
     (sym (c.turn_to.ensures.hand c.if-not-turn_to.false) ∙ owner-read kept mid before between bytes left looked)
     (sym (ap (λ (sub : ℕ). size_refusal state sub c.args.ino c.args.size)
     (owner-read read mid then between _ left c.in_ok-met.ensures.looked))
-    ∙ there-size read state then (keeps-looked kept read before then bytes _ state (other_names state) first keeps) c.args.ino c.args.size
+    ∙ there-size read state then (keeps-looked kept read before then bytes _ state (other_names state) first keeps)
+    c.args.ino c.args.size
     there.file there.is ∙ sym c.in_default-refusal_of_size.ensures.value)
     there.is
     (c.len.ensures
@@ -222,4 +225,5 @@ returns-clause-step g c = λ state given.
     (if-none c.in_ok-why.field-0 (need_of mid c.len.result ≤ free_slots mid.fs.land.space) c.in_default-2.is
     c.in_ok-why.ensures.enough)
     c.in_ok-truncate.ensures.leaves
-    (c.in_ok-truncate.ensures.cut keeps.files there.file still.keeps.holds there.is (record { inode = told; met = met }))
+    (c.in_ok-truncate.ensures.cut keeps.files there.file still.keeps.holds there.is
+    (record { inode = told; met = met }))

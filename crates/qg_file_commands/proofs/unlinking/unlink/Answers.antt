@@ -72,7 +72,8 @@ returns-then-is_none-clause-step g c = λ state keeps.
     let told = c.in_ok-inode_in.ensures.found turned.files turned.keeps.holds in
     let none = none-told (value_at c.args.ino turned.files) c.in_ok-inode_in.field-0 told
     (c.is_none.ensures ∙ ap not c.if-is_none.true) in
-    let hand = sym (c.turn_to.ensures.hand c.if-not-turn_to.false) ∙ owner-read kept read before then bytes left first in
+    let hand = sym (c.turn_to.ensures.hand c.if-not-turn_to.false)
+    ∙ owner-read kept read before then bytes left first in
     refuses-unlink read state then c.args.sub c.args.ino _ still
     (ap (λ (sub : ℕ). unlink_refusal state sub c.args.ino) hand
     ∙ missing-unlink read state then still c.args.ino none)
@@ -98,7 +99,8 @@ returns-then-kept-ge-MOST_PENDING-clause-step g c = λ state keeps.
     let told = c.in_ok-inode_in.ensures.found turned.files turned.keeps.holds in
     let there = file-told (value_at c.args.ino turned.files) c.in_ok-inode_in.field-0 told
     (c.is_none.ensures ∙ ap not c.if-is_none.false) in
-    let hand = sym (c.turn_to.ensures.hand c.if-not-turn_to.false) ∙ owner-read kept read before then bytes left first in
+    let hand = sym (c.turn_to.ensures.hand c.if-not-turn_to.false)
+    ∙ owner-read kept read before then bytes left first in
     refuses-unlink read state then c.args.sub c.args.ino _ still
     (ap (λ (sub : ℕ). unlink_refusal state sub c.args.ino) hand
     ∙ there-unlink read state then still c.args.ino there.file there.is

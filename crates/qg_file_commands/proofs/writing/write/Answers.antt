@@ -13,7 +13,8 @@ use Rattle.qg_file_edits.specs.Files.{pieces_of}
 use Rattle.qg_fs_laws.specs.Keeping.{other_names}
 use Rattle.qg_kept.specs.declared.kept.Kept.{Kept}
 use Rattle.qg_kept.specs.Keeping.{most_reserved, need_of}
-use Rattle.qg_file_commands.proofs.Accepting.{judged-range, listed-still, nodesize-read, path-still, path-told, quota-read, range-small}
+use Rattle.qg_file_commands.proofs.Accepting.{judged-range, listed-still, nodesize-read, path-still, path-told}
+use Rattle.qg_file_commands.proofs.Accepting.{quota-read, range-small}
 use Rattle.qg_file_commands.proofs.Edited.{accepted-is, accepted-reserves, if-none, kept-accepted, kept-changed}
 use Rattle.qg_file_commands.proofs.Leaves.{copies-free}
 use Rattle.qg_kept.proofs.Looked.{holds-looked, is-subvolume, keeps-looked, node-size, owner-read}
@@ -69,7 +70,8 @@ returns-in-Some-clause-unchanged g c = λ is. c.turn_to.ensures.same
 
 pub overflow_add-amount : goal.overflow_add-amount
 overflow_add-amount g c =
-    let fits = c.turn_to.ensures.kept (g.D.Disk.history c.args.disk.now) (g.D.Disk.size c.args.disk.now) c.requires.kept in
+    let fits = c.turn_to.ensures.kept (g.D.Disk.history c.args.disk.now) (g.D.Disk.size c.args.disk.now)
+    c.requires.kept in
     let small : c.args.len + c.from.result ≤ most_reserved =
     range-small c.turn_to.new.kept fits.fitted c.args.len (c.args.len + c.from.result)
     (ap (λ (n : ℕ). c.args.len + n) c.from.ensures) c.in_default.ensures.writable.short in
@@ -78,7 +80,8 @@ overflow_add-amount g c =
 pub judge-requires : goal.judge-requires
 judge-requires g c = record {
   fitted =
-      (c.turn_to.ensures.kept (g.D.Disk.history c.args.disk.now) (g.D.Disk.size c.args.disk.now) c.requires.kept).fitted;
+      (c.turn_to.ensures.kept (g.D.Disk.history c.args.disk.now) (g.D.Disk.size c.args.disk.now)
+      c.requires.kept).fitted;
   there = listed-still c.args.kept.now c.turn_to.new.kept c.turn_to.ensures.same c.args.sub
       (sym c.turn_to.ensures.there ∙ c.if-not-turn_to.false);
 }
@@ -160,7 +163,8 @@ returns-in-Some-2-clause-step g c = λ state given.
     let fits = c.turn_to.ensures.kept before (g.D.Disk.size c.args.disk.now) c.requires.kept in
     lacks-slots mid state between bytes c.args.sub c.args.ino c.args.off c.args.len c.in-Some-run_for.run' c.len.result
     c.in_ok-found.ensures.kept
-    (keeps-looked kept mid before between (g.D.Disk.size c.args.disk.now) bytes state (other_names state) c.in_ok-found.ensures.looked keeps)
+    (keeps-looked kept mid before between (g.D.Disk.size c.args.disk.now) bytes state
+    (other_names state) c.in_ok-found.ensures.looked keeps)
     c.in_ok-why.ensures.table (sym (c.turn_to.ensures.hand c.if-not-turn_to.false)
     ∙ owner-read c.turn_to.new.kept mid before between (g.D.Disk.size c.args.disk.now) bytes
     c.in_ok-found.ensures.looked)
@@ -253,7 +257,8 @@ returns-clause-step g c = λ state given.
     let bytes = g.D.Disk.size c.found_in.new.disk in
     let looked = c.in_ok-found.ensures.looked in
     let finds = c.in_ok-found.ensures.found keeps.files keeps.keeps.holds in
-    let still = keeps-looked kept mid before between (g.D.Disk.size c.args.disk.now) bytes state (other_names state) looked keeps in
+    let still = keeps-looked kept mid before between (g.D.Disk.size c.args.disk.now) bytes state
+    (other_names state) looked keeps in
     let fits = c.turn_to.ensures.kept before (g.D.Disk.size c.args.disk.now) c.requires.kept in
     let fs = c.write.new.fs in
     let new = c.accept.new.kept in

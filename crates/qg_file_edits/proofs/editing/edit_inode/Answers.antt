@@ -19,10 +19,13 @@ returns-in-Remove-clause-told g c items names stands can covered =
     let before = g.D.Disk.history c.args.disk.now in
     subst (λ (e : InodeEdit). CanEditInode c.args.ino e items
     → AreCovered old.tree.owner (filter_map name_told (after_inode c.args.ino e items)) names
-    → AreMade 1 0 old new before (after_inode c.args.ino e items) names c.args.reads.now c.take_out.new.reads c.take_out.result) (sym c.in-Remove.is)
-    (λ there named. subst (λ (k : Key). IsTrue (has_key k items) → AreMade 1 0 old new before (without_key k items) names
+    → AreMade 1 0 old new before (after_inode c.args.ino e items) names c.args.reads.now c.take_out.new.reads
+    c.take_out.result) (sym c.in-Remove.is)
+    (λ there named. subst (λ (k : Key). IsTrue (has_key k items)
+    → AreMade 1 0 old new before (without_key k items) names
     c.args.reads.now
-    c.take_out.new.reads c.take_out.result) c.inode_key-key.ensures (c.take_out.ensures.told items names stands) there) can covered
+    c.take_out.new.reads c.take_out.result) c.inode_key-key.ensures (c.take_out.ensures.told items names stands) there)
+    can covered
 
 pub returns-in-Insert-clause-told : goal.returns-in-Insert-clause-told
 returns-in-Insert-clause-told g c items names stands can covered =
@@ -31,7 +34,8 @@ returns-in-Insert-clause-told g c items names stands can covered =
     let before = g.D.Disk.history c.args.disk.now in
     subst (λ (e : InodeEdit). CanEditInode c.args.ino e items
     → AreCovered old.tree.owner (filter_map name_told (after_inode c.args.ino e items)) names
-    → AreMade 1 0 old new before (after_inode c.args.ino e items) names c.args.reads.now c.put_new.new.reads c.put_new.result) (sym c.in-Insert.is)
+    → AreMade 1 0 old new before (after_inode c.args.ino e items) names c.args.reads.now c.put_new.new.reads
+    c.put_new.result) (sym c.in-Insert.is)
     (put-as (λ (k : Key). IsTrue (not (has_key k items)))
     (λ (item : Item). AreCovered old.tree.owner (filter_map name_told (with_item item items)) names
     → AreMade 1 0 old new before (with_item item items) names c.args.reads.now c.put_new.new.reads
@@ -47,7 +51,8 @@ returns-in-Replace-clause-told g c items names stands can covered =
     let before = g.D.Disk.history c.args.disk.now in
     subst (λ (e : InodeEdit). CanEditInode c.args.ino e items
     → AreCovered old.tree.owner (filter_map name_told (after_inode c.args.ino e items)) names
-    → AreMade 1 0 old new before (after_inode c.args.ino e items) names c.args.reads.now c.put_again.new.reads c.put_again.result) (sym c.in-Replace.is)
+    → AreMade 1 0 old new before (after_inode c.args.ino e items) names c.args.reads.now c.put_again.new.reads
+    c.put_again.result) (sym c.in-Replace.is)
     (put-as (λ (k : Key). IsTrue (has_key k items))
     (λ (item : Item). AreCovered old.tree.owner (filter_map name_told (with_item item items)) names
     → AreMade 1 0 old new before (with_item item items) names c.args.reads.now c.put_again.new.reads

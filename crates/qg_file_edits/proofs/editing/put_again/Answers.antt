@@ -28,7 +28,8 @@ returns-clause-told g c items names stands can covered =
     once-put c.args.fs.now c.replace.new.self (g.D.Disk.history c.args.disk.now) (g.D.Disk.history c.replace.new.disk)
     (g.D.Disk.size c.args.disk.now) (g.D.Disk.size c.replace.new.disk) c.args.reads.now c.replace.new.reads
     c.replace.result
-    c.requires.subvolume call.rests call.subvolume call.others call.reads items names stands (λ (k : Key). IsTrue (has_key k items))
+    c.requires.subvolume call.rests call.subvolume call.others call.reads items names stands
+    (λ (k : Key). IsTrue (has_key k items))
     c.args.key c.args.key c.in_ok-body.body c.args.bytes.now refl c.in_ok-body.ensures
     (call.replaced items names stands) call.grows
     (λ events known there room. call.sound events known items names stands there room) can covered

@@ -28,7 +28,8 @@ returns-clause-told g c items names stands can covered =
     once-put c.args.fs.now c.insert.new.self (g.D.Disk.history c.args.disk.now) (g.D.Disk.history c.insert.new.disk)
     (g.D.Disk.size c.args.disk.now) (g.D.Disk.size c.insert.new.disk) c.args.reads.now c.insert.new.reads
     c.insert.result
-    c.requires.subvolume call.rests call.subvolume call.others call.reads items names stands (λ (k : Key). IsTrue (not (has_key k
+    c.requires.subvolume call.rests call.subvolume call.others call.reads items names stands
+    (λ (k : Key). IsTrue (not (has_key k
     items)))
     c.args.key c.args.key c.in_ok-body.body c.args.bytes.now refl c.in_ok-body.ensures
     (call.inserted items names stands) call.grows

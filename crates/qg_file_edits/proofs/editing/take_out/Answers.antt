@@ -7,7 +7,8 @@ returns-clause-told g c items names stands there =
     let call = c.remove.ensures in
     once-removed c.args.fs.now c.remove.new.self (g.D.Disk.history c.args.disk.now) (g.D.Disk.history c.remove.new.disk)
     (g.D.Disk.size c.args.disk.now) (g.D.Disk.size c.remove.new.disk) c.args.reads.now c.remove.new.reads
-    c.remove.result c.requires call.rests call.subvolume call.others call.reads items names stands c.args.key c.args.key refl
+    c.remove.result c.requires call.rests call.subvolume call.others call.reads items names stands c.args.key c.args.key
+    refl
     (call.removed items names stands) call.grows
     (λ events known there room. call.sound events known items names stands there room) there
 

@@ -23,9 +23,11 @@ returns-in-Remove-clause-told g c items names stands can covered =
     → AreCovered old.tree.owner (filter_map name_told (after_step c.args.ino s items)) names
     → AreMade 1 0 old new before (after_step c.args.ino s items) names
     c.args.reads.now c.take_out.new.reads c.take_out.result) (sym c.in-Remove.is)
-    (λ there named. subst (λ (k : Key). IsTrue (has_key k items) → AreMade 1 0 old new before (without_key k items) names
+    (λ there named. subst (λ (k : Key). IsTrue (has_key k items)
+    → AreMade 1 0 old new before (without_key k items) names
     c.args.reads.now
-    c.take_out.new.reads c.take_out.result) c.piece_key.ensures (c.take_out.ensures.told items names stands) there) can covered
+    c.take_out.new.reads c.take_out.result) c.piece_key.ensures (c.take_out.ensures.told items names stands) there) can
+    covered
 
 pub returns-in-Insert-clause-told : goal.returns-in-Insert-clause-told
 returns-in-Insert-clause-told g c items names stands can covered =

@@ -99,7 +99,8 @@ returns-in_err-edit_items-clause-told g c edits files files_new stands makes =
     let nodes = c.in_ok-name_those_put.ensures.nodes in
     let edited = then-edited edits ino change files files_new old mid before bytes c.requires.subvolume stands makes
     nodes
-    begun.done c.in_ok-name_those_put.ensures.heavier new c.args.reads.now c.edit_items.new.reads _ (c.in_err-edit_items.ensures.told edits) in
+    begun.done c.in_ok-name_those_put.ensures.heavier new c.args.reads.now c.edit_items.new.reads _
+    (c.in_err-edit_items.ensures.told edits) in
     made-handed edits (length (c.args.change.now.named ++ option_to_list c.args.change.now.new))
     old new before items (named files_new) c.args.reads.now c.edit_items.new.reads
     c.from_residual-in_err-edit_items.result _
@@ -137,7 +138,8 @@ returns-clause-told g c edits files files_new stands makes =
     c.in_ok-name_those_put.ensures.named before bytes some names c.requires.subvolume here known few) in
     let nodes = c.in_ok-name_those_put.ensures.nodes in
     let made = then-edited edits ino change files files_new old mid before bytes c.requires.subvolume stands makes nodes
-    begun.done c.in_ok-name_those_put.ensures.heavier edited c.args.reads.now c.edit_items.new.reads _ (c.in_ok-edit_items.ensures.told edits) in
+    begun.done c.in_ok-name_those_put.ensures.heavier edited c.args.reads.now c.edit_items.new.reads _
+    (c.in_ok-edit_items.ensures.told edits) in
     let unnamed = subst (λ (xs : List Piece). (some : List Item) (names : List (ℕ × Piece))
     → Stands edited after some (names_of ino xs ++ names)
     → AreCovered edited.tree.owner (filter_map name_told some) names
@@ -145,7 +147,8 @@ returns-clause-told g c edits files files_new stands makes =
     (λ some names. c.unname_each-unnamed.ensures.unnamed after left some names leaves.subvolume) in
     last-unnamed edits ino change files files_new old mid before bytes c.requires.subvolume stands makes nodes
     begun.done c.in_ok-name_those_put.ensures.heavier
-    edited new after left c.args.reads.now c.edit_items.new.reads c.unname_each-unnamed.result leaves.history leaves.subvolume
+    edited new after left c.args.reads.now c.edit_items.new.reads c.unname_each-unnamed.result leaves.history
+    leaves.subvolume
     c.unname_each-unnamed.ensures.nodes c.unname_each-unnamed.ensures.heavier made unnamed
 
 pub returns-clause-leaves : goal.returns-clause-leaves
@@ -159,7 +162,8 @@ returns-clause-leaves g c =
     (leaves-then c.args.fs.now c.name_those_put.new.fs c.edit_items.new.fs before before after bytes bytes left
     (leaves-kept c.args.fs.now c.name_those_put.new.fs before bytes c.in_ok-name_those_put.ensures.nodes
     c.requires.subvolume) leaves)
-    (leaves-kept c.edit_items.new.fs c.unname_each-unnamed.new.fs after left c.unname_each-unnamed.ensures.nodes leaves.subvolume)
+    (leaves-kept c.edit_items.new.fs c.unname_each-unnamed.new.fs after left c.unname_each-unnamed.ensures.nodes
+    leaves.subvolume)
 
 pub returns-clause-own : goal.returns-clause-own
 returns-clause-own g c =

@@ -49,7 +49,10 @@ pub returns-in-None-clause-named : goal.returns-in-None-clause-named
 returns-in-None-clause-named c history bytes items names subvolume stands =
     subst (λ (o : Option Piece). AreNamed c.args.fs.now c.args.fs.now history items
     (names_of c.args.ino (option_to_list o) ++ names) (Ok tt)) (sym c.in-None.is)
-    (record { done = record { stands = stands; moved = moves-itself c.args.fs.now history items names stands }; sound = tt })
+    (record {
+      done = record { stands = stands; moved = moves-itself c.args.fs.now history items names stands };
+      sound = tt;
+    })
 
 pub returns-in-Some-clause-heavier : goal.returns-in-Some-clause-heavier
 returns-in-Some-clause-heavier c =

@@ -6,7 +6,8 @@ use Rattle.qg_files.proofs.Edits.{put_hole}
 use Rattle.qg_files.proofs.KeptApart.{apart-put}
 use Rattle.qg_files.proofs.put.put_piece.Goals as goal
 
-put : (c : goal.In_ok-insert) → c.insert.new.self ≡ with_range c.args.piece.position (piece_end c.args.piece) (c.args.piece ∷ []) c.args.pieces.now
+put : (c : goal.In_ok-insert) → c.insert.new.self ≡ with_range c.args.piece.position (piece_end c.args.piece)
+    (c.args.piece ∷ []) c.args.pieces.now
 put c =
     let xs = c.args.pieces.now in
     let i = c.first_past-index.result in
@@ -17,4 +18,5 @@ pub returns-clause-ok : goal.returns-clause-ok
 returns-clause-ok c = put c
 
 pub returns-clause-apart : goal.returns-clause-apart
-returns-clause-apart c = subst AreApart (sym (put c)) (apart-put c.args.piece c.args.pieces.now c.requires.apart c.requires.within)
+returns-clause-apart c =
+    subst AreApart (sym (put c)) (apart-put c.args.piece c.args.pieces.now c.requires.apart c.requires.within)

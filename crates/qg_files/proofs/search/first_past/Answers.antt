@@ -16,9 +16,11 @@ returns c =
     let position = c.args.position in
     let ends = λ (x : Piece). nat_le (piece_end x) position in
     let ascend = ends_ascend 0 pieces (subst AreApart (sym c.as_slice.ensures) c.requires) in
-    let point = IsPartitionPoint-from_clause ends pieces _ c.partition_point.ensures.partitioned (IsPartitionedBy-leb piece_end pieces position ascend) (λ a r f h. search rules) in
+    let point = IsPartitionPoint-from_clause ends pieces _ c.partition_point.ensures.partitioned
+    (IsPartitionedBy-leb piece_end pieces position ascend) (λ a r f h. search rules) in
     subst (λ items. IsFirstPast position items c.partition_point.result) c.as_slice.ensures (record {
       bound = c.partition_point.ensures.bound;
-      front = front_of_point ends (λ x. piece_end x ≤ position) pieces _ c.partition_point.ensures.bound (λ x t. leb-true _ _ t) point;
+      front = front_of_point ends (λ x. piece_end x ≤ position) pieces _ c.partition_point.ensures.bound
+          (λ x t. leb-true _ _ t) point;
       back = back_of_point ends (λ x. position < piece_end x) pieces _ (λ x t. leb-false _ _ t) point;
     })

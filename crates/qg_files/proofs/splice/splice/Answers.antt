@@ -12,5 +12,6 @@ returns-in_ok-insert_slice-clause-ok c =
     let room = end - first in
     let over = take_all (length items - room) (drop room items) (omega (arith, length-drop room items)) in
     c.write_over.ensures
-    ∙ ap (λ zs. take first zs ++ take room items ++ drop end zs) (c.in_ok-insert_slice.ensures.ok ∙ ap (λ zs. take end xs ++ zs ++ drop end xs) over)
+    ∙ ap (λ zs. take first zs ++ take room items ++ drop end zs) (c.in_ok-insert_slice.ensures.ok
+    ∙ ap (λ zs. take end xs ++ zs ++ drop end xs) over)
     ∙ spliced_more xs items first end c.requires.order c.requires.bound

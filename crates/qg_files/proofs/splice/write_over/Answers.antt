@@ -7,4 +7,5 @@ loop-index-preserved c =
     let index = c.loop-index.index in
     let item = c.index-items-index.result in
     c.set.ensures ∙ ap (λ zs. set zs index item) c.loop-index.invariant
-    ∙ written_more c.args.pieces.now c.args.items.now c.args.first index item (omega arith) (omega (arith, c.requires.bound)) (omega (arith, c.requires.many)) c.index-items-index.is
+    ∙ written_more c.args.pieces.now c.args.items.now c.args.first index item (omega arith)
+    (omega (arith, c.requires.bound)) (omega (arith, c.requires.many)) c.index-items-index.is

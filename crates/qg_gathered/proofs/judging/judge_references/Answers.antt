@@ -30,7 +30,8 @@ references_failure-requires-clause-nodes c =
     let up = subst Rise c.as_slice.ensures.value c.in_default.ensures.none in
     let surveyed = c.in_ok-lists.lists.surveyed.items in
     subst IsStrictlyIncreasing
-    (sym (ap (map (λ (link : Linked). link.address)) (c.as_slice-5.ensures.value ∙ c.in_ok-links.ensures ∙ ap links_in c.as_slice-3.ensures.value) ∙ lie_linked surveyed))
+    (sym (ap (map (λ (link : Linked). link.address)) (c.as_slice-5.ensures.value ∙ c.in_ok-links.ensures
+    ∙ ap links_in c.as_slice-3.ensures.value) ∙ lie_linked surveyed))
     (surveyed_rise c.as_slice-2.result.now c.sort_nodes.new.nodes.items surveyed c.in_ok-lists.ensures.surveyed up)
 
 pub returns-in-Some-broken-clause-failure : goal.returns-in-Some-broken-clause-failure

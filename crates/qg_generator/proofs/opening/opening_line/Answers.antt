@@ -13,8 +13,10 @@ returns-in-2-clause-line c = create-line c.group-in-2.result (omega (arith, c.gr
 
 pub returns-in-3-clause-line : goal.returns-in-3-clause-line
 returns-in-3-clause-line c =
-    assign-line c.group-in-3.result c.group-in-3-2.result (omega (arith, c.group-in-3.ensures)) (omega (arith, c.group-in-3-2.ensures))
+    assign-line c.group-in-3.result c.group-in-3-2.result (omega (arith, c.group-in-3.ensures))
+    (omega (arith, c.group-in-3-2.ensures))
 
 pub returns-in_default-clause-line : goal.returns-in_default-clause-line
 returns-in_default-clause-line c =
-    assign-line c.group-in_default.result c.group-in_default-2.result (omega (arith, c.group-in_default.ensures)) (omega (arith, c.group-in_default-2.ensures))
+    assign-line c.group-in_default.result c.group-in_default-2.result (omega (arith, c.group-in_default.ensures))
+    (omega (arith, c.group-in_default-2.ensures))

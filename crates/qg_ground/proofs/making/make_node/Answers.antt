@@ -10,7 +10,8 @@ returns-in_err-now-clause-rests g c =
     let history = g.D.Disk.history c.args.disk.now in
     let ready = c.requires.ready in
     record {
-      rests = Rests-taken c.args.land.now c.put_node.new.land history (header_of c.args.node).generation c.put_node.ensures.spares c.in_err-now.ensures.err
+      rests = Rests-taken c.args.land.now c.put_node.new.land history (header_of c.args.node).generation
+          c.put_node.ensures.spares c.in_err-now.ensures.err
           (c.put_node.ensures.backed history ready.backed) ready.drafted;
       history = refl;
       size = refl;
@@ -21,10 +22,12 @@ returns-in_err-made-clause-rests g c =
     let history = g.D.Disk.history c.args.disk.now in
     let generation = (header_of c.args.node).generation in
     let ready = c.requires.ready in
-    let put = Rests-made c.args.land.now c.put_node.new.land history c.in_ok-now.now generation c.args.node c.put_node.ensures.spares c.put_node.ensures.bound
+    let put = Rests-made c.args.land.now c.put_node.new.land history c.in_ok-now.now generation c.args.node
+    c.put_node.ensures.spares c.put_node.ensures.bound
     (c.put_node.ensures.backed history ready.backed) c.in_ok-now.ensures.made c.requires.sound refl ready.drafted in
     record {
-      rests = Rests-after c.args.land.now c.put_node.new.land c.made.new.land history (g.D.Disk.history c.made.new.disk) generation put (c.made.ensures.rests generation put.drafted);
+      rests = Rests-after c.args.land.now c.put_node.new.land c.made.new.land history (g.D.Disk.history c.made.new.disk)
+          generation put (c.made.ensures.rests generation put.drafted);
       history = c.made.ensures.disk.0;
       size = c.made.ensures.disk.1;
     }
@@ -34,10 +37,12 @@ returns-clause-rests g c =
     let history = g.D.Disk.history c.args.disk.now in
     let generation = (header_of c.args.node).generation in
     let ready = c.requires.ready in
-    let put = Rests-made c.args.land.now c.put_node.new.land history c.in_ok-now.now generation c.args.node c.put_node.ensures.spares c.put_node.ensures.bound
+    let put = Rests-made c.args.land.now c.put_node.new.land history c.in_ok-now.now generation c.args.node
+    c.put_node.ensures.spares c.put_node.ensures.bound
     (c.put_node.ensures.backed history ready.backed) c.in_ok-now.ensures.made c.requires.sound refl ready.drafted in
     record {
-      rests = Rests-after c.args.land.now c.put_node.new.land c.made.new.land history (g.D.Disk.history c.made.new.disk) generation put (c.made.ensures.rests generation put.drafted);
+      rests = Rests-after c.args.land.now c.put_node.new.land c.made.new.land history (g.D.Disk.history c.made.new.disk)
+          generation put (c.made.ensures.rests generation put.drafted);
       history = c.made.ensures.disk.0;
       size = c.made.ensures.disk.1;
     }
@@ -46,13 +51,16 @@ pub returns-clause-takes : goal.returns-clause-takes
 returns-clause-takes g c =
     let rests = (returns-clause-rests g c).rests in
     let takes = c.in_ok-made.ensures.takes in
-    Takes-made c.args.land.now c.made.new.land c.in_ok-now.now c.args.node c.requires.ready.drafted.sizes rests.sizes rests.held_slots
-    (Makes-after c.args.land.now c.put_node.new.land c.made.new.land c.in_ok-now.now c.args.node c.in_ok-now.ensures.made takes.draft takes.slots)
+    Takes-made c.args.land.now c.made.new.land c.in_ok-now.now c.args.node c.requires.ready.drafted.sizes rests.sizes
+    rests.held_slots
+    (Makes-after c.args.land.now c.put_node.new.land c.made.new.land c.in_ok-now.now c.args.node
+    c.in_ok-now.ensures.made takes.draft takes.slots)
 
 pub returns-clause-book : goal.returns-clause-book
 returns-clause-book g c = record {
   stands = c.in_ok-made.ensures.stands;
   settled = c.in_ok-made.ensures.settled c.args.land.now
-      (PutsFresh-puts c.args.land.now c.put_node.new.land c.in_ok-now.now (header_of c.args.node).generation (node_at c.in_ok-now.now c.args.node) c.in_ok-now.ensures.made.puts
+      (PutsFresh-puts c.args.land.now c.put_node.new.land c.in_ok-now.now (header_of c.args.node).generation
+      (node_at c.in_ok-now.now c.args.node) c.in_ok-now.ensures.made.puts
       c.put_node.ensures.spares c.in_ok-now.ensures.made.slots c.requires.ready.drafted);
 }

@@ -7,4 +7,5 @@ pub unreachable-requires : goal.unreachable-requires
 unreachable-requires c = some-free c.args.space.now c.requires (sym c.in_ok-slot.ensures.slot ∙ c.in-None.is)
 
 pub returns-clause-free : goal.returns-clause-free
-returns-clause-free c = is_free_slot-first c.args.space.now c.in-Some.slot (sym c.in_ok-slot.ensures.slot ∙ c.in-Some.is)
+returns-clause-free c = is_free_slot-first c.args.space.now c.in-Some.slot (sym c.in_ok-slot.ensures.slot
+    ∙ c.in-Some.is)

@@ -11,7 +11,8 @@ loop-number-init c = record {
 
 pub loop-number-preserved : goal.loop-number-preserved
 loop-number-preserved c = record {
-  limits = limits-next c.args.groups.now c.loop-number.number-index c.loop-number-item.result c.loop-number.limits.maxima c.set_both.new.limits.maxima c.requires
+  limits = limits-next c.args.groups.now c.loop-number.number-index c.loop-number-item.result
+      c.loop-number.limits.maxima c.set_both.new.limits.maxima c.requires
       c.loop-number-test.true c.loop-number-item.is c.loop-number.invariant.limits c.in_ok-set_both.ensures.ok;
   held = λ group. c.in_ok-set_both.ensures.held group ∙ c.loop-number.invariant.held group;
 }

@@ -9,13 +9,17 @@ use Rattle.qg_groups.proofs.groups.place_of.Goals as goal
 pub returns-clause-before : goal.returns-clause-before
 returns-clause-before c =
     let groups = c.args.groups.now in
-    let point = IsPartitionPoint-from_clause (λ (entry : ℕ × Group). nat_lt entry.0 c.args.number) groups c.partition_point.result c.partition_point.ensures.partitioned
-    (IsPartitionedBy-ltb (λ (entry : ℕ × Group). entry.0) groups c.args.number (numbers-rise groups c.requires)) (λ a r f k. search rules) in
+    let point = IsPartitionPoint-from_clause (λ (entry : ℕ × Group). nat_lt entry.0 c.args.number) groups
+    c.partition_point.result c.partition_point.ensures.partitioned
+    (IsPartitionedBy-ltb (λ (entry : ℕ × Group). entry.0) groups c.args.number (numbers-rise groups c.requires))
+    (λ a r f k. search rules) in
     λ k d low high. ltb-true _ _ (point.0 k d low high)
 
 pub returns-clause-behind : goal.returns-clause-behind
 returns-clause-behind c =
     let groups = c.args.groups.now in
-    let point = IsPartitionPoint-from_clause (λ (entry : ℕ × Group). nat_lt entry.0 c.args.number) groups c.partition_point.result c.partition_point.ensures.partitioned
-    (IsPartitionedBy-ltb (λ (entry : ℕ × Group). entry.0) groups c.args.number (numbers-rise groups c.requires)) (λ a r f k. search rules) in
+    let point = IsPartitionPoint-from_clause (λ (entry : ℕ × Group). nat_lt entry.0 c.args.number) groups
+    c.partition_point.result c.partition_point.ensures.partitioned
+    (IsPartitionedBy-ltb (λ (entry : ℕ × Group). entry.0) groups c.args.number (numbers-rise groups c.requires))
+    (λ a r f k. search rules) in
     λ k d low high. ltb-false _ _ (point.1 k d low high)

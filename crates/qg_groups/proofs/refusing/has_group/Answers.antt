@@ -8,5 +8,6 @@ use Rattle.qg_groups.proofs.refusing.has_group.Goals as goal
 pub returns : goal.returns
 returns c =
     c.is_some.ensures
-    ∙ ap (λ (o : Option Group). is_some o) (c.find_group.ensures ∙ ap (λ (t : List (ℕ × Group)). value_at c.args.group t) c.as_slice.ensures)
+    ∙ ap (λ (o : Option Group). is_some o) (c.find_group.ensures
+    ∙ ap (λ (t : List (ℕ × Group)). value_at c.args.group t) c.as_slice.ensures)
     ∙ sym (key-found c.args.group c.args.state.now.quota.groups)

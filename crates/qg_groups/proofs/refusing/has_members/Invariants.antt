@@ -4,4 +4,5 @@ use Rattle.std.specs.List.{list_any}
 use Rattle.qg_groups.proofs.refusing.has_members.Given as goal
 
 abbrev pub invariant-loop-pair : goal.invariant-loop-pair
-invariant-loop-pair l = list_any (λ pair. pair.1 == l.group) l.pairs ≡ list_any (λ pair. pair.1 == l.group) (drop l.pair-index l.pairs)
+invariant-loop-pair l = list_any (λ pair. pair.1 == l.group) l.pairs ≡ list_any (λ pair. pair.1 == l.group)
+    (drop l.pair-index l.pairs)

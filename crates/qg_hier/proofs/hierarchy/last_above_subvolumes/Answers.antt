@@ -5,7 +5,8 @@ use Rattle.qg_hier.proofs.hierarchy.last_above_subvolumes.Goals as goal
 
 pub returns-then-level-eq0 : goal.returns-then-level-eq0
 returns-then-level-eq0 c = λ group has.
-    let low = level_mono group c.in_ok-last.field-0.now (upper c.args.groups.now c.in_ok-last.field-0.now c.in_ok-last.ensures.greatest group has) in
+    let low = level_mono group c.in_ok-last.field-0.now
+    (upper c.args.groups.now c.in_ok-last.field-0.now c.in_ok-last.ensures.greatest group has) in
     omega (arith, low, c.if-level-eq0.true, c.level.ensures.value, c.from_number.ensures)
 
 pub returns : goal.returns

@@ -13,12 +13,18 @@ same_number n = grind (arith, nat_tests)
 
 pub returns-in-Some : goal.returns-in-Some
 returns-in-Some c =
-    let row : c.range.result ≡ filter (range_contains pair_cmp (Included (c.args.of, 0)) (Included (c.args.of, 18446744073709551615))) c.args.pairs.now.keys = search rules in
+    let row : c.range.result
+    ≡ filter (range_contains pair_cmp (Included (c.args.of, 0)) (Included (c.args.of, 18446744073709551615)))
+    c.args.pairs.now.keys = search rules in
     let other = c.in-Some.pair.now.1 in
-    sym (others_of c.args.of other c.args.pairs.now.keys c.requires.fit) ∙ ap (λ (pairs : List (ℕ × ℕ)). is_second other pairs) (sym row ∙ c.in-Some.ensures.steps)
+    sym (others_of c.args.of other c.args.pairs.now.keys c.requires.fit)
+    ∙ ap (λ (pairs : List (ℕ × ℕ)). is_second other pairs) (sym row ∙ c.in-Some.ensures.steps)
     ∙ ap (λ (b : Bool). b || is_second other c.next.new.self) (same_number other)
 
 pub returns-in-None : goal.returns-in-None
 returns-in-None c = λ other.
-    let row : c.range.result ≡ filter (range_contains pair_cmp (Included (c.args.of, 0)) (Included (c.args.of, 18446744073709551615))) c.args.pairs.now.keys = search rules in
-    sym (others_of c.args.of other c.args.pairs.now.keys c.requires.fit) ∙ ap (λ (pairs : List (ℕ × ℕ)). is_second other pairs) (sym row ∙ c.in-None.ensures.steps.0)
+    let row : c.range.result
+    ≡ filter (range_contains pair_cmp (Included (c.args.of, 0)) (Included (c.args.of, 18446744073709551615)))
+    c.args.pairs.now.keys = search rules in
+    sym (others_of c.args.of other c.args.pairs.now.keys c.requires.fit)
+    ∙ ap (λ (pairs : List (ℕ × ℕ)). is_second other pairs) (sym row ∙ c.in-None.ensures.steps.0)

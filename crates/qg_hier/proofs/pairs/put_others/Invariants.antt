@@ -10,5 +10,6 @@ use Rattle.qg_hier.proofs.pairs.put_others.Given as goal
 abbrev pub invariant-loop-pair : goal.invariant-loop-pair
 invariant-loop-pair l = record {
   ordered : IsOrdered nat_cmp l.into;
-  has : (other : ℕ) → (has_number other l.into.keys || is_second other l.pair-iterator) ≡ (has_number other l.fn.into.keys || has_pair l.of other l.pairs.keys);
+  has : (other : ℕ) → (has_number other l.into.keys || is_second other l.pair-iterator)
+      ≡ (has_number other l.fn.into.keys || has_pair l.of other l.pairs.keys);
 }

@@ -21,7 +21,8 @@ loop-other-preserved c =
     let old = c.loop-other.invariant in
     record {
       left = ap (λ (pairs : List (ℕ × ℕ)). filter (λ pair. not (pair.0 == of)) pairs) first.left
-          ∙ filter_again (λ (pair : ℕ × ℕ). not (pair.0 == of)) (λ (pair : ℕ × ℕ). not (same_pair pair (of, other))) (λ pair apart. other_pairs of other pair apart) c.loop-other.pairs.keys
+          ∙ filter_again (λ (pair : ℕ × ℕ). not (pair.0 == of)) (λ (pair : ℕ × ℕ). not (same_pair pair (of, other)))
+          (λ pair apart. other_pairs of other pair apart) c.loop-other.pairs.keys
           ∙ old.left;
       same = λ a b.
           second.has b a
@@ -36,4 +37,5 @@ loop-other-preserved c =
 
 pub returns-clause-left : goal.returns-clause-left
 returns-clause-left c =
-    sym (filter_all (λ (pair : ℕ × ℕ). not (pair.0 == c.args.of)) c.loop-other.pairs.keys (none_of c.args.of c.loop-other.pairs.keys c.in_default.ensures)) ∙ c.loop-other.invariant.left
+    sym (filter_all (λ (pair : ℕ × ℕ). not (pair.0 == c.args.of)) c.loop-other.pairs.keys
+    (none_of c.args.of c.loop-other.pairs.keys c.in_default.ensures)) ∙ c.loop-other.invariant.left

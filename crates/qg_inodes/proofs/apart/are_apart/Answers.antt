@@ -4,7 +4,8 @@ use Rattle.std.proofs.Math.ListN.{drop_of_length-le}
 use Rattle.std.proofs.lemmas.List.{drop_more}
 use Rattle.qg_num.specs.declared.piece.Piece.{Piece}
 use Rattle.qg_inodes.proofs.Judging.{apart-first, apart-none, piece-begins, piece-within, pieces-behind}
-use Rattle.qg_inodes.proofs.apart.are_apart.Goals.{then-piece-end-via-then-piece-end, then-piece-end-via-else-piece-end+then-not-is_within_sizes}
+use Rattle.qg_inodes.proofs.apart.are_apart.Goals.{then-piece-end-via-then-piece-end}
+use Rattle.qg_inodes.proofs.apart.are_apart.Goals.{then-piece-end-via-else-piece-end+then-not-is_within_sizes}
 use Rattle.qg_inodes.proofs.apart.are_apart.Goals as goal
 
 pub returns-then-piece-end-clause-every : goal.returns-then-piece-end-clause-every

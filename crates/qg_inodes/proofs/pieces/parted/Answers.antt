@@ -14,9 +14,13 @@ use Rattle.qg_file_items.specs.Pieces.{pieces_met}
 use Rattle.qg_inodes.specs.Items.{piece_of}
 use Rattle.qg_inodes.specs.Pieces.{pieces_at}
 use Rattle.qg_inodes.specs.Told.{TellsFiles}
-use Rattle.qg_inodes.proofs.PiecesRead.{AreMet, added-broken, added-sound, are-met-long, are-met-short, found-after, handed, judged-broken, judged-found, judged-sound, misread-broken, misread-sound, steps-met, unread-before, unread-begun}
+use Rattle.qg_inodes.proofs.PiecesRead.{AreMet, added-broken, added-sound, are-met-long, are-met-short, found-after}
+use Rattle.qg_inodes.proofs.PiecesRead.{handed, judged-broken, judged-found, judged-sound, misread-broken}
+use Rattle.qg_inodes.proofs.PiecesRead.{misread-sound, steps-met, unread-before, unread-begun}
 use Rattle.qg_inodes.proofs.pieces.parted.Given.{Over}
-use Rattle.qg_inodes.proofs.pieces.parted.Goals.{After-as_slice, After-judged, After-judged-2, After-range, then-to-from-via-then-to-from, then-to-from-via-else-to-from+then-to-from-eq1}
+use Rattle.qg_inodes.proofs.pieces.parted.Goals.{After-as_slice, After-judged, After-judged-2, After-range}
+use Rattle.qg_inodes.proofs.pieces.parted.Goals.{then-to-from-via-then-to-from}
+use Rattle.qg_inodes.proofs.pieces.parted.Goals.{then-to-from-via-else-to-from+then-to-from-eq1}
 use Rattle.qg_inodes.proofs.pieces.parted.Goals as goal
 
 -- ---- where the last item says nothing
@@ -104,7 +108,8 @@ pub returns-clause-reads : goal.returns-clause-reads
 returns-clause-reads g c = reads-met g (goal.at.returns-clause-reads g c).After-range c.in_ok-items.ensures.reads
 
 begun : (g : Over) (c : After-as_slice g)
-    → (whole : List Item) → TellsTree Files c.args.tree.now c.args.blocks.now.draft (g.D.Disk.history c.args.disk.now) whole
+    → (whole : List Item)
+    → TellsTree Files c.args.tree.now c.args.blocks.now.draft (g.D.Disk.history c.args.disk.now) whole
     → c.as_slice.result.now
     ≡ items_within (key_with c.args.ino 108 (c.args.from + 1)) (key_with c.args.ino 108 (c.args.to - 1)) whole
 begun g c =
@@ -141,7 +146,8 @@ returns-in_err-add_pieces-clause-broken g c =
     c.from_residual-in_err-add_pieces.result c.in_err-add_pieces.field-0.0 result c.in_err-add_pieces.ensures unread
 
 long-met : (g : Over) (c : After-judged-2 g)
-    → ((whole : List Item) → TellsTree Files c.args.tree.now c.args.blocks.now.draft (g.D.Disk.history c.args.disk.now) whole
+    → ((whole : List Item)
+    → TellsTree Files c.args.tree.now c.args.blocks.now.draft (g.D.Disk.history c.args.disk.now) whole
     → c.as_slice.result.now
     ≡ items_within (key_with c.args.ino 108 (c.args.from + 1)) (key_with c.args.ino 108 (c.args.to - 1)) whole)
     → AreMet c.args.tree.now c.args.blocks.now.draft (g.D.Disk.history c.args.disk.now) c.args.ino c.args.from c.args.to

@@ -5,7 +5,8 @@ use Rattle.qg_num.specs.declared.key.Key.{Key}
 use Rattle.qg_num.specs.declared.piece.Piece.{Piece}
 use Rattle.qg_blocks.specs.Told.{BreaksNone}
 use Rattle.qg_descent.specs.Reading.{last_upto}
-use Rattle.qg_inodes.proofs.PiecesRead.{are-met-alone, are-met-more, files-read, handed, judged-broken, judged-found, judged-sound, misread-broken, misread-sound, steps-more, unread-before}
+use Rattle.qg_inodes.proofs.PiecesRead.{are-met-alone, are-met-more, files-read, handed, judged-broken, judged-found}
+use Rattle.qg_inodes.proofs.PiecesRead.{judged-sound, misread-broken, misread-sound, steps-more, unread-before}
 use Rattle.qg_inodes.proofs.pieces.pieces_meeting.Goals as goal
 
 -- ---- where the last item says nothing
@@ -146,7 +147,8 @@ returns-clause-found g c =
     (g.D.Disk.size c.args.disk.now) (g.D.Disk.size c.last_to.new.disk) c.in_ok-last.ensures.read files tells))
     c.in_ok-push.ensures.ok
     in
-    judged-found root draft c.args.ino c.args.from c.args.to c.push.new.self history c.judged-2.result c.judged-2.ensures met
+    judged-found root draft c.args.ino c.args.from c.args.to c.push.new.self history c.judged-2.result
+    c.judged-2.ensures met
 
 pub returns-clause-sound : goal.returns-clause-sound
 returns-clause-sound g c =
@@ -166,7 +168,8 @@ returns-clause-sound g c =
     (g.D.Disk.size c.args.disk.now) (g.D.Disk.size c.last_to.new.disk) c.in_ok-last.ensures.read files tells))
     c.in_ok-push.ensures.ok
     in
-    judged-sound root draft c.args.ino c.args.from c.args.to c.push.new.self history c.judged-2.result c.judged-2.ensures met
+    judged-sound root draft c.args.ino c.args.from c.args.to c.push.new.self history c.judged-2.result
+    c.judged-2.ensures met
 
 pub returns-clause-broken : goal.returns-clause-broken
 returns-clause-broken g c events is =

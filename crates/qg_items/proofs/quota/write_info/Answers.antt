@@ -6,7 +6,8 @@ pub returns : goal.returns
 unfolding info_text
 returns c =
     let info = c.args.info.now in
-    let generation = Written-u64 info.generation c.put_u64.new.bytes (nothing_written c.args.bytes.now) (rw c.value.ensures at c.put_u64.ensures) in
+    let generation = Written-u64 info.generation c.put_u64.new.bytes (nothing_written c.args.bytes.now)
+    (rw c.value.ensures at c.put_u64.ensures) in
     let rfer = Written-u64 info.rfer c.put_u64-2.new.bytes generation c.put_u64-2.ensures in
     let rfer_cmpr = Written-u64 info.rfer_cmpr c.put_u64-3.new.bytes rfer c.put_u64-3.ensures in
     let excl = Written-u64 info.excl c.put_u64-4.new.bytes rfer_cmpr c.put_u64-4.ensures in

@@ -21,8 +21,10 @@ forget_slots-requires g c = record {
 
 pub write_trees-requires-clause-kept : goal.write_trees-requires-clause-kept
 write_trees-requires-clause-kept g c =
-    kept-forgotten c.plan_of.new.kept _ c.forget_slots.ensures.same (g.D.Disk.history c.plan_of.new.disk) (g.D.Disk.size c.plan_of.new.disk)
-    c.in_ok-plan.ensures.kept (c.forget_slots.ensures.backed (g.D.Disk.history c.plan_of.new.disk) c.in_ok-plan.ensures.kept.backed)
+    kept-forgotten c.plan_of.new.kept _ c.forget_slots.ensures.same (g.D.Disk.history c.plan_of.new.disk)
+    (g.D.Disk.size c.plan_of.new.disk)
+    c.in_ok-plan.ensures.kept
+    (c.forget_slots.ensures.backed (g.D.Disk.history c.plan_of.new.disk) c.in_ok-plan.ensures.kept.backed)
 
 pub write_trees-requires-clause-early : goal.write_trees-requires-clause-early
 write_trees-requires-clause-early g c =
@@ -35,7 +37,8 @@ write_trees-requires-clause-plan g c =
 
 pub keep_commit-requires-clause-fitted : goal.keep_commit-requires-clause-fitted
 keep_commit-requires-clause-fitted g c =
-    (kept-forgotten c.plan_of.new.kept _ c.forget_slots.ensures.same (g.D.Disk.history c.plan_of.new.disk) (g.D.Disk.size c.plan_of.new.disk)
+    (kept-forgotten c.plan_of.new.kept _ c.forget_slots.ensures.same (g.D.Disk.history c.plan_of.new.disk)
+    (g.D.Disk.size c.plan_of.new.disk)
     c.in_ok-plan.ensures.kept
     (c.forget_slots.ensures.backed (g.D.Disk.history c.plan_of.new.disk) c.in_ok-plan.ensures.kept.backed)).fitted
 
@@ -50,7 +53,8 @@ keep_commit-requires-clause-plan g c =
 
 pub keep_commit-requires-clause-backed : goal.keep_commit-requires-clause-backed
 keep_commit-requires-clause-backed g c =
-    backed-then c.plan_of.new.kept _ c.in_ok-plan.plan c.in_ok-trees.trees c.as_slice.result.now (g.D.Disk.history c.plan_of.new.disk)
+    backed-then c.plan_of.new.kept _ c.in_ok-plan.plan c.in_ok-trees.trees c.as_slice.result.now
+    (g.D.Disk.history c.plan_of.new.disk)
     (g.D.Disk.history c.write_trees.new.disk) (g.D.Disk.size c.plan_of.new.disk)
     (record {
       same = c.forget_slots.ensures.same;
@@ -67,7 +71,8 @@ keep_commit-requires-clause-backed g c =
 
 pub keep_commit-requires-clause-written : goal.keep_commit-requires-clause-written
 keep_commit-requires-clause-written g c =
-    written-then c.plan_of.new.kept _ c.in_ok-plan.plan c.in_ok-trees.trees c.as_slice.result.now (g.D.Disk.history c.plan_of.new.disk)
+    written-then c.plan_of.new.kept _ c.in_ok-plan.plan c.in_ok-trees.trees c.as_slice.result.now
+    (g.D.Disk.history c.plan_of.new.disk)
     (g.D.Disk.history c.write_trees.new.disk) (g.D.Disk.size c.plan_of.new.disk)
     (record {
       same = c.forget_slots.ensures.same;
@@ -86,7 +91,8 @@ keep_commit-requires-clause-written g c =
 
 pub returns-clause-kept : goal.returns-clause-kept
 returns-clause-kept g c =
-    kept-then c.plan_of.new.kept _ c.in_ok-plan.plan c.in_ok-trees.trees c.as_slice.result.now (g.D.Disk.history c.plan_of.new.disk)
+    kept-then c.plan_of.new.kept _ c.in_ok-plan.plan c.in_ok-trees.trees c.as_slice.result.now
+    (g.D.Disk.history c.plan_of.new.disk)
     (g.D.Disk.history c.write_trees.new.disk) (g.D.Disk.size c.plan_of.new.disk)
     (record {
       same = c.forget_slots.ensures.same;
@@ -105,7 +111,8 @@ returns-clause-kept g c =
 
 pub returns-clause-commits : goal.returns-clause-commits
 returns-clause-commits g c = λ state events names keeps enough told.
-    committed-on c.plan_of.new.kept _ c.in_ok-plan.plan c.in_ok-trees.trees c.as_slice.result.now (g.D.Disk.history c.plan_of.new.disk)
+    committed-on c.plan_of.new.kept _ c.in_ok-plan.plan c.in_ok-trees.trees c.as_slice.result.now
+    (g.D.Disk.history c.plan_of.new.disk)
     (g.D.Disk.history c.write_trees.new.disk) (g.D.Disk.size c.plan_of.new.disk)
     (record {
       same = c.forget_slots.ensures.same;
@@ -120,14 +127,16 @@ returns-clause-commits g c = λ state events names keeps enough told.
       calls = c.in_ok-trees.ensures.calls;
     })
     events (c.in_ok-plan.ensures.looked.read.history ∙ told) state names
-    (surveyed-keeps c.args.kept.now c.plan_of.new.kept (g.D.Disk.history c.args.disk.now) (g.D.Disk.history c.plan_of.new.disk)
+    (surveyed-keeps c.args.kept.now c.plan_of.new.kept (g.D.Disk.history c.args.disk.now)
+    (g.D.Disk.history c.plan_of.new.disk)
     (g.D.Disk.size c.args.disk.now) (g.D.Disk.size c.plan_of.new.disk) c.in_ok-plan.ensures.looked state names keeps)
     (c.in_ok-plan.ensures.told state names keeps) c.keep_commit.new.kept c.in_ok-keep_commit.ensures.keeps.0
     (λ items pieces. c.in_ok-keep_commit.ensures.stands events (g.D.Disk.size c.plan_of.new.disk) items pieces)
 
 pub returns-clause-so_far : goal.returns-clause-so_far
 returns-clause-so_far g c = λ state events names keeps enough told.
-    inr (started c.plan_of.new.kept _ c.in_ok-plan.plan c.in_ok-trees.trees c.as_slice.result.now (g.D.Disk.history c.plan_of.new.disk)
+    inr (started c.plan_of.new.kept _ c.in_ok-plan.plan c.in_ok-trees.trees c.as_slice.result.now
+    (g.D.Disk.history c.plan_of.new.disk)
     (g.D.Disk.history c.write_trees.new.disk) (g.D.Disk.size c.plan_of.new.disk)
     (record {
       same = c.forget_slots.ensures.same;
@@ -142,15 +151,18 @@ returns-clause-so_far g c = λ state events names keeps enough told.
       calls = c.in_ok-trees.ensures.calls;
     })
     events (c.in_ok-plan.ensures.looked.read.history ∙ told) state names
-    (surveyed-keeps c.args.kept.now c.plan_of.new.kept (g.D.Disk.history c.args.disk.now) (g.D.Disk.history c.plan_of.new.disk)
+    (surveyed-keeps c.args.kept.now c.plan_of.new.kept (g.D.Disk.history c.args.disk.now)
+    (g.D.Disk.history c.plan_of.new.disk)
     (g.D.Disk.size c.args.disk.now) (g.D.Disk.size c.plan_of.new.disk) c.in_ok-plan.ensures.looked state names keeps)
     (c.in_ok-plan.ensures.told state names keeps))
 
 pub returns-clause-leaves : goal.returns-clause-leaves
 returns-clause-leaves g c =
     room-back c.args.kept.now c.plan_of.new.kept c.keep_commit.new.kept (g.D.Disk.history c.args.disk.now)
-    (g.D.Disk.history c.plan_of.new.disk) (g.D.Disk.size c.args.disk.now) (g.D.Disk.size c.plan_of.new.disk) c.in_ok-plan.ensures.looked
-    (room-then c.plan_of.new.kept _ c.in_ok-plan.plan c.in_ok-trees.trees c.as_slice.result.now (g.D.Disk.history c.plan_of.new.disk)
+    (g.D.Disk.history c.plan_of.new.disk) (g.D.Disk.size c.args.disk.now) (g.D.Disk.size c.plan_of.new.disk)
+    c.in_ok-plan.ensures.looked
+    (room-then c.plan_of.new.kept _ c.in_ok-plan.plan c.in_ok-trees.trees c.as_slice.result.now
+    (g.D.Disk.history c.plan_of.new.disk)
     (g.D.Disk.history c.write_trees.new.disk) (g.D.Disk.size c.plan_of.new.disk)
     (record {
       same = c.forget_slots.ensures.same;
@@ -196,10 +208,12 @@ returns-in_err-plan-clause-sizes g c = (
 
 pub returns-in_err-trees-clause-so_far : goal.returns-in_err-trees-clause-so_far
 returns-in_err-trees-clause-so_far g c = λ state events names keeps enough told.
-    stopped-so c.plan_of.new.kept _ c.in_ok-plan.plan events (g.D.Disk.history c.plan_of.new.disk) (g.D.Disk.history c.write_trees.new.disk)
+    stopped-so c.plan_of.new.kept _ c.in_ok-plan.plan events (g.D.Disk.history c.plan_of.new.disk)
+    (g.D.Disk.history c.write_trees.new.disk)
     (g.D.Disk.size c.plan_of.new.disk) state names c.forget_slots.ensures.same c.in_ok-plan.ensures.kept
     (c.forget_slots.ensures.backed (g.D.Disk.history c.plan_of.new.disk) c.in_ok-plan.ensures.kept.backed)
-    (surveyed-keeps c.args.kept.now c.plan_of.new.kept (g.D.Disk.history c.args.disk.now) (g.D.Disk.history c.plan_of.new.disk)
+    (surveyed-keeps c.args.kept.now c.plan_of.new.kept (g.D.Disk.history c.args.disk.now)
+    (g.D.Disk.history c.plan_of.new.disk)
     (g.D.Disk.size c.args.disk.now) (g.D.Disk.size c.plan_of.new.disk) c.in_ok-plan.ensures.looked state names keeps)
     (c.in_ok-plan.ensures.told state names keeps) (c.in_ok-plan.ensures.looked.read.history ∙ told)
     (g.met.D.Disk.sized c.plan_of.new.disk events (c.in_ok-plan.ensures.looked.read.history ∙ told))
@@ -217,7 +231,8 @@ returns-in_err-trees-clause-sizes g c = (
 
 pub returns-in_err-keep_commit-clause-so_far : goal.returns-in_err-keep_commit-clause-so_far
 returns-in_err-keep_commit-clause-so_far g c = λ state events names keeps enough told.
-    inr (started c.plan_of.new.kept _ c.in_ok-plan.plan c.in_ok-trees.trees c.as_slice.result.now (g.D.Disk.history c.plan_of.new.disk)
+    inr (started c.plan_of.new.kept _ c.in_ok-plan.plan c.in_ok-trees.trees c.as_slice.result.now
+    (g.D.Disk.history c.plan_of.new.disk)
     (g.D.Disk.history c.write_trees.new.disk) (g.D.Disk.size c.plan_of.new.disk)
     (record {
       same = c.forget_slots.ensures.same;
@@ -232,7 +247,8 @@ returns-in_err-keep_commit-clause-so_far g c = λ state events names keeps enoug
       calls = c.in_ok-trees.ensures.calls;
     })
     events (c.in_ok-plan.ensures.looked.read.history ∙ told) state names
-    (surveyed-keeps c.args.kept.now c.plan_of.new.kept (g.D.Disk.history c.args.disk.now) (g.D.Disk.history c.plan_of.new.disk)
+    (surveyed-keeps c.args.kept.now c.plan_of.new.kept (g.D.Disk.history c.args.disk.now)
+    (g.D.Disk.history c.plan_of.new.disk)
     (g.D.Disk.size c.args.disk.now) (g.D.Disk.size c.plan_of.new.disk) c.in_ok-plan.ensures.looked state names keeps)
     (c.in_ok-plan.ensures.told state names keeps))
 

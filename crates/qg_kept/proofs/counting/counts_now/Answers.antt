@@ -14,7 +14,8 @@ use Rattle.qg_kept.proofs.counting.counts_now.Goals as goal
 pub returns-then-is_none-clause-all : goal.returns-then-is_none-clause-all
 returns-then-is_none-clause-all g c =
     ap (λ (counts : List Counters). length counts) c.new.ensures.items
-    ∙ none-off c.args.kept.now.quota (off-told c.args.kept.now.quota c.is_none.result c.is_none.ensures c.if-is_none.true)
+    ∙ none-off c.args.kept.now.quota
+    (off-told c.args.kept.now.quota c.is_none.result c.is_none.ensures c.if-is_none.true)
 
 pub returns-then-is_none-clause-direct : goal.returns-then-is_none-clause-direct
 returns-then-is_none-clause-direct g c = λ state names quota keeps are on.

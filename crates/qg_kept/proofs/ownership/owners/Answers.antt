@@ -36,7 +36,8 @@ returns-in_err-trees-clause-looked g c =
 pub returns-in_err-nodes-clause-sound : goal.returns-in_err-nodes-clause-sound
 returns-in_err-nodes-clause-sound g c = λ state events told keeps.
     let table = subst (λ (book : List (ℕ × Reference)). IsTable book) c.refs.ensures c.len-ascending.ensures.table in
-    handed-sound (List Surveyed) c.from_residual-in_err-nodes.result _ (handed c.from_residual-in_err-nodes.result _ c.from_residual-in_err-nodes.ensures.1)
+    handed-sound (List Surveyed) c.from_residual-in_err-nodes.result _
+    (handed c.from_residual-in_err-nodes.result _ c.from_residual-in_err-nodes.ensures.1)
     (c.in_err-nodes.ensures.sound state events (other_names state) told keeps
     (c.as_slice.ensures.value
     ∙ trees-are c.args.kept.now (g.D.Disk.history c.args.disk.now) (g.D.Disk.size c.args.disk.now) state

@@ -128,7 +128,8 @@ returns-clause-told g c = λ state names keeps.
 pub returns-in_err-counts-clause-sound : goal.returns-in_err-counts-clause-sound
 returns-in_err-counts-clause-sound g c = λ state events names told keeps enough.
     let table = subst (λ (book : List (ℕ × Reference)). IsTable book) c.refs.ensures c.len-ascending.ensures.table in
-    handed-sound (List Counters) c.from_residual-in_err-counts.result _ (handed c.from_residual-in_err-counts.result _ c.from_residual-in_err-counts.ensures.1)
+    handed-sound (List Counters) c.from_residual-in_err-counts.result _
+    (handed c.from_residual-in_err-counts.result _ c.from_residual-in_err-counts.ensures.1)
     (c.in_err-counts.ensures.sound state events names told keeps
     (c.as_slice.ensures.value
     ∙ trees-are c.args.kept.now (g.D.Disk.history c.args.disk.now) (g.D.Disk.size c.args.disk.now) state names
@@ -170,7 +171,8 @@ pub returns-in_err-slots-clause-sound : goal.returns-in_err-slots-clause-sound
 returns-in_err-slots-clause-sound g c = λ state events names told keeps enough.
     let room = subst (λ (kept : Kept). commit_need kept ≤ free_slots kept.fs.land.space)
     (sym c.in_ok-counts.ensures.looked.rest) enough in
-    handed-sound (List ℕ) c.from_residual-in_err-slots.result _ (handed c.from_residual-in_err-slots.result _ c.from_residual-in_err-slots.ensures.1)
+    handed-sound (List ℕ) c.from_residual-in_err-slots.result _
+    (handed c.from_residual-in_err-slots.result _ c.from_residual-in_err-slots.ensures.1)
     (c.in_err-slots.ensures.sound room)
 
 -- ---- where memory is refused before anything was read

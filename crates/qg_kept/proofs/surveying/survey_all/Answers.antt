@@ -24,31 +24,37 @@ survey-requires g c = record {
 pub returns-then-told-next-clause-sound : goal.returns-then-told-next-clause-sound
 returns-then-told-next-clause-sound g c = λ state events names told keeps are.
     absurd (c.if-told-next.true (c.value-told.ensures ∙ c.next.ensures
-    ∙ next-same-now c.args.kept.now (g.D.Disk.history c.args.disk.now) state names keeps ∙ sym (c.value-next.ensures ∙ c.next-2.ensures)))
+    ∙ next-same-now c.args.kept.now (g.D.Disk.history c.args.disk.now) state names keeps
+    ∙ sym (c.value-next.ensures ∙ c.next-2.ensures)))
 
 pub returns-in_err-nodes-clause-sound : goal.returns-in_err-nodes-clause-sound
 returns-in_err-nodes-clause-sound g c = λ state events names told keeps are.
     handed-sound (List Surveyed) c.from_residual.result _ (handed c.from_residual.result _ c.from_residual.ensures.1)
     (c.in_err-nodes.ensures.sound state events told
     (held-now c.args.kept.now (g.D.Disk.history c.args.disk.now) (g.D.Disk.size c.args.disk.now) state names
-    c.requires.kept (subst (λ (book : List (ℕ × Reference)). IsTable book) c.refs.ensures c.len-ascending.ensures.table) keeps) are)
+    c.requires.kept (subst (λ (book : List (ℕ × Reference)). IsTable book) c.refs.ensures c.len-ascending.ensures.table)
+    keeps) are)
 
 pub returns-then-not-do_ascend-clause-sound : goal.returns-then-not-do_ascend-clause-sound
 returns-then-not-do_ascend-clause-sound g c = λ state events names told keeps are.
     let nodes = c.in_ok-nodes.ensures.surveyed state
     (held-now c.args.kept.now (g.D.Disk.history c.args.disk.now) (g.D.Disk.size c.args.disk.now) state names
-    c.requires.kept (subst (λ (book : List (ℕ × Reference)). IsTable book) c.refs.ensures c.len-ascending.ensures.table) keeps) are in
+    c.requires.kept (subst (λ (book : List (ℕ × Reference)). IsTable book) c.refs.ensures c.len-ascending.ensures.table)
+    keeps) are in
     let order = order-now c.args.kept.now (g.D.Disk.history c.args.disk.now) (g.D.Disk.size c.args.disk.now) state names
-    c.requires.kept (subst (λ (book : List (ℕ × Reference)). IsTable book) c.refs.ensures c.len-ascending.ensures.table) keeps c.as_slice.result.now (c.as_slice.ensures.value ∙ nodes) in
+    c.requires.kept (subst (λ (book : List (ℕ × Reference)). IsTable book) c.refs.ensures c.len-ascending.ensures.table)
+    keeps c.as_slice.result.now (c.as_slice.ensures.value ∙ nodes) in
     absurd (c.do_ascend.ensures.no c.if-not-do_ascend.true order.ascending)
 
 pub returns-then-len-slots-clause-sound : goal.returns-then-len-slots-clause-sound
 returns-then-len-slots-clause-sound g c = λ state events names told keeps are.
     let nodes = c.in_ok-nodes.ensures.surveyed state
     (held-now c.args.kept.now (g.D.Disk.history c.args.disk.now) (g.D.Disk.size c.args.disk.now) state names
-    c.requires.kept (subst (λ (book : List (ℕ × Reference)). IsTable book) c.refs.ensures c.len-ascending.ensures.table) keeps) are in
+    c.requires.kept (subst (λ (book : List (ℕ × Reference)). IsTable book) c.refs.ensures c.len-ascending.ensures.table)
+    keeps) are in
     let order = order-now c.args.kept.now (g.D.Disk.history c.args.disk.now) (g.D.Disk.size c.args.disk.now) state names
-    c.requires.kept (subst (λ (book : List (ℕ × Reference)). IsTable book) c.refs.ensures c.len-ascending.ensures.table) keeps c.in_ok-nodes.nodes.items nodes in
+    c.requires.kept (subst (λ (book : List (ℕ × Reference)). IsTable book) c.refs.ensures c.len-ascending.ensures.table)
+    keeps c.in_ok-nodes.nodes.items nodes in
     let few = order.few in
     absurd (omega (arith, few, c.len.ensures, c.if-len-slots.true))
 
@@ -58,7 +64,8 @@ pub returns-clause-surveyed : goal.returns-clause-surveyed
 returns-clause-surveyed g c = λ state names keeps are.
     c.in_ok-nodes.ensures.surveyed state
     (held-now c.args.kept.now (g.D.Disk.history c.args.disk.now) (g.D.Disk.size c.args.disk.now) state names
-    c.requires.kept (subst (λ (book : List (ℕ × Reference)). IsTable book) c.refs.ensures c.len-ascending.ensures.table) keeps) are
+    c.requires.kept (subst (λ (book : List (ℕ × Reference)). IsTable book) c.refs.ensures c.len-ascending.ensures.table)
+    keeps) are
 
 pub returns-clause-order : goal.returns-clause-order
 returns-clause-order g c = record {

@@ -3,7 +3,8 @@ use Rattle.qg_kept.proofs.turning.turn_to.Goals as goal
 
 pub returns-clause-there : goal.returns-clause-there
 returns-clause-there c =
-    asked-there c.args.kept.now c.turn_to.new.self c.args.sub c.turn_to.result c.requires.fitted c.turn_to.ensures.turned
+    asked-there c.args.kept.now c.turn_to.new.self c.args.sub c.turn_to.result c.requires.fitted
+    c.turn_to.ensures.turned
     c.turn_to.ensures.left c.turn_to.ensures.numbers c.turn_to.ensures.found
 
 pub returns-clause-hand : goal.returns-clause-hand

@@ -12,12 +12,14 @@ use Rattle.qg_limits.proofs.limits.add_to_each.Goals as goal
 
 pub overflow_add-bytes : goal.overflow_add-bytes
 overflow_add-bytes c =
-    let room = next_fits c.args.held.now.entries c.args.path.now c.args.n c.loop-group.group-index c.group-item.result c.loop-group-test.true c.group-item.is c.requires.fits in
+    let room = next_fits c.args.held.now.entries c.args.path.now c.args.n c.loop-group.group-index c.group-item.result
+    c.loop-group-test.true c.group-item.is c.requires.fits in
     omega (arith, room, c.bytes_of-bytes.ensures, c.loop-group.invariant.held c.group-item.result)
 
 pub unreachable-requires : goal.unreachable-requires
 unreachable-requires c = not_absent c.loop-group.held c.number.result c.group-item.result c.number.ensures
-    (next_listed c.args.path.now c.loop-group.group-index c.group-item.result c.loop-group.held.entries c.loop-group-test.true c.group-item.is c.loop-group.invariant.there) c.in-Err.ensures.absent
+    (next_listed c.args.path.now c.loop-group.group-index c.group-item.result c.loop-group.held.entries
+    c.loop-group-test.true c.group-item.is c.loop-group.invariant.there) c.in-Err.ensures.absent
 
 pub loop-group-preserved : goal.loop-group-preserved
 loop-group-preserved c =
@@ -25,15 +27,20 @@ loop-group-preserved c =
     let new = c.insert.new.self in
     let named = c.group-item.result in
     let sets : Updates nat_cmp old new named (Some (c.bytes_of-bytes.result + c.args.n)) =
-    subst (λ (k : ℕ). Updates nat_cmp old new k (Some (c.bytes_of-bytes.result + c.args.n))) c.number.ensures c.in-Ok.ensures.updates in
+    subst (λ (k : ℕ). Updates nat_cmp old new k (Some (c.bytes_of-bytes.result + c.args.n))) c.number.ensures
+    c.in-Ok.ensures.updates in
     record {
-      there = All-weaker (λ (group : ℕ). IsTrue (has_key group old.entries)) (λ (group : ℕ). IsTrue (has_key group new.entries))
-          (λ group. listed_still old new named (c.bytes_of-bytes.result + c.args.n) sets group) c.args.path.now c.loop-group.invariant.there;
-      held = next_held c.args.held.now.entries old new c.args.path.now c.args.n c.loop-group.group-index named c.bytes_of-bytes.result c.loop-group-test.true c.group-item.is
+      there = All-weaker (λ (group : ℕ). IsTrue (has_key group old.entries))
+          (λ (group : ℕ). IsTrue (has_key group new.entries))
+          (λ group. listed_still old new named (c.bytes_of-bytes.result + c.args.n) sets group) c.args.path.now
+          c.loop-group.invariant.there;
+      held = next_held c.args.held.now.entries old new c.args.path.now c.args.n c.loop-group.group-index named
+          c.bytes_of-bytes.result c.loop-group-test.true c.group-item.is
           c.loop-group.invariant.held c.bytes_of-bytes.ensures sets;
     }
 
 pub returns : goal.returns
 returns c group =
     let all = take_all c.loop-group.group-index c.args.path.now c.loop-group-test.false in
-    c.loop-group.invariant.held group ∙ ap (λ (path : List ℕ). bytes_after c.args.held.now.entries path c.args.n group) all
+    c.loop-group.invariant.held group
+    ∙ ap (λ (path : List ℕ). bytes_after c.args.held.now.entries path c.args.n group) all

@@ -8,5 +8,6 @@ use Rattle.qg_limits.proofs.limits.add_to_each.Given as goal
 abbrev pub invariant-loop-group : goal.invariant-loop-group
 invariant-loop-group l = record {
   there : All (λ group. IsTrue (has_key group l.held.entries)) l.path;
-  held : (group : ℕ) → bytes_at l.held.entries group ≡ bytes_after l.initial.held.entries (take l.group-index l.path) l.n group;
+  held : (group : ℕ) → bytes_at l.held.entries group ≡ bytes_after l.initial.held.entries (take l.group-index l.path)
+      l.n group;
 }

@@ -25,10 +25,18 @@ returns-clause-written c =
     ∙ ap (λ (n : ℕ). key_bytes item.key ++ u32_bytes (end - length item.body) ++ u32_bytes n) long in
     c.put_bytes-2.ensures
     ∙ ap (λ (bytes : List ℕ). take place bytes ++ (written ++ drop (place + length written) bytes)) c.put_bytes.ensures
-    ∙ two_puts place begin room body written (ap length header ∙ length-item_header end item) (omega arith) (omega arith)
-    ∙ ap (λ (text : List ℕ). take place room ++ (text ++ (slice_range room (place + 25) begin ++ (body ++ drop (begin + length body) room)))) header
-    ∙ ap (λ (n : ℕ). take place room ++ (item_header end item ++ (slice_range room (place + 25) begin ++ (body ++ drop n room)))) ends
-    ∙ ap (λ (text : List ℕ). take place room ++ (item_header end item ++ (slice_range room (place + 25) begin ++ (text ++ drop end room)))) c.as_slice-body.ensures
+    ∙ two_puts place begin room body written (ap length header ∙ length-item_header end item) (omega arith)
+    (omega arith)
+    ∙ ap (λ (text : List ℕ). take place room
+    ++ (text ++ (slice_range room (place + 25) begin ++ (body ++ drop (begin + length body) room)))) header
+    ∙ ap (λ (n : ℕ). take place room
+    ++ (item_header end item ++ (slice_range room (place + 25) begin ++ (body ++ drop n room)))) ends
+    ∙ ap (λ (text : List ℕ). take place room
+    ++ (item_header end item ++ (slice_range room (place + 25) begin ++ (text ++ drop end room))))
+    c.as_slice-body.ensures
 
 pub returns-clause-fits : goal.returns-clause-fits
-returns-clause-fits c = record { key = c.item_header-header.ensures.fits; body = rw (← c.as_slice-body.ensures) (λ i. search rules) }
+returns-clause-fits c = record {
+  key = c.item_header-header.ensures.fits;
+  body = rw (← c.as_slice-body.ensures) (λ i. search rules);
+}

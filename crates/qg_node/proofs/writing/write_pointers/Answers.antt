@@ -7,11 +7,15 @@ loop-i-init c = HoldsPointers-none c.args.pointers.now c.args.room.now c.require
 
 pub loop-i-preserved : goal.loop-i-preserved
 loop-i-preserved c =
-    HoldsPointers-more c.args.pointers.now c.loop-i.i (length c.args.room.now) c.loop-i.room c.put_bytes.new.bytes c.pointer_text-text.result c.index-pointers-i.result (omega arith) c.index-pointers-i.is c.pointer_text-text.ensures.fits c.requires.fits
+    HoldsPointers-more c.args.pointers.now c.loop-i.i (length c.args.room.now) c.loop-i.room c.put_bytes.new.bytes
+    c.pointer_text-text.result c.index-pointers-i.result (omega arith) c.index-pointers-i.is
+    c.pointer_text-text.ensures.fits c.requires.fits
     c.loop-i.invariant c.pointer_text-text.ensures.text c.put_bytes.ensures
 
 pub returns : goal.returns
 returns c = record {
-  text = HoldsPointers-all c.args.pointers.now c.loop-i.i (length c.args.room.now) c.loop-i.room (omega arith) (omega arith) c.loop-i.invariant;
-  fit = HoldsPointers-fit c.args.pointers.now c.loop-i.i (length c.args.room.now) c.loop-i.room (omega arith) c.loop-i.invariant;
+  text = HoldsPointers-all c.args.pointers.now c.loop-i.i (length c.args.room.now) c.loop-i.room (omega arith)
+      (omega arith) c.loop-i.invariant;
+  fit = HoldsPointers-fit c.args.pointers.now c.loop-i.i (length c.args.room.now) c.loop-i.room
+      (omega arith) c.loop-i.invariant;
 }

@@ -4,7 +4,9 @@ use Rattle.qg_num.proofs.Written.{put_same}
 use Rattle.qg_num.proofs.field_laws.writes_back.Goals as goal
 
 pub returns-clause-u64 : goal.returns-clause-u64
-returns-clause-u64 c = λ place bytes are within. put_same place 8 (u64_bytes (u64_at place bytes)) bytes (u64_bytes-u64_at place bytes are within)
+returns-clause-u64 c = λ place bytes are within. put_same place 8 (u64_bytes (u64_at place bytes)) bytes
+    (u64_bytes-u64_at place bytes are within)
 
 pub returns-clause-u32 : goal.returns-clause-u32
-returns-clause-u32 c = λ place bytes are within. put_same place 4 (u32_bytes (u32_at place bytes)) bytes (u32_bytes-u32_at place bytes are within)
+returns-clause-u32 c = λ place bytes are within. put_same place 4 (u32_bytes (u32_at place bytes)) bytes
+    (u32_bytes-u32_at place bytes are within)

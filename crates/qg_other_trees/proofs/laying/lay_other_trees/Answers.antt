@@ -1,11 +1,13 @@
-use Rattle.std.proofs.Common.{◌≡◌, ℕ, ◌+◌, ◌*◌, ◌≤◌, List, ◌++◌, length, drop, sym, ap, subst, ◌∙◌, arith, length-append}
+use Rattle.std.proofs.Common.{◌≡◌, ℕ, ◌+◌, ◌*◌, ◌≤◌, List, ◌++◌, length, drop, sym, ap, subst, ◌∙◌, arith}
+use Rattle.std.proofs.Common.{length-append}
 use Rattle.qg_node.specs.declared.node.Node.{Node}
 use Rattle.qg_node.specs.Nodes.{items_bytes}
 use Rattle.qg_image.specs.Table.{keys_of}
 use Rattle.qg_image.specs.Need.{nodes_filled}
 use Rattle.qg_contents.specs.Written.{quota_roots}
 use Rattle.qg_extents.specs.Written.{items_of_book}
-use Rattle.qg_other_trees.specs.Trees.{AreEnough, IsQuotaTreeOf, most_nodes, quota_nodes_laid, quota_tree_bytes, quota_trees, root_tree_bytes}
+use Rattle.qg_other_trees.specs.Trees.{AreEnough, IsQuotaTreeOf, most_nodes, quota_nodes_laid, quota_tree_bytes}
+use Rattle.qg_other_trees.specs.Trees.{quota_trees, root_tree_bytes}
 use Rattle.qg_other_trees.proofs.Enough.{most_filled}
 use Rattle.qg_other_trees.proofs.QuotaTree.{as_many, can_write, few_there, one_most, quota_low}
 use Rattle.qg_other_trees.proofs.Slots.{AreEnough-drop, AreEnough-less}
@@ -24,7 +26,8 @@ three_few roots extents quotas x y z first second third =
 pub extent_tree-requires-clause-slots : goal.extent_tree-requires-clause-slots
 extent_tree-requires-clause-slots c =
     rw c.node_size-nodesize.ensures.value
-    (AreEnough-less c.args.slots.now _ (most c.args.sizes.nodesize (items_bytes (items_of_book c.args.told.now.book.now)))
+    (AreEnough-less c.args.slots.now _
+    (most c.args.sizes.nodesize (items_bytes (items_of_book c.args.told.now.book.now)))
     c.requires.room (omega arith))
 
 pub quota_tree_of-requires-clause-groups : goal.quota_tree_of-requires-clause-groups
@@ -65,7 +68,8 @@ root_tree-requires-clause-slots c =
     let extents : c.len.result ≤ most nodesize book = omega (arith, c.len.ensures, few, most_filled nodesize book) in
     let first = AreEnough-drop c.args.slots.now _ c.len.result (most nodesize book) (own + most nodesize roots)
     c.requires.room extents (omega (arith, one_most quota)) in
-    let few_quotas : length (quota_nodes_laid quotas) ≤ quota_trees quota * most_nodes nodesize (quota_tree_bytes quota) =
+    let few_quotas : length (quota_nodes_laid quotas) ≤ quota_trees quota * most_nodes nodesize
+    (quota_tree_bytes quota) =
     rw (← c.node_size-nodesize.ensures.value) c.in_ok-quotas.ensures.few in
     let taken : c.quota_len.result ≤ own = subst (λ (n : ℕ). n ≤ own) (sym c.quota_len.ensures)
     (few_there nodesize quota (length (quota_nodes_laid quotas)) few_quotas) in
@@ -74,9 +78,11 @@ root_tree-requires-clause-slots c =
     let there : AreEnough (most nodesize roots) c.split_at-2.result.1.now =
     rw (c.split_at-2.ensures.back, c.split_at.ensures.back) second in
     let sized : AreEnough (most c.node_size-nodesize.result roots) c.split_at-2.result.1.now =
-    subst (λ (n : ℕ). AreEnough (most n roots) c.split_at-2.result.1.now) (sym c.node_size-nodesize.ensures.value) there in
+    subst (λ (n : ℕ). AreEnough (most n roots) c.split_at-2.result.1.now) (sym c.node_size-nodesize.ensures.value)
+    there in
     let named : quota_roots c.quota_root.result ≡ quota_trees quota = ap quota_roots c.quota_root.ensures.value
-    ∙ as_many c.node_size-nodesize.result c.args.next quota c.split_at.result.1.now quotas c.in_ok-quotas.ensures.tree in
+    ∙ as_many c.node_size-nodesize.result c.args.next quota c.split_at.result.1.now quotas
+    c.in_ok-quotas.ensures.tree in
     subst
     (λ (n : ℕ). AreEnough (most c.node_size-nodesize.result (464 * (length c.args.told.now.roots.now + 1 + n)))
     c.split_at-2.result.1.now)
@@ -92,7 +98,8 @@ returns-clause-trees c =
     let quotas = c.in_ok-quotas.quotas in
     let behind : c.split_at.result.1.now ≡ drop (length extents.nodes) c.args.slots.now =
     c.split_at.ensures.back ∙ ap (λ (n : ℕ). drop n c.args.slots.now) c.len.ensures in
-    let there = subst (λ (here : List ℕ). IsQuotaTreeOf c.node_size-nodesize.result c.args.next quota here quotas) behind
+    let there = subst (λ (here : List ℕ). IsQuotaTreeOf c.node_size-nodesize.result c.args.next quota here quotas)
+    behind
     c.in_ok-quotas.ensures.tree in
     record {
       subvolumes = c.requires.subvolumes;
@@ -128,8 +135,10 @@ returns-clause-few c =
     ∙ as_many c.node_size-nodesize.result c.args.next quota c.split_at.result.1.now c.in_ok-quotas.quotas
     c.in_ok-quotas.ensures.tree in
     let sized = subst
-    (λ (n : ℕ). length roots ≤ most_nodes n (464 * (length c.args.told.now.roots.now + 1 + quota_roots c.quota_root.result)))
+    (λ (n : ℕ). length roots ≤ most_nodes n
+    (464 * (length c.args.told.now.roots.now + 1 + quota_roots c.quota_root.result)))
     c.node_size-nodesize.ensures.value c.in_ok-roots.ensures.few in
     let few_roots : length roots ≤ most_nodes nodesize (root_tree_bytes (length c.args.told.now.roots.now) quota) =
-    subst (λ (n : ℕ). length roots ≤ most_nodes nodesize (464 * (length c.args.told.now.roots.now + 1 + n))) named sized in
+    subst (λ (n : ℕ). length roots ≤ most_nodes nodesize (464 * (length c.args.told.now.roots.now + 1 + n))) named
+    sized in
     three_few roots extents quotas _ _ _ few few_roots few_quotas

@@ -5,4 +5,5 @@ use Rattle.qg_other_trees.proofs.laying.superblock_of.Goals as goal
 pub returns-clause-fits : goal.returns-clause-fits
 returns-clause-fits c =
     rw c.node_size.ensures.value
-    (is_super-laid c.args.sizes c.args.next c.new.result c.requires.served c.requires.some c.requires.early (search rules))
+    (is_super-laid c.args.sizes c.args.next c.new.result c.requires.served c.requires.some c.requires.early
+    (search rules))

@@ -27,6 +27,7 @@ returns-clause-few c =
     IfOk-weaker c.build.result _ _
     (λ built stands.
     rw (← c.in_ok-items.ensures.exact)
-    (few_nodes c.args.nodesize c.new.result c.args.next c.in_ok-items.items c.args.slots.now built.nodes built.root built.level
+    (few_nodes c.args.nodesize c.new.result c.args.next c.in_ok-items.items c.args.slots.now built.nodes built.root
+    built.level
     stands))
     c.build.ensures

@@ -7,7 +7,10 @@ use Rattle.qg_other_trees.proofs.trees.quota_root.Goals as goal
 
 pub root_of-requires : goal.root_of-requires
 root_of-requires c =
-    record { level = subst (λ (quotas : Option Built). IfSome quotas (λ built. built.level ≤ 7)) c.in-Some.is c.requires }
+    record {
+      level = subst (λ (quotas : Option Built). IfSome quotas (λ built. built.level ≤ 7)) c.in-Some.is
+          c.requires;
+    }
 
 pub returns-in-Some-clause-value : goal.returns-in-Some-clause-value
 returns-in-Some-clause-value c =

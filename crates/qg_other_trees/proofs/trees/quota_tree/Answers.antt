@@ -11,7 +11,12 @@ returns-clause-tree c =
     let told : QuotaTells c.args.next c.args.quota.now c.in_ok-items.items =
     record { written = c.in_ok-items.ensures.exact; told = c.in_ok-items.ensures.told } in
     IfOk-weaker c.build.result _ _
-    (λ built stands. record { items = c.in_ok-items.items; stands = stands; allowed = c.in_ok-items.ensures.allowed; told = told })
+    (λ built stands. record {
+      items = c.in_ok-items.items;
+      stands = stands;
+      allowed = c.in_ok-items.ensures.allowed;
+      told = told;
+    })
     (rw c.new.ensures at c.build.ensures)
 
 pub returns-clause-few : goal.returns-clause-few
@@ -19,6 +24,7 @@ returns-clause-few c =
     IfOk-weaker c.build.result _ _
     (λ built stands.
     rw (← c.in_ok-items.ensures.weight)
-    (few_nodes c.args.nodesize c.new.result c.args.next c.in_ok-items.items c.args.slots.now built.nodes built.root built.level
+    (few_nodes c.args.nodesize c.new.result c.args.next c.in_ok-items.items c.args.slots.now built.nodes built.root
+    built.level
     stands))
     c.build.ensures

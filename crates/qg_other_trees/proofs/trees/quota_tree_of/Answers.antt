@@ -20,7 +20,8 @@ quota_tree-requires-clause-slots c =
 
 pub returns-in_ok-built-in-Some-clause-tree : goal.returns-in_ok-built-in-Some-clause-tree
 returns-in_ok-built-in-Some-clause-tree c =
-    subst (λ (quota : Option Quota). IsQuotaTreeOf c.args.nodesize c.args.next quota c.args.slots.now (Some c.in_ok-built-in-Some.built))
+    subst (λ (quota : Option Quota). IsQuotaTreeOf c.args.nodesize c.args.next quota c.args.slots.now
+    (Some c.in_ok-built-in-Some.built))
     (sym c.in-Some.is) c.in_ok-built-in-Some.ensures.tree
 
 pub returns-in_ok-built-in-Some-clause-few : goal.returns-in_ok-built-in-Some-clause-few

@@ -26,7 +26,8 @@ returns-clause-tree c =
     let own = c.args.own.now in
     let told : RootsTell own.extents c.args.subvolumes.now own.quotas c.in_ok-items.items =
     record { written = c.in_ok-items.ensures.exact; told = c.in_ok-items.ensures.told } in
-    let quotas = of_some (λ (root : RootItem). IsWritableRoot root × IsRootBy c.args.next root) (IsRootBy c.args.next) own.quotas
+    let quotas = of_some (λ (root : RootItem). IsWritableRoot root × IsRootBy c.args.next root)
+    (IsRootBy c.args.next) own.quotas
     (λ root both. both.1) c.requires.quotas in
     let allowed = c.in_ok-items.ensures.allowed c.args.next c.requires.extents.1 c.requires.subvolumes.by quotas in
     IfOk-weaker c.build.result _ _
@@ -38,6 +39,7 @@ returns-clause-few c =
     IfOk-weaker c.build.result _ _
     (λ built stands.
     rw (← c.in_ok-items.ensures.weight)
-    (few_nodes c.args.nodesize c.new.result c.args.next c.in_ok-items.items c.args.slots.now built.nodes built.root built.level
+    (few_nodes c.args.nodesize c.new.result c.args.next c.in_ok-items.items c.args.slots.now built.nodes built.root
+    built.level
     stands))
     c.build.ensures

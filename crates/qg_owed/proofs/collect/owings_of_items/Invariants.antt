@@ -6,4 +6,5 @@ use Rattle.qg_owed.specs.Told.{owings_told}
 use Rattle.qg_owed.proofs.collect.owings_of_items.Given as goal
 
 abbrev pub invariant-loop-item : goal.invariant-loop-item
-invariant-loop-item l = owings_told l.owings.items ≡ owings_told l.initial.owings.items ++ flat_map (λ item. owed_by_part l.header l.full (file_part item)) (take l.item-index l.items)
+invariant-loop-item l = owings_told l.owings.items ≡ owings_told l.initial.owings.items
+    ++ flat_map (λ item. owed_by_part l.header l.full (file_part item)) (take l.item-index l.items)

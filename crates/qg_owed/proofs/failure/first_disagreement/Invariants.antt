@@ -14,7 +14,8 @@ invariant-loop-address l = record {
   short_owings : length l.owings_left ≤ length l.fn.owings;
   short_things : length l.things_left ≤ length l.fn.things;
   short_parts : length l.parts_left ≤ length l.fn.parts;
-  same : first_disagreement l.owings_left l.things_left l.parts_left ≡ first_disagreement l.fn.owings l.fn.things l.fn.parts;
+  same : first_disagreement l.owings_left l.things_left l.parts_left ≡ first_disagreement l.fn.owings l.fn.things
+      l.fn.parts;
 }
 
 abbrev pub decreases-loop-address : goal.decreases-loop-address

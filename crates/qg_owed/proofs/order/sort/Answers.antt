@@ -6,4 +6,5 @@ use Rattle.qg_owed.proofs.InOrder.{order_of}
 use Rattle.qg_owed.proofs.order.sort.Goals as goal
 
 pub returns-clause-sorted : goal.returns-clause-sorted
-returns-clause-sorted c = c.sort_unstable_by.ensures.sorted precedes (order_of (λ (r : Reference). r)) (answers_always _ _ _ (λ f a r f' q. search rules))
+returns-clause-sorted c = c.sort_unstable_by.ensures.sorted precedes (order_of (λ (r : Reference). r))
+    (answers_always _ _ _ (λ f a r f' q. search rules))

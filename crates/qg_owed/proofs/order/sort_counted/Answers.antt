@@ -7,4 +7,5 @@ use Rattle.qg_owed.proofs.order.sort_counted.Goals as goal
 
 pub returns-clause-sorted : goal.returns-clause-sorted
 returns-clause-sorted c =
-    c.sort_unstable_by.ensures.sorted (λ a b. precedes a.reference b.reference) (order_of (λ (e : Counted). e.reference)) (answers_always _ _ _ (λ f a r f' q. search rules))
+    c.sort_unstable_by.ensures.sorted (λ a b. precedes a.reference b.reference)
+    (order_of (λ (e : Counted). e.reference)) (answers_always _ _ _ (λ f a r f' q. search rules))

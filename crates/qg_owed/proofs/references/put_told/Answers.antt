@@ -11,10 +11,13 @@ pub loop-part-preserved : goal.loop-part-preserved
 loop-part-preserved c = elim c.match-entry_of.branch [
   | in-Some+in_ok-push w ↦
       ap (λ (v : Vec Counted Global). counts_told v.items) w.told-is ∙ ap counts_told w.in_ok-push.ensures.items
-      ∙ counts_more c.loop-part.told.items c.args.parts.now c.loop-part.part-index c.part-item.result (Some w.in-Some.entry) c.loop-part-test.true c.part-item.is c.loop-part.invariant
+      ∙ counts_more c.loop-part.told.items c.args.parts.now c.loop-part.part-index c.part-item.result
+      (Some w.in-Some.entry) c.loop-part-test.true c.part-item.is c.loop-part.invariant
       (ap (option_map count_told) (sym w.in-Some.is) ∙ c.entry_of.ensures)
   | in_default w ↦
-      ap (λ (v : Vec Counted Global). counts_told v.items) w.told-is ∙ ap counts_told (sym (append-nil c.loop-part.told.items))
-      ∙ counts_more c.loop-part.told.items c.args.parts.now c.loop-part.part-index c.part-item.result None c.loop-part-test.true c.part-item.is c.loop-part.invariant
+      ap (λ (v : Vec Counted Global). counts_told v.items) w.told-is
+      ∙ ap counts_told (sym (append-nil c.loop-part.told.items))
+      ∙ counts_more c.loop-part.told.items c.args.parts.now c.loop-part.part-index c.part-item.result None
+      c.loop-part-test.true c.part-item.is c.loop-part.invariant
       (ap (option_map count_told) (sym w.in_default.is) ∙ c.entry_of.ensures)
 ]

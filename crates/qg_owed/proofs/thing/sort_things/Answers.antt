@@ -10,4 +10,6 @@ returns-clause-same c a =
     (c.sort_by_key.ensures.stable (λ (t : Thing). t.address) (answers_always _ _ _ (λ f x r f' q. search rules))) a
 
 pub returns-clause-ascending : goal.returns-clause-ascending
-returns-clause-ascending c = IsNonDecreasingBy-from_sort_by_key (λ (t : Thing). t.address) _ c.in_ok-sort_by_key.ensures.sorted (λ x r f' q. search rules)
+returns-clause-ascending c =
+    IsNonDecreasingBy-from_sort_by_key (λ (t : Thing). t.address) _ c.in_ok-sort_by_key.ensures.sorted
+    (λ x r f' q. search rules)

@@ -23,8 +23,10 @@ lines-preserved g c =
       few = rw c.count.ensures (omega (arith, c.lines.invariant.few, left, one));
       ran = λ state events stands told.
           let so_far = c.lines.invariant.ran state events stands told in
-          rw c.count.ensures (run-more state _ _ c.in-Some.command _ c.lines.tally c.in_ok-done.done c.in-Some.ensures.given so_far
-          (c.in_ok-done.ensures.answered so_far.run.after so_far.run.made.after so_far.run.stands so_far.run.made.told));
+          rw c.count.ensures (run-more state _ _ c.in-Some.command _ c.lines.tally c.in_ok-done.done
+          c.in-Some.ensures.given so_far
+          (c.in_ok-done.ensures.answered so_far.run.after so_far.run.made.after so_far.run.stands
+          so_far.run.made.told));
       later = omega (arith, c.lines.invariant.later, c.in_ok-done.ensures.cause.later);
     }
 
@@ -38,8 +40,10 @@ lines-preserved-in_ok-done g c =
       few = rw c.count.ensures (omega (arith, c.lines.invariant.few, left, one));
       ran = λ state events stands told.
           let so_far = c.lines.invariant.ran state events stands told in
-          rw c.count.ensures (run-more state _ _ c.in-Some.command _ c.lines.tally c.in_ok-done.done c.in-Some.ensures.given so_far
-          (c.in_ok-done.ensures.answered so_far.run.after so_far.run.made.after so_far.run.stands so_far.run.made.told));
+          rw c.count.ensures (run-more state _ _ c.in-Some.command _ c.lines.tally c.in_ok-done.done
+          c.in-Some.ensures.given so_far
+          (c.in_ok-done.ensures.answered so_far.run.after so_far.run.made.after so_far.run.stands
+          so_far.run.made.told));
       later = omega (arith, c.lines.invariant.later, c.in_ok-done.ensures.cause.later);
     }
 
@@ -66,7 +70,8 @@ pub returns-in_err-done-clause-sound : goal.returns-in_err-done-clause-sound
 returns-in_err-done-clause-sound g c = λ state events stands told.
     let found = err_from_is_err_and c.from_residual.result c.from_residual.ensures.1 in
     let so_far = c.lines.invariant.ran state events stands told in
-    rw found.1 (rw found.2 (c.in_err-done.ensures.sound so_far.run.after so_far.run.made.after so_far.run.stands so_far.run.made.told))
+    rw found.1 (rw found.2 (c.in_err-done.ensures.sound so_far.run.after so_far.run.made.after so_far.run.stands
+    so_far.run.made.told))
 
 pub returns-in_default-clause-cause : goal.returns-in_default-clause-cause
 returns-in_default-clause-cause g c = record { later = c.lines.invariant.later; rose = λ is. cc }
@@ -74,5 +79,6 @@ returns-in_default-clause-cause g c = record { later = c.lines.invariant.later; 
 pub returns-in_err-done-clause-cause : goal.returns-in_err-done-clause-cause
 returns-in_err-done-clause-cause g c =
     let found = err_from_is_err_and c.from_residual.result c.from_residual.ensures.1 in
-    rw found.1 (rw found.2 (cause-handed Bool Tally (g.D.Disk.faults c.args.disk.now) (g.D.Disk.faults c.lines.disk) (g.D.Disk.faults c.is_done.new.disk) _
+    rw found.1 (rw found.2 (cause-handed Bool Tally (g.D.Disk.faults c.args.disk.now) (g.D.Disk.faults c.lines.disk)
+    (g.D.Disk.faults c.is_done.new.disk) _
     c.lines.invariant.later c.in_err-done.ensures.cause))

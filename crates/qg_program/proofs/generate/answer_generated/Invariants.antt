@@ -10,7 +10,8 @@ invariant-lines g l = record {
   ready : IsReady l.session.store (g.D.Disk.history l.disk) (g.D.Disk.size l.disk);
   blank : l.text ≡ [];
   few : l.tally.done + l.tally.refused + length l.generator ≤ length l.initial.generator;
-  ran : (state : State) (events : List Event) → IsStoreOf l.fn.session.store state (g.D.Disk.history l.fn.disk) → g.D.Disk.history l.fn.disk ≡ Some events
+  ran : (state : State) (events : List Event) → IsStoreOf l.fn.session.store state (g.D.Disk.history l.fn.disk)
+      → g.D.Disk.history l.fn.disk ≡ Some events
       → HasRun state l.initial.generator l.generator l.tally l.session.store events (g.D.Disk.history l.disk);
   later : g.D.Disk.faults l.fn.disk ≤ g.D.Disk.faults l.disk;
 }

@@ -16,8 +16,10 @@ returns-in-Ok-clause-generates g c = λ events state few told stands.
 
 pub returns-in-Err-clause-generates : goal.returns-in-Err-clause-generates
 returns-in-Err-clause-generates g c = λ events state few told stands.
-    let silent = c.refuse.ensures.silent (subst (TellsFailure c.in-Err.fault) stands.sound (c.in-Err.ensures.refused events told)) in
-    generates-unopened c.refuse.result state c.args.seed c.args.count silent.0 (c.open.ensures.touches events told) silent.1
+    let silent = c.refuse.ensures.silent
+    (subst (TellsFailure c.in-Err.fault) stands.sound (c.in-Err.ensures.refused events told)) in
+    generates-unopened c.refuse.result state c.args.seed c.args.count silent.0 (c.open.ensures.touches events told)
+    silent.1
 
 pub returns-in-Ok-clause-crashes : goal.returns-in-Ok-clause-crashes
 returns-in-Ok-clause-crashes g c = λ events after state few told now stands.
@@ -25,18 +27,21 @@ returns-in-Ok-clause-crashes g c = λ events after state few told now stands.
     let outlives = c.open.ensures.crashes events told in
     let rests = rw c.in-Ok.is at outlives.rests state stands in
     c.run_generated.ensures.crashes state events _ after (c.in-Ok.ensures.opened events state told stands)
-    (record { super = opens.super; chosen = opens.chosen; repaired = refl }) opens.repaired now stands (rests-told _ _ state opens.repaired rests)
+    (record { super = opens.super; chosen = opens.chosen; repaired = refl }) opens.repaired now stands
+    (rests-told _ _ state opens.repaired rests)
 
 pub returns-in-Err-clause-crashes : goal.returns-in-Err-clause-crashes
 returns-in-Err-clause-crashes g c = λ events after state few told now stands.
-    let silent = c.refuse.ensures.silent (subst (TellsFailure c.in-Err.fault) stands.sound (c.in-Err.ensures.refused events told)) in
+    let silent = c.refuse.ensures.silent
+    (subst (TellsFailure c.in-Err.fault) stands.sound (c.in-Err.ensures.refused events told)) in
     let outlives = c.open.ensures.crashes events told in
     lines-unopened state c.args.seed c.args.count events after _ _ (outlives.crashes after state now stands)
     (λ image left. outlives.early after image now left) silent.1 c.refuse.result silent.0
 
 pub returns-in-Err-clause-unsound : goal.returns-in-Err-clause-unsound
 returns-in-Err-clause-unsound g c = λ events told image sound.
-    let silent = c.refuse.ensures.silent (subst (TellsFailure c.in-Err.fault) sound (c.in-Err.ensures.refused events told)) in
+    let silent = c.refuse.ensures.silent
+    (subst (TellsFailure c.in-Err.fault) sound (c.in-Err.ensures.refused events told)) in
     elim silent.0 [
       | inl is ↦ absurd cc
       | inr is ↦ absurd cc
@@ -44,7 +49,8 @@ returns-in-Err-clause-unsound g c = λ events told image sound.
 
 pub returns-in-Err-clause-refuses : goal.returns-in-Err-clause-refuses
 returns-in-Err-clause-refuses g c = λ events failure few told unsound. record {
-  put = c.refuse.ensures.refuses failure (subst (TellsFailure c.in-Err.fault) unsound (c.in-Err.ensures.refused events told));
+  put = c.refuse.ensures.refuses failure
+      (subst (TellsFailure c.in-Err.fault) unsound (c.in-Err.ensures.refused events told));
   looked_at = looked-unsound events failure _ unsound (c.open.ensures.touches events told);
   unwritten = λ judged.
       let judges = c.refuse.ensures.judged judged in
@@ -52,16 +58,23 @@ returns-in-Err-clause-refuses g c = λ events failure few told unsound. record {
 }
 
 pub returns-in-Ok-clause-refuses : goal.returns-in-Ok-clause-refuses
-returns-in-Ok-clause-refuses g c = λ events failure few told unsound. absurd (none-some failure (sym (c.in-Ok.ensures.sound events told) ∙ unsound))
+returns-in-Ok-clause-refuses g c =
+    λ events failure few told unsound. absurd (none-some failure (sym (c.in-Ok.ensures.sound events told) ∙ unsound))
 
 pub returns-in-Ok-clause-unsound : goal.returns-in-Ok-clause-unsound
 returns-in-Ok-clause-unsound g c = λ events told image sound.
     let found = state-sound (content events) sound in
     let opens = c.in-Ok.ensures.repaired events told in
-    c.run_generated.ensures.sound (record { state = found.0; events = _; told = opens.repaired; stands = c.in-Ok.ensures.opened events found.0 told found.1 }) image
+    c.run_generated.ensures.sound (record {
+      state = found.0;
+      events = _;
+      told = opens.repaired;
+      stands = c.in-Ok.ensures.opened events found.0 told found.1;
+    }) image
 
 pub returns-in-Ok-clause-disk_fault : goal.returns-in-Ok-clause-disk_fault
-returns-in-Ok-clause-disk_fault g c = λ is. let rose = c.run_generated.ensures.disk_fault is in omega (arith, rose, c.open.ensures.cause.later)
+returns-in-Ok-clause-disk_fault g c = λ is. let rose = c.run_generated.ensures.disk_fault is in
+    omega (arith, rose, c.open.ensures.cause.later)
 
 pub returns-in-Err-clause-disk_fault : goal.returns-in-Err-clause-disk_fault
 returns-in-Err-clause-disk_fault g c = λ is. c.open.ensures.cause.rose (c.in-Err.is ∙ ap Err (c.refuse.ensures.disk is))
@@ -72,10 +85,15 @@ pub run_generated-requires-clause-few : goal.run_generated-requires-clause-few
 run_generated-requires-clause-few g c = omega arith
 
 pub returns-in-Ok-clause-sizes : goal.returns-in-Ok-clause-sizes
-returns-in-Ok-clause-sizes g c = (λ is. absurd (c.run_generated.ensures.ends.1 is), λ many. absurd (omega (arith, many)))
+returns-in-Ok-clause-sizes g c =
+    (λ is. absurd (c.run_generated.ensures.ends.1 is), λ many. absurd (omega (arith, many)))
 
 pub returns-in-Err-clause-sizes : goal.returns-in-Err-clause-sizes
-returns-in-Err-clause-sizes g c = (λ is. let ends = rw is at c.refuse.ensures.ends in absurd cc, λ many. absurd (omega (arith, many)))
+returns-in-Err-clause-sizes g c = (
+  λ is. let ends = rw is at c.refuse.ensures.ends in
+      absurd cc,
+  λ many. absurd (omega (arith, many)),
+)
 
 pub returns-in-Ok-clause-untouched : goal.returns-in-Ok-clause-untouched
 returns-in-Ok-clause-untouched g c = λ is. absurd (c.run_generated.ensures.ends.1 is)

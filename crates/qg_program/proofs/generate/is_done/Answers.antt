@@ -8,7 +8,8 @@ use Rattle.qg_program.proofs.generate.is_done.Goals as goal
 pub returns-clause-answered : goal.returns-clause-answered
 returns-clause-answered g c = λ state events stands known. record {
   answer = c.in_ok-answer.answer;
-  answered = reply-command state events (command_text c.args.command.now) (reply_text c.in_ok-answer.answer) c.apply.new.self.store (g.D.Disk.history c.apply.new.disk)
+  answered = reply-command state events (command_text c.args.command.now) (reply_text c.in_ok-answer.answer)
+      c.apply.new.self.store (g.D.Disk.history c.apply.new.disk)
       c.args.command.now c.in_ok-answer.answer c.requires.line
       (c.in_ok-answer.ensures.step state events stands known) c.in_ok-answer.ensures.ready.running refl;
   judged = c.tells_done.ensures;

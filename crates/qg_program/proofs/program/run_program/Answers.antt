@@ -8,7 +8,8 @@ use Rattle.qg_words.specs.declared.form.Form.{Form}
 use Rattle.qg_words.specs.declared.form.Form.TheVariants.{Mkfs, Run, Check, Generate}
 use Rattle.qg_words.proofs.OneForm.{one_count, one_image, one_seed}
 use Rattle.qg_program.proofs.Asked.{checks-begin, ends-by, generates-begin, other-form}
-use Rattle.qg_program.proofs.Completed.{checks-done, checks-found, failure-found, follows-ends, for-cause, generates-ends, makes-done, refuses-ends}
+use Rattle.qg_program.proofs.Completed.{checks-done, checks-found, failure-found, follows-ends, for-cause}
+use Rattle.qg_program.proofs.Completed.{generates-ends, makes-done, refuses-ends}
 use Rattle.qg_program.proofs.Judged.{state-sound}
 use Rattle.qg_program.proofs.program.run_program.Given.{Over}
 use Rattle.qg_program.proofs.program.run_program.Goals as goal
@@ -17,14 +18,18 @@ use Rattle.qg_program.proofs.program.run_program.Goals as goal
 
 -- the words ask for what was read
 asked : (g : Over) (c : goal.After-make g) → AskForImage (texts c.args.words.now.items) c.in-Some-Mkfs.sizes
-asked g c = subst (λ items. AskForImage (texts items) c.in-Some-Mkfs.sizes) c.deref.ensures.value (rw c.in-Some-Mkfs.field-0-is at c.in-Some-Mkfs.ensures.found)
+asked g c = subst (λ items. AskForImage (texts items) c.in-Some-Mkfs.sizes) c.deref.ensures.value
+    (rw c.in-Some-Mkfs.field-0-is at c.in-Some-Mkfs.ensures.found)
 
 -- and for nothing else
-same : (g : Over) (c : goal.After-make g) (sizes : Sizes) → AskForImage (texts c.args.words.now.items) sizes → sizes ≡ c.in-Some-Mkfs.sizes
+same : (g : Over) (c : goal.After-make g) (sizes : Sizes) → AskForImage (texts c.args.words.now.items) sizes
+    → sizes ≡ c.in-Some-Mkfs.sizes
 same g c sizes ask = one_image (texts c.args.words.now.items) sizes c.in-Some-Mkfs.sizes ask (asked g c)
 
-no-lines : (g : Over) (c : goal.After-make g) (seed count : ℕ) → AskForLines (texts c.args.words.now.items) seed count → ⊥
-no-lines g c seed count ask = other-form _ (Mkfs c.in-Some-Mkfs.sizes) (Generate seed count) (asked g c) ask (omega arith)
+no-lines : (g : Over) (c : goal.After-make g) (seed count : ℕ) → AskForLines (texts c.args.words.now.items) seed count
+    → ⊥
+no-lines g c seed count ask = other-form _ (Mkfs c.in-Some-Mkfs.sizes) (Generate seed count) (asked g c) ask
+    (omega arith)
 
 no-run : (g : Over) (c : goal.After-make g) → texts c.args.words.now.items ≡ run_words → ⊥
 no-run g c ask = other-form _ (Mkfs c.in-Some-Mkfs.sizes) Run (asked g c) ask (omega arith)
@@ -34,7 +39,8 @@ returns-in-Some-Mkfs-clause-ends g c =
     ends-by _ (Mkfs c.in-Some-Mkfs.sizes) c.make.result (asked g c) c.make.ensures.ends (
       λ is. inl (record { sizes = c.in-Some-Mkfs.sizes; ask = asked g c; unserved = c.make.ensures.sizes.0 is }),
       λ asks. elim asks [
-        | inl unserved ↦ c.make.ensures.sizes.1 (sym (ap is_served (same g c unserved.sizes unserved.ask)) ∙ unserved.unserved)
+        | inl unserved ↦ c.make.ensures.sizes.1 (sym (ap is_served (same g c unserved.sizes unserved.ask))
+            ∙ unserved.unserved)
         | inr many ↦ absurd (no-lines g c many.seed many.count many.ask)
       ],
     )
@@ -45,7 +51,8 @@ returns-in-Some-Mkfs-clause-makes g c = λ sizes asks.
     (rw is (record { calls = c.make.ensures.calls; fresh = c.make.ensures.fresh; said = c.make.ensures.put }), refl)
 
 pub returns-in-Some-Mkfs-clause-checks : goal.returns-in-Some-Mkfs-clause-checks
-returns-in-Some-Mkfs-clause-checks g c = λ ask. absurd (other-form _ (Mkfs c.in-Some-Mkfs.sizes) Check (asked g c) ask (omega arith))
+returns-in-Some-Mkfs-clause-checks g c =
+    λ ask. absurd (other-form _ (Mkfs c.in-Some-Mkfs.sizes) Check (asked g c) ask (omega arith))
 
 pub returns-in-Some-Mkfs-clause-follows : goal.returns-in-Some-Mkfs-clause-follows
 returns-in-Some-Mkfs-clause-follows g c = λ events state told stands. record {
@@ -99,9 +106,11 @@ returns-in-Some-Mkfs-clause-causes g c =
 -- ---- a run was asked for
 
 asked-run : (g : Over) (c : goal.After-run g) → texts c.args.words.now.items ≡ run_words
-asked-run g c = subst (λ items. texts items ≡ run_words) c.deref.ensures.value (rw c.in-Some-Run.field-0-is at c.in-Some-Run.ensures.found)
+asked-run g c = subst (λ items. texts items ≡ run_words) c.deref.ensures.value
+    (rw c.in-Some-Run.field-0-is at c.in-Some-Run.ensures.found)
 
-run-no-lines : (g : Over) (c : goal.After-run g) (seed count : ℕ) → AskForLines (texts c.args.words.now.items) seed count → ⊥
+run-no-lines : (g : Over) (c : goal.After-run g) (seed count : ℕ)
+    → AskForLines (texts c.args.words.now.items) seed count → ⊥
 run-no-lines g c seed count ask = other-form _ Run (Generate seed count) (asked-run g c) ask (omega arith)
 
 run-no-image : (g : Over) (c : goal.After-run g) (sizes : Sizes) → AskForImage (texts c.args.words.now.items) sizes → ⊥
@@ -155,7 +164,8 @@ returns-in-Some-Run-clause-causes g c =
       runs = λ ask sound script.
           let stands = state-sound (content events) sound in
           let taken = rw script.told at c.run.ensures.takes in
-          follows-ends nothing c.run.result stands.0 script.input events _ _ _ _ causes (c.run.ensures.follows events script.input stands.0 told script.told stands.1) taken script.within;
+          follows-ends nothing c.run.result stands.0 script.input events _ _ _ _ causes
+          (c.run.ensures.follows events script.input stands.0 told script.told stands.1) taken script.within;
       generates = λ seed count asks sound. absurd (run-no-lines g c seed count asks.ask);
       checks = λ ask sound. absurd (run-no-check g c ask);
       refuses = λ asks unsound.
@@ -168,12 +178,15 @@ returns-in-Some-Run-clause-causes g c =
 -- ---- it was asked what the image is
 
 asked-check : (g : Over) (c : goal.After-check g) → texts c.args.words.now.items ≡ check_words
-asked-check g c = subst (λ items. texts items ≡ check_words) c.deref.ensures.value (rw c.in-Some-Check.field-0-is at c.in-Some-Check.ensures.found)
+asked-check g c = subst (λ items. texts items ≡ check_words) c.deref.ensures.value
+    (rw c.in-Some-Check.field-0-is at c.in-Some-Check.ensures.found)
 
-check-no-lines : (g : Over) (c : goal.After-check g) (seed count : ℕ) → AskForLines (texts c.args.words.now.items) seed count → ⊥
+check-no-lines : (g : Over) (c : goal.After-check g) (seed count : ℕ)
+    → AskForLines (texts c.args.words.now.items) seed count → ⊥
 check-no-lines g c seed count ask = other-form _ Check (Generate seed count) (asked-check g c) ask (omega arith)
 
-check-no-image : (g : Over) (c : goal.After-check g) (sizes : Sizes) → AskForImage (texts c.args.words.now.items) sizes → ⊥
+check-no-image : (g : Over) (c : goal.After-check g) (sizes : Sizes) → AskForImage (texts c.args.words.now.items) sizes
+    → ⊥
 check-no-image g c sizes ask = other-form _ Check (Mkfs sizes) (asked-check g c) ask (omega arith)
 
 check-no-run : (g : Over) (c : goal.After-check g) → texts c.args.words.now.items ≡ run_words → ⊥
@@ -186,7 +199,8 @@ returns-in-Some-Check-clause-words g c = (
 )
 
 pub returns-in-Some-Check-clause-untouched : goal.returns-in-Some-Check-clause-untouched
-returns-in-Some-Check-clause-untouched g c = λ refused. absurd (checks-begin c.check.result c.check.ensures.ends refused)
+returns-in-Some-Check-clause-untouched g c =
+    λ refused. absurd (checks-begin c.check.result c.check.ensures.ends refused)
 
 pub returns-in-Some-Check-clause-ends : goal.returns-in-Some-Check-clause-ends
 returns-in-Some-Check-clause-ends g c =
@@ -202,7 +216,8 @@ pub returns-in-Some-Check-clause-makes : goal.returns-in-Some-Check-clause-makes
 returns-in-Some-Check-clause-makes g c = λ sizes asks. absurd (check-no-image g c sizes asks.ask)
 
 pub returns-in-Some-Check-clause-checks : goal.returns-in-Some-Check-clause-checks
-returns-in-Some-Check-clause-checks g c = λ ask. (c.check.ensures.checks, c.check.ensures.unwritten.0, c.check.ensures.unwritten.1, refl)
+returns-in-Some-Check-clause-checks g c =
+    λ ask. (c.check.ensures.checks, c.check.ensures.unwritten.0, c.check.ensures.unwritten.1, refl)
 
 pub returns-in-Some-Check-clause-follows : goal.returns-in-Some-Check-clause-follows
 returns-in-Some-Check-clause-follows g c = λ events state told stands. record {
@@ -244,33 +259,46 @@ returns-in-Some-Check-clause-causes g c =
         | inl run ↦ absurd (check-no-run g c run)
         | inr lines ↦ absurd (check-no-lines g c lines.0 lines.1 lines.2.ask)
       ];
-      finds = λ ask unsound. checks-found nothing c.check.result events _ _ _ causes told c.check.ensures.checks unsound;
+      finds = λ ask unsound. checks-found nothing c.check.result events _ _ _ causes told c.check.ensures.checks
+          unsound;
       makes = λ sizes asks. absurd (check-no-image g c sizes asks.ask);
     })
 
 -- ---- the generator's lines were asked for
 
-asked-lines : (g : Over) (c : goal.After-generate g) → AskForLines (texts c.args.words.now.items) c.in-Some-Generate.seed c.in-Some-Generate.count
+asked-lines : (g : Over) (c : goal.After-generate g)
+    → AskForLines (texts c.args.words.now.items) c.in-Some-Generate.seed c.in-Some-Generate.count
 asked-lines g c =
     subst (λ items. AskForLines (texts items) c.in-Some-Generate.seed c.in-Some-Generate.count) c.deref.ensures.value
     (rw c.in-Some-Generate.field-0-is at c.in-Some-Generate.ensures.found)
 
-same-seed : (g : Over) (c : goal.After-generate g) (seed count : ℕ) → AskForLines (texts c.args.words.now.items) seed count → c.in-Some-Generate.seed ≡ seed
-same-seed g c seed count ask = one_seed (texts c.args.words.now.items) c.in-Some-Generate.seed c.in-Some-Generate.count seed count (asked-lines g c) ask
+same-seed : (g : Over) (c : goal.After-generate g) (seed count : ℕ)
+    → AskForLines (texts c.args.words.now.items) seed count → c.in-Some-Generate.seed ≡ seed
+same-seed g c seed count ask = one_seed (texts c.args.words.now.items) c.in-Some-Generate.seed c.in-Some-Generate.count
+    seed count (asked-lines g c) ask
 
-same-count : (g : Over) (c : goal.After-generate g) (seed count : ℕ) → AskForLines (texts c.args.words.now.items) seed count → c.in-Some-Generate.count ≡ count
-same-count g c seed count ask = one_count (texts c.args.words.now.items) c.in-Some-Generate.seed c.in-Some-Generate.count seed count (asked-lines g c) ask
+same-count : (g : Over) (c : goal.After-generate g) (seed count : ℕ)
+    → AskForLines (texts c.args.words.now.items) seed count → c.in-Some-Generate.count ≡ count
+same-count g c seed count ask =
+    one_count (texts c.args.words.now.items) c.in-Some-Generate.seed c.in-Some-Generate.count seed count
+    (asked-lines g c) ask
 
-lines-no-image : (g : Over) (c : goal.After-generate g) (sizes : Sizes) → AskForImage (texts c.args.words.now.items) sizes → ⊥
-lines-no-image g c sizes ask = other-form _ (Generate c.in-Some-Generate.seed c.in-Some-Generate.count) (Mkfs sizes) (asked-lines g c) ask (omega arith)
+lines-no-image : (g : Over) (c : goal.After-generate g) (sizes : Sizes)
+    → AskForImage (texts c.args.words.now.items) sizes → ⊥
+lines-no-image g c sizes ask = other-form _ (Generate c.in-Some-Generate.seed c.in-Some-Generate.count) (Mkfs sizes)
+    (asked-lines g c) ask (omega arith)
 
 lines-no-run : (g : Over) (c : goal.After-generate g) → texts c.args.words.now.items ≡ run_words → ⊥
-lines-no-run g c ask = other-form _ (Generate c.in-Some-Generate.seed c.in-Some-Generate.count) Run (asked-lines g c) ask (omega arith)
+lines-no-run g c ask = other-form _ (Generate c.in-Some-Generate.seed c.in-Some-Generate.count) Run
+    (asked-lines g c) ask (omega arith)
 
 pub returns-in-Some-Generate-clause-words : goal.returns-in-Some-Generate-clause-words
 returns-in-Some-Generate-clause-words g c = (
   λ is. let ends = rw is at c.generate.ensures.ends in absurd cc,
-  λ none. absurd (none (record { form = Generate c.in-Some-Generate.seed c.in-Some-Generate.count; ask = asked-lines g c })),
+  λ none. absurd (none (record {
+    form = Generate c.in-Some-Generate.seed c.in-Some-Generate.count;
+    ask = asked-lines g c;
+  })),
 )
 
 pub returns-in-Some-Generate-clause-untouched : goal.returns-in-Some-Generate-clause-untouched
@@ -280,11 +308,18 @@ returns-in-Some-Generate-clause-untouched g c = λ refused.
 
 pub returns-in-Some-Generate-clause-ends : goal.returns-in-Some-Generate-clause-ends
 returns-in-Some-Generate-clause-ends g c =
-    ends-by _ (Generate c.in-Some-Generate.seed c.in-Some-Generate.count) c.generate.result (asked-lines g c) c.generate.ensures.ends (
-      λ is. inr (record { seed = c.in-Some-Generate.seed; count = c.in-Some-Generate.count; ask = asked-lines g c; many = c.generate.ensures.sizes.0 is }),
+    ends-by _ (Generate c.in-Some-Generate.seed c.in-Some-Generate.count) c.generate.result
+    (asked-lines g c) c.generate.ensures.ends (
+      λ is. inr (record {
+        seed = c.in-Some-Generate.seed;
+        count = c.in-Some-Generate.count;
+        ask = asked-lines g c;
+        many = c.generate.ensures.sizes.0 is;
+      }),
       λ asks. elim asks [
         | inl unserved ↦ absurd (lines-no-image g c unserved.sizes unserved.ask)
-        | inr many ↦ let same = same-count g c many.seed many.count many.ask in c.generate.ensures.sizes.1 (omega (arith, same, many.many))
+        | inr many ↦ let same = same-count g c many.seed many.count many.ask in
+            c.generate.ensures.sizes.1 (omega (arith, same, many.many))
       ],
     )
 
@@ -293,7 +328,8 @@ returns-in-Some-Generate-clause-makes g c = λ sizes asks. absurd (lines-no-imag
 
 pub returns-in-Some-Generate-clause-checks : goal.returns-in-Some-Generate-clause-checks
 returns-in-Some-Generate-clause-checks g c = λ ask.
-    absurd (other-form _ (Generate c.in-Some-Generate.seed c.in-Some-Generate.count) Check (asked-lines g c) ask (omega arith))
+    absurd (other-form _ (Generate c.in-Some-Generate.seed c.in-Some-Generate.count) Check (asked-lines g c) ask
+    (omega arith))
 
 pub returns-in-Some-Generate-clause-follows : goal.returns-in-Some-Generate-clause-follows
 returns-in-Some-Generate-clause-follows g c = λ events state told stands. record {
@@ -324,14 +360,16 @@ returns-in-Some-Generate-clause-crashes g c = λ events after state told now sta
   lines = λ seed count asks.
       let seeds = same-seed g c seed count asks.ask in
       let counts = same-count g c seed count asks.ask in
-      rw (← seeds, ← counts) (c.generate.ensures.crashes events after state (omega (arith, counts, asks.few)) told now stands);
+      rw (← seeds, ← counts) (c.generate.ensures.crashes events after state (omega (arith, counts, asks.few)) told now
+      stands);
 }
 
 pub returns-in-Some-Generate-clause-takes : goal.returns-in-Some-Generate-clause-takes
 returns-in-Some-Generate-clause-takes g c = (λ ask. absurd (lines-no-run g c ask), λ other. refl)
 
 lines-no-check : (g : Over) (c : goal.After-generate g) → texts c.args.words.now.items ≡ check_words → ⊥
-lines-no-check g c ask = other-form _ (Generate c.in-Some-Generate.seed c.in-Some-Generate.count) Check (asked-lines g c) ask (omega arith)
+lines-no-check g c ask = other-form _ (Generate c.in-Some-Generate.seed c.in-Some-Generate.count) Check
+    (asked-lines g c) ask (omega arith)
 
 pub returns-in-Some-Generate-clause-causes : goal.returns-in-Some-Generate-clause-causes
 returns-in-Some-Generate-clause-causes g c =
@@ -346,7 +384,8 @@ returns-in-Some-Generate-clause-causes g c =
       generates = λ seed count asks sound.
           let stands = state-sound (content events) sound in
           let counts = same-count g c seed count asks.ask in
-          generates-ends nothing c.generate.result stands.0 c.in-Some-Generate.seed c.in-Some-Generate.count events _ _ _ causes
+          generates-ends nothing c.generate.result stands.0 c.in-Some-Generate.seed c.in-Some-Generate.count events _ _
+          _ causes
           (c.generate.ensures.generates events stands.0 (omega (arith, counts, asks.few)) told stands.1);
       checks = λ ask sound. absurd (lines-no-check g c ask);
       refuses = λ asks unsound. elim asks [
@@ -364,7 +403,8 @@ returns-in-Some-Generate-clause-causes g c =
 -- ---- words of no form ask for nothing
 
 formless : (g : Over) (c : goal.In-None g) (form : Form) → AskFor (texts c.args.words.now.items) form → ⊥
-formless g c form ask = c.in-None.ensures.none (record { form = form; ask = subst (λ items. AskFor (texts items) form) (sym c.deref.ensures.value) ask })
+formless g c form ask = c.in-None.ensures.none
+    (record { form = form; ask = subst (λ items. AskFor (texts items) form) (sym c.deref.ensures.value) ask })
 
 pub returns-in-None-clause-makes : goal.returns-in-None-clause-makes
 returns-in-None-clause-makes g c = λ sizes asks. absurd (formless g c (Mkfs sizes) asks.ask)

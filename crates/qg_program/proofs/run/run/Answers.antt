@@ -15,7 +15,8 @@ returns-in-Ok-clause-follows g c = λ events input state told source stands.
 
 pub returns-in-Err-clause-follows : goal.returns-in-Err-clause-follows
 returns-in-Err-clause-follows g c = λ events input state told source stands.
-    let silent = c.refuse.ensures.silent (subst (TellsFailure c.in-Err.fault) stands.sound (c.in-Err.ensures.refused events told)) in
+    let silent = c.refuse.ensures.silent
+    (subst (TellsFailure c.in-Err.fault) stands.sound (c.in-Err.ensures.refused events told)) in
     follows-unopened c.refuse.result state input silent.0 (c.open.ensures.touches events told) silent.1
 
 pub returns-in-Ok-clause-crashes : goal.returns-in-Ok-clause-crashes
@@ -24,18 +25,22 @@ returns-in-Ok-clause-crashes g c = λ events after state told now stands.
     let outlives = c.open.ensures.crashes events told in
     let rests = rw c.in-Ok.is at outlives.rests state stands in
     c.answer_lines.ensures.crashes state events _ after (c.in-Ok.ensures.opened events state told stands)
-    (record { super = opens.super; chosen = opens.chosen; repaired = refl }) opens.repaired now stands (rests-told _ _ state opens.repaired rests)
+    (record { super = opens.super; chosen = opens.chosen; repaired = refl }) opens.repaired now stands
+    (rests-told _ _ state opens.repaired rests)
 
 pub returns-in-Err-clause-crashes : goal.returns-in-Err-clause-crashes
 returns-in-Err-clause-crashes g c = λ events after state told now stands.
-    let silent = c.refuse.ensures.silent (subst (TellsFailure c.in-Err.fault) stands.sound (c.in-Err.ensures.refused events told)) in
+    let silent = c.refuse.ensures.silent
+    (subst (TellsFailure c.in-Err.fault) stands.sound (c.in-Err.ensures.refused events told)) in
     let outlives = c.open.ensures.crashes events told in
-    leaves-unopened state events after _ _ (outlives.crashes after state now stands) (λ image left. outlives.early after image now left) _ silent.1
+    leaves-unopened state events after _ _ (outlives.crashes after state now stands)
+    (λ image left. outlives.early after image now left) _ silent.1
     c.refuse.result silent.0
 
 pub returns-in-Err-clause-unsound : goal.returns-in-Err-clause-unsound
 returns-in-Err-clause-unsound g c = λ events told image sound.
-    let silent = c.refuse.ensures.silent (subst (TellsFailure c.in-Err.fault) sound (c.in-Err.ensures.refused events told)) in
+    let silent = c.refuse.ensures.silent
+    (subst (TellsFailure c.in-Err.fault) sound (c.in-Err.ensures.refused events told)) in
     elim silent.0 [
       | inl is ↦ absurd cc
       | inr is ↦ absurd cc
@@ -44,7 +49,8 @@ returns-in-Err-clause-unsound g c = λ events told image sound.
 pub returns-in-Err-clause-refuses : goal.returns-in-Err-clause-refuses
 returns-in-Err-clause-refuses g c = λ events failure told unsound. (
   record {
-    put = c.refuse.ensures.refuses failure (subst (TellsFailure c.in-Err.fault) unsound (c.in-Err.ensures.refused events told));
+    put = c.refuse.ensures.refuses failure
+        (subst (TellsFailure c.in-Err.fault) unsound (c.in-Err.ensures.refused events told));
     looked_at = looked-unsound events failure _ unsound (c.open.ensures.touches events told);
     unwritten = λ judged.
         let judges = c.refuse.ensures.judged judged in
@@ -54,13 +60,19 @@ returns-in-Err-clause-refuses g c = λ events failure told unsound. (
 )
 
 pub returns-in-Ok-clause-refuses : goal.returns-in-Ok-clause-refuses
-returns-in-Ok-clause-refuses g c = λ events failure told unsound. absurd (none-some failure (sym (c.in-Ok.ensures.sound events told) ∙ unsound))
+returns-in-Ok-clause-refuses g c =
+    λ events failure told unsound. absurd (none-some failure (sym (c.in-Ok.ensures.sound events told) ∙ unsound))
 
 pub returns-in-Ok-clause-unsound : goal.returns-in-Ok-clause-unsound
 returns-in-Ok-clause-unsound g c = λ events told image sound.
     let found = state-sound (content events) sound in
     let opens = c.in-Ok.ensures.repaired events told in
-    c.answer_lines.ensures.sound (record { state = found.0; events = _; told = opens.repaired; stands = c.in-Ok.ensures.opened events found.0 told found.1 }) image
+    c.answer_lines.ensures.sound (record {
+      state = found.0;
+      events = _;
+      told = opens.repaired;
+      stands = c.in-Ok.ensures.opened events found.0 told found.1;
+    }) image
 
 pub returns-in-Ok-clause-causes : goal.returns-in-Ok-clause-causes
 returns-in-Ok-clause-causes g c =

@@ -1,5 +1,6 @@
 use Rattle.std.proofs.Common.{Ok, Err, ap, ◌∙◌, arith}
-use Rattle.qg_program.proofs.Answered.{answered-none, answered-more, answered-all, answered-failed, counted-none, counted-on, pending-none, taken-by, taken-whole, within-none}
+use Rattle.qg_program.proofs.Answered.{answered-none, answered-more, answered-all, answered-failed, counted-none}
+use Rattle.qg_program.proofs.Answered.{counted-on, pending-none, taken-by, taken-whole, within-none}
 use Rattle.qg_program.proofs.Left.{leaves-all, leaves-failed}
 use Rattle.qg_program.proofs.Replied.{failure-behind, replies-more, replies-none}
 use Rattle.qg_program.proofs.turn.answer_lines.Goals as goal
@@ -7,7 +8,8 @@ use Rattle.qg_program.proofs.turn.answer_lines.Goals as goal
 pub loop-text-init : goal.loop-text-init
 loop-text-init g c = record {
   ready = c.requires.ready;
-  answered = λ state opened stands known. answered-none state _ opened _ _ _ _ (rw c.new-feed.ensures (pending-none _)) stands known;
+  answered = λ state opened stands known. answered-none state _ opened _ _ _ _ (rw c.new-feed.ensures (pending-none _))
+      stands known;
   stands = λ is. is;
   replied = replies-none _;
   counted = rw c.new-feed.ensures (counted-none _);
@@ -22,7 +24,8 @@ loop-text-preserved g c = record {
   ready = rw c.in-Ok-true.is at c.turn.ensures.ready;
   answered = λ state opened stands known.
       let so_far = c.loop-text.invariant.answered state opened stands known in
-      answered-more _ so_far (rw c.in-Ok-true.field-0-test at c.in-Ok-true.ensures.ok so_far.present so_far.events so_far.stands so_far.known);
+      answered-more _ so_far (rw c.in-Ok-true.field-0-test at c.in-Ok-true.ensures.ok so_far.present so_far.events
+      so_far.stands so_far.known);
   stands = λ is. rw c.in-Ok-true.is at c.turn.ensures.stands (c.loop-text.invariant.stands is);
   replied = replies-more _ _ _ c.loop-text.invariant.replied (rw c.in-Ok-true.is at c.turn.ensures.puts.replied);
   counted = counted-on _ _ _ _ _ c.loop-text.invariant.counted c.turn.ensures.takes.counted;
@@ -61,7 +64,8 @@ pub returns-in-Err-clause-follows : goal.returns-in-Err-clause-follows
 returns-in-Err-clause-follows g c = λ state events opened input stands opens known told.
     let so_far = c.loop-text.invariant.answered state opened stands known in
     let counted = counted-on _ _ _ _ _ c.loop-text.invariant.counted c.turn.ensures.takes.counted in
-    answered-failed _ input c.turn.new.feed _ c.turn.new.session.store _ _ so_far told opens (record { counted = rw told at counted; within = c.turn.ensures.takes.within })
+    answered-failed _ input c.turn.new.feed _ c.turn.new.session.store _ _ so_far told opens
+    (record { counted = rw told at counted; within = c.turn.ensures.takes.within })
     (λ is. c.turn.ensures.takes.too_long (c.in-Err.is ∙ ap Err is))
     (c.in-Err.ensures.err so_far.present so_far.events so_far.stands so_far.known)
 
@@ -69,20 +73,24 @@ pub returns-in-Err-clause-crashes : goal.returns-in-Err-clause-crashes
 returns-in-Err-clause-crashes g c = λ state events opened after stands opens known now sound rests.
     let so_far = c.loop-text.invariant.answered state opened stands known in
     let counted = counted-on _ _ _ _ _ c.loop-text.invariant.counted c.turn.ensures.takes.counted in
-    leaves-failed _ c.turn.new.feed _ c.turn.new.session.store so_far (record { opens = opens; stands = sound; rests = rests }) now counted
+    leaves-failed _ c.turn.new.feed _ c.turn.new.session.store so_far
+    (record { opens = opens; stands = sound; rests = rests }) now counted
     c.turn.ensures.takes.within (λ is. c.turn.ensures.takes.too_long (c.in-Err.is ∙ ap Err is))
     (c.in-Err.ensures.err so_far.present so_far.events so_far.stands so_far.known)
 
 pub returns-in-Err-clause-takes : goal.returns-in-Err-clause-takes
 returns-in-Err-clause-takes g c =
     let counted = counted-on _ _ _ _ _ c.loop-text.invariant.counted c.turn.ensures.takes.counted in
-    taken-by _ c.turn.new.feed _ _ counted c.turn.ensures.takes.within (λ is. c.turn.ensures.takes.too_long (c.in-Err.is ∙ ap Err is)) c.in-Err.ensures.ends.1
+    taken-by _ c.turn.new.feed _ _ counted c.turn.ensures.takes.within
+    (λ is. c.turn.ensures.takes.too_long (c.in-Err.is ∙ ap Err is)) c.in-Err.ensures.ends.1
 
 pub returns-in-Err-clause-sound : goal.returns-in-Err-clause-sound
-returns-in-Err-clause-sound g c = λ stands is. c.turn.ensures.sound (c.loop-text.invariant.stands stands) (c.in-Err.is ∙ ap Err is)
+returns-in-Err-clause-sound g c = λ stands is. c.turn.ensures.sound (c.loop-text.invariant.stands stands) (c.in-Err.is
+    ∙ ap Err is)
 
 pub returns-in-Err-clause-told : goal.returns-in-Err-clause-told
-returns-in-Err-clause-told g c = λ is. failure-behind _ _ _ c.loop-text.invariant.replied (c.turn.ensures.puts.told (c.in-Err.is ∙ ap Err is))
+returns-in-Err-clause-told g c = λ is. failure-behind _ _ _ c.loop-text.invariant.replied
+    (c.turn.ensures.puts.told (c.in-Err.is ∙ ap Err is))
 
 pub returns-in-Err-clause-causes : goal.returns-in-Err-clause-causes
 returns-in-Err-clause-causes g c =

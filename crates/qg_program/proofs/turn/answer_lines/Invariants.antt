@@ -12,11 +12,14 @@ use Rattle.qg_program.proofs.turn.answer_lines.Given as goal
 abbrev pub invariant-loop-text : goal.invariant-loop-text
 invariant-loop-text g l = record {
   ready : IsReady l.session.store (g.D.Disk.history l.disk) (g.D.Disk.size l.disk);
-  answered : (state : State) (opened : List Event) → IsStoreOf l.initial.session.store state (g.D.Disk.history l.initial.disk)
+  answered : (state : State) (opened : List Event)
+      → IsStoreOf l.initial.session.store state (g.D.Disk.history l.initial.disk)
       → g.D.Disk.history l.initial.disk ≡ Some opened
-      → HasAnswered state (g.S.Source.bytes_left l.initial.source) opened (pending l.feed (g.S.Source.bytes_left l.source)) l.session.store
+      → HasAnswered state (g.S.Source.bytes_left l.initial.source) opened
+      (pending l.feed (g.S.Source.bytes_left l.source)) l.session.store
       (g.D.Disk.history l.disk) (g.K.Sink.bytes_held l.initial.sink) (g.K.Sink.bytes_held l.sink);
-  stands : StandsOver l.initial.session.store (g.D.Disk.history l.initial.disk) → StandsOver l.session.store (g.D.Disk.history l.disk);
+  stands : StandsOver l.initial.session.store (g.D.Disk.history l.initial.disk)
+      → StandsOver l.session.store (g.D.Disk.history l.disk);
   replied : PutsReplies (g.K.Sink.bytes_held l.initial.sink) (g.K.Sink.bytes_held l.sink);
   counted : CountsTaken (g.S.Source.bytes_left l.initial.source) (g.S.Source.bytes_left l.source) 0 l.feed.taken;
   within : IsWithinLimit l.feed;

@@ -13,6 +13,7 @@ invariant-loop-pair l = record {
 abbrev pub invariant-loop-relation : goal.invariant-loop-relation
 invariant-loop-relation l = record {
   keys : l.related.keys
-      ≡ fold (λ made pair. with_pair (pair.1, pair.0) made) (fold (λ made pair. with_pair pair made) [] l.pairs) (take l.relation-index l.pairs);
+      ≡ fold (λ made pair. with_pair (pair.1, pair.0) made) (fold (λ made pair. with_pair pair made) [] l.pairs)
+      (take l.relation-index l.pairs);
   fit : PairsFit l.related;
 }

@@ -16,5 +16,7 @@ pub returns-clause-fit : goal.returns-clause-fit
 returns-clause-fit c =
     let first : c.number.result < 2 ^ 64 = omega arith in
     let second : c.number-2.result < 2 ^ 64 = omega arith in
-    subst (λ (pairs : List (ℕ × ℕ)). All (λ pair. (pair.0 < 2 ^ 64) × (pair.1 < 2 ^ 64)) pairs) (sym c.in_ok-insert.ensures.keys)
-    (All-insert_key pair_cmp (c.number.result, c.number-2.result) (λ (pair : ℕ × ℕ). (pair.0 < 2 ^ 64) × (pair.1 < 2 ^ 64)) c.args.pairs.now.keys c.requires (first, second))
+    subst (λ (pairs : List (ℕ × ℕ)). All (λ pair. (pair.0 < 2 ^ 64) × (pair.1 < 2 ^ 64)) pairs)
+    (sym c.in_ok-insert.ensures.keys)
+    (All-insert_key pair_cmp (c.number.result, c.number-2.result) (λ (pair : ℕ × ℕ). (pair.0 < 2 ^ 64)
+    × (pair.1 < 2 ^ 64)) c.args.pairs.now.keys c.requires (first, second))

@@ -15,4 +15,5 @@ loop-pair-preserved c =
     ∙ sym (filter-more rises relations i pair short (get_or_default relations i (0, 0) pair short))
 
 pub returns : goal.returns
-returns c = c.loop-pair.invariant ∙ ap (filter rises) (take_all c.loop-pair.pair-index c.args.relations.now c.loop-pair-test.false)
+returns c = c.loop-pair.invariant
+    ∙ ap (filter rises) (take_all c.loop-pair.pair-index c.args.relations.now c.loop-pair-test.false)

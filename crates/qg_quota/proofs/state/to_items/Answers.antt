@@ -23,4 +23,5 @@ returns-clause-ascending c =
 pub returns-clause-fit : goal.returns-clause-fit
 returns-clause-fit c =
     subst (λ (items : List Item). All ItemFits items) (sym c.in_ok-items_of_quota.ensures.exact)
-    (quota-fit (status_at c.args.generation) c.args.state.now.quota c.in_ok-items_of_quota.ensures.groups c.in_ok-items_of_quota.ensures.pairs)
+    (quota-fit (status_at c.args.generation) c.args.state.now.quota c.in_ok-items_of_quota.ensures.groups
+    c.in_ok-items_of_quota.ensures.pairs)

@@ -18,7 +18,8 @@ loop-part-preserved c =
           ∙ ap (λ (list : List (ℕ × QgroupInfo)). list ++ filter_map info_told (part ∷ [])) c.loop-part.invariant.infos
           ∙ sym (filter_map-more info_told parts i part c.loop-part-test.true c.part-item.is);
       limits = c.in_ok-put_part.ensures.limits
-          ∙ ap (λ (list : List (ℕ × QgroupLimit)). list ++ filter_map limit_told (part ∷ [])) c.loop-part.invariant.limits
+          ∙ ap (λ (list : List (ℕ × QgroupLimit)). list ++ filter_map limit_told (part ∷ []))
+          c.loop-part.invariant.limits
           ∙ sym (filter_map-more limit_told parts i part c.loop-part-test.true c.part-item.is);
       relations = c.in_ok-put_part.ensures.relations
           ∙ ap (λ (list : List (ℕ × ℕ)). list ++ filter_map relation_told (part ∷ [])) c.loop-part.invariant.relations

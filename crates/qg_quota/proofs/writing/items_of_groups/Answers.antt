@@ -21,7 +21,8 @@ loop-entry-preserved c =
     let put : c.push-in-loop-entry.new.self ≡ c.loop-entry.items ++ item_of_info entry ∷ [] =
     c.in_ok-push-2.ensures.ok ∙ ap (λ (item : Item). c.loop-entry.items ++ item ∷ []) c.in_ok-info_item.ensures.exact in
     record {
-      items = item-put item_of_info (item_of_status c.args.status.now ∷ []) c.loop-entry.items c.push-in-loop-entry.new.self
+      items = item-put item_of_info (item_of_status c.args.status.now ∷ []) c.loop-entry.items
+          c.push-in-loop-entry.new.self
           groups i entry inside c.entry-item.is c.loop-entry.invariant.items put;
       fits = All-more CountersFit groups i entry inside c.loop-entry.invariant.fits
           (subst CountersFit c.entry-item.is c.info_item.ensures.fits);
@@ -30,7 +31,8 @@ loop-entry-preserved c =
 pub loop-limited-init : goal.loop-limited-init
 loop-limited-init c =
     let groups = c.args.groups.now in
-    let all : take c.loop-entry.entry-index groups ≡ groups = take_all c.loop-entry.entry-index groups c.loop-entry-test.false in
+    let all : take c.loop-entry.entry-index groups ≡ groups =
+    take_all c.loop-entry.entry-index groups c.loop-entry-test.false in
     record {
       items = c.loop-entry.invariant.items
           ∙ ap (λ (list : List (ℕ × Group)). item_of_status c.args.status.now ∷ map item_of_info list) all
@@ -45,7 +47,8 @@ loop-limited-preserved c =
     let entry = c.limited-item.result in
     let inside : i < length groups = c.loop-limited-test.true in
     let put : c.push-in-loop-limited.new.self ≡ c.loop-limited.items ++ item_of_limit entry ∷ [] =
-    c.in_ok-push-3.ensures.ok ∙ ap (λ (item : Item). c.loop-limited.items ++ item ∷ []) c.in_ok-limit_item.ensures.exact in
+    c.in_ok-push-3.ensures.ok
+    ∙ ap (λ (item : Item). c.loop-limited.items ++ item ∷ []) c.in_ok-limit_item.ensures.exact in
     record {
       items = item-put item_of_limit (item_of_status c.args.status.now ∷ map item_of_info groups) c.loop-limited.items
           c.push-in-loop-limited.new.self groups i entry inside c.limited-item.is c.loop-limited.invariant.items put;
@@ -59,12 +62,14 @@ returns-clause-exact c =
     let all : take c.loop-limited.limited-index groups ≡ groups =
     take_all c.loop-limited.limited-index groups c.loop-limited-test.false in
     c.loop-limited.invariant.items
-    ∙ ap (λ (list : List (ℕ × Group)). item_of_status c.args.status.now ∷ map item_of_info groups ++ map item_of_limit list) all
+    ∙ ap (λ (list : List (ℕ × Group)). item_of_status c.args.status.now ∷ map item_of_info groups
+    ++ map item_of_limit list) all
 
 pub returns-clause-fits : goal.returns-clause-fits
 returns-clause-fits c =
     let groups = c.args.groups.now in
-    let counted : take c.loop-entry.entry-index groups ≡ groups = take_all c.loop-entry.entry-index groups c.loop-entry-test.false in
+    let counted : take c.loop-entry.entry-index groups ≡ groups =
+    take_all c.loop-entry.entry-index groups c.loop-entry-test.false in
     let limited : take c.loop-limited.limited-index groups ≡ groups =
     take_all c.loop-limited.limited-index groups c.loop-limited-test.false in
     let counters = subst (λ (list : List (ℕ × Group)). All CountersFit list) counted c.loop-entry.invariant.fits in

@@ -30,13 +30,15 @@ returns-clause-ascending c =
 
 pub returns-clause-short : goal.returns-clause-short
 returns-clause-short c =
-    subst (λ (items : List Item). All (λ (item : Item). length item.body ≤ 1024) items) (sym c.in_ok-items_of_quota.ensures.exact)
+    subst (λ (items : List Item). All (λ (item : Item). length item.body ≤ 1024) items)
+    (sym c.in_ok-items_of_quota.ensures.exact)
     (quota-short (status_at c.args.generation) c.args.quota.now)
 
 pub returns-clause-fit : goal.returns-clause-fit
 returns-clause-fit c =
     subst (λ (items : List Item). All ItemFits items) (sym c.in_ok-items_of_quota.ensures.exact)
-    (quota-fit (status_at c.args.generation) c.args.quota.now c.in_ok-items_of_quota.ensures.groups c.in_ok-items_of_quota.ensures.pairs)
+    (quota-fit (status_at c.args.generation) c.args.quota.now c.in_ok-items_of_quota.ensures.groups
+    c.in_ok-items_of_quota.ensures.pairs)
 
 pub returns-clause-weight : goal.returns-clause-weight
 returns-clause-weight c =

@@ -20,6 +20,7 @@ overflow_add-bytes c =
     let few = slots_few c.args.sizes.now c.args.nodes.now c.requires.served c.requires.slots c.requires.ascending in
     let most = mul-le-mul_left (length c.args.nodes.now) served.nodesize in
     let all = bytes_fit c.args.sizes.now c.args.extents.now c.requires.space in
-    let part = sum_by_more_le (λ (e : Element). e.bytes) c.args.extents.now c.loop-extent.extent-index c.extent-item.result c.loop-extent-test.true in
+    let part = sum_by_more_le (λ (e : Element). e.bytes) c.args.extents.now c.loop-extent.extent-index
+    c.extent-item.result c.loop-extent-test.true in
     let same = ap (λ (e : Element). e.bytes) c.extent-item.is in
     omega (arith, few, most, all, part, same)

@@ -26,10 +26,12 @@ returns-then-not-branch c =
     let broken : do_ascend (before ++ extents_by file) ≡ false =
     ap (λ (pieces : List Piece). do_ascend (before ++ map extent_of pieces)) (sym c.as_slice.ensures)
     ∙ sym (c.in_ok-put_in_order.ensures.value before loop.put loop.ascend) ∙ c.if-not-branch.true in
-    let rest : drop i files ≡ file ∷ drop (i + 1) files = drop_more files i file c.loop-file-test.true ∙ ap (λ (x : ℕ × File). x ∷ drop (i + 1) files) (sym c.file-item.is) in
+    let rest : drop i files ≡ file ∷ drop (i + 1) files = drop_more files i file c.loop-file-test.true
+    ∙ ap (λ (x : ℕ × File). x ∷ drop (i + 1) files) (sym c.file-item.is) in
     let whole : flat_map extents_by files ≡ before ++ (extents_by file ++ later) =
     ap (flat_map extents_by) (sym (take-append-drop i files)) ∙ flat_map-append extents_by (take i files) (drop i files)
     ∙ ap (λ (back : List (ℕ × File)). before ++ flat_map extents_by back) rest in
     let all_broken : do_ascend (flat_map extents_by files) ≡ false =
-    ap do_ascend (whole ∙ sym (append_assoc before (extents_by file) later)) ∙ ascend_broken-front (before ++ extents_by file) later broken in
+    ap do_ascend (whole ∙ sym (append_assoc before (extents_by file) later))
+    ∙ ascend_broken-front (before ++ extents_by file) later broken in
     sym (ap (λ (up : Bool). then_some up (extent_set (flat_map extents_by files))) all_broken)

@@ -11,11 +11,13 @@ by_key a b = grind (arith, nat_tests)
 
 pub returns-clause-moved : goal.returns-clause-moved
 returns-clause-moved c =
-    IsPermutation-trans c.args.extents.now.items c.sort_unstable_by_key.new.self.items c.sort_unstable_by_key-2.new.self.items
+    IsPermutation-trans c.args.extents.now.items c.sort_unstable_by_key.new.self.items
+    c.sort_unstable_by_key-2.new.self.items
     c.sort_unstable_by_key.ensures.permutation c.sort_unstable_by_key-2.ensures.permutation
 
 pub returns-clause-sorted : goal.returns-clause-sorted
 returns-clause-sorted c =
-    let rise = c.sort_unstable_by_key-2.ensures.sorted (λ (e : Element). (e.address, e.bytes)) (answers_always _ _ _ (λ f a r f' q. search rules)) in
+    let rise = c.sort_unstable_by_key-2.ensures.sorted (λ (e : Element). (e.address, e.bytes))
+    (answers_always _ _ _ (λ f a r f' q. search rules)) in
     let extents = c.sort_unstable_by_key-2.new.self.items in
     λ k d l h. by_key (get_or extents (k + 1) d) (get_or extents k d) ∙ rise k d l h

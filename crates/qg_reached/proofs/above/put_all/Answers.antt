@@ -14,7 +14,8 @@ loop-place-preserved c =
     let inside : at < length lists = omega (arith, c.requires i 0 short, c.loop-place.auto.above) in
     let list = get_or_default lists at c.index-above-place.result [] inside in
     let written = c.in_ok-push.ensures.ok ∙ ap (λ (l : List ℕ). l ++ c.args.parent ∷ []) list in
-    subst (λ (l : List ℕ). HaveOneMore (take (i + 1) places) c.args.parent c.args.above.now (set lists at l)) (sym written)
+    subst (λ (l : List ℕ). HaveOneMore (take (i + 1) places) c.args.parent c.args.above.now (set lists at l))
+    (sym written)
     (one_more_more places i at c.args.parent c.args.above.now lists short (get_or_default places i 0 at short) inside
     c.loop-place.invariant)
 

@@ -53,7 +53,8 @@ loop-i-preserved c =
           w.as_slice-own.ensures ∙ w.index-then-node-level.ensures
           ∙ get_or_default own i w.index-then-node-level.result.now [] short-own in
           let union =
-          subst (λ (row : List ℕ). IsUnionOf old row (map (λ place. get_or numbers place 0) (get_or above i [])) new made)
+          subst (λ (row : List ℕ). IsUnionOf old row (map (λ place. get_or numbers place 0) (get_or above i [])) new
+          made)
           begun
           (subst (λ (sets : List ℕ). IsUnionOf old w.as_slice-own.result.now sets new made) over
           w.in_ok-reached.ensures) in
@@ -66,12 +67,15 @@ loop-i-preserved c =
               same = ap (λ (list' : List ℕ). length list') is-numbers ∙ length-set numbers i made ∙ sized.same;
               inside = subst (All (λ one. one < length c.if-node-level.reached.sets.rows.items)) (sym is-numbers)
                   (subst (λ (rows : List (List ℕ)). All (λ one. one < length rows) (set numbers i made)) (sym is-rows)
-                  (all_inside nodes i numbers old new node at above own sized.above sized.same sized.inside made union));
+                  (all_inside nodes i numbers old new node at above own sized.above sized.same sized.inside made
+                  union));
             };
             settled = λ roots ways from.
                 subst (λ (ns : List ℕ).
-                SettledFirst nodes roots c.args.level (i + 1) ns c.if-node-level.reached.sets.rows.items) (sym is-numbers)
-                (subst (λ (rows : List (List ℕ)). SettledFirst nodes roots c.args.level (i + 1) (set numbers i made) rows)
+                SettledFirst nodes roots c.args.level (i + 1) ns c.if-node-level.reached.sets.rows.items)
+                (sym is-numbers)
+                (subst (λ (rows : List (List ℕ)). SettledFirst nodes roots c.args.level (i + 1)
+                (set numbers i made) rows)
                 (sym is-rows)
                 (settled_more nodes i numbers old new node at above own sized.above sized.same sized.inside made union
                 roots c.args.level w.if-node-level.true ways.own (c.loop-i.invariant.settled roots ways from)));

@@ -36,9 +36,11 @@ loop-i-preserved c =
           w.in_ok-put_member.ensures in
           let written = ap (λ (v : Vec (List ℕ) Global). v.items) w.rows-is in
           record {
-            same = ap (λ (list : List (List ℕ)). length list) written ∙ length-set rows place new ∙ c.loop-i.invariant.same;
+            same = ap (λ (list : List (List ℕ)). length list) written ∙ length-set rows place new
+                ∙ c.loop-i.invariant.same;
             roots = subst (RootsFirst nodes roots (i + 1)) (sym written)
-                (roots_more nodes roots i root here rows c.loop-i.invariant.roots place new c.requires stands inside put);
+                (roots_more nodes roots i root here rows c.loop-i.invariant.roots place new c.requires stands inside
+                put);
           }
       | in_default w ↦
           let written = ap (λ (v : Vec (List ℕ) Global). v.items) w.rows-is in

@@ -16,7 +16,8 @@ loop-depth-preserved c =
 
 pub returns-clause-settled : goal.returns-clause-settled
 returns-clause-settled c = λ roots ways.
-    let lowest : c.highest_level-highest.result - c.loop-depth.depth + 1 ≡ 0 + 1 = omega (arith, c.loop-depth-test.false)
+    let lowest : c.highest_level-highest.result - c.loop-depth.depth + 1 ≡ 0 + 1 =
+    omega (arith, c.loop-depth-test.false)
     in
     c.in_ok-settle_level-2.ensures.settles roots ways
     (subst (λ n. AreSettledFrom c.args.nodes.now roots n c.loop-depth.reached) lowest

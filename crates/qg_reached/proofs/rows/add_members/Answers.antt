@@ -10,7 +10,8 @@ loop-word-preserved c =
     let more = c.args.more.now in
     let short : word < length row = omega (arith, c.loop-word-test.true, c.loop-word.invariant.long) in
     let written =
-    c.set.ensures ∙ ap (λ (now : List ℕ). set row word (bit_or (get_or now word 0) (get_or more word 0))) c.as_slice.ensures
+    c.set.ensures ∙ ap (λ (now : List ℕ). set row word (bit_or (get_or now word 0) (get_or more word 0)))
+    c.as_slice.ensures
     in
     let same = ap (λ (list : List ℕ). length list) written in
     let kept = length-set row word (bit_or (get_or row word 0) (get_or more word 0)) in

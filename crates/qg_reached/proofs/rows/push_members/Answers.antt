@@ -31,4 +31,5 @@ returns-after-loop-member c =
     subst (λ n. AreMembers c.args.row.now n c.loop-member.members) same c.loop-member.invariant
 
 pub returns-else-word-bound : goal.returns-else-word-bound
-returns-else-word-bound c = told_past c.args.row.now c.args.word c.args.bound c.args.members.now c.if-word-bound.false c.requires
+returns-else-word-bound c = told_past c.args.row.now c.args.word c.args.bound c.args.members.now c.if-word-bound.false
+    c.requires

@@ -1,4 +1,5 @@
-use Rattle.std.proofs.Common.{◌≡◌, ℕ, ◌*◌, ◌/◌, ◌%◌, ◌^◌, List, get_or, set, bit_or, sym, ap, subst, ◌∙◌, arith, ◌⊎◌, ◌↔◌}
+use Rattle.std.proofs.Common.{◌≡◌, ℕ, ◌*◌, ◌/◌, ◌%◌, ◌^◌, List, get_or, set, bit_or, sym, ap, subst, ◌∙◌, arith, ◌⊎◌}
+use Rattle.std.proofs.Common.{◌↔◌}
 use Rattle.qg_reached.specs.Sets.{HasMember}
 use Rattle.qg_reached.proofs.Words.{put_is}
 use Rattle.qg_reached.proofs.rows.put_member.Goals as goal
@@ -9,7 +10,8 @@ returns c =
     let member = c.args.member in
     let written =
     c.set.ensures
-    ∙ ap (λ (now : List ℕ). set padded (member / 64) (bit_or (get_or now (member / 64) 0) (1 * 2 ^ (member % 64) % 2 ^ 64)))
+    ∙ ap (λ (now : List ℕ). set padded (member / 64)
+    (bit_or (get_or now (member / 64) 0) (1 * 2 ^ (member % 64) % 2 ^ 64)))
     c.as_slice.ensures in
     subst (λ (row : List ℕ). (other : ℕ) → HasMember row other ↔ (HasMember c.args.row.now other ⊎ (member ≡ other)))
     (sym written)

@@ -22,5 +22,6 @@ loop-other-preserved c =
 
 pub returns : goal.returns
 returns c = λ _.
-    subst (All (λ other. other ≡ c.args.set)) (take_all c.loop-other.other-index c.args.sets.now c.loop-other-test.false)
+    subst (All (λ other. other ≡ c.args.set))
+    (take_all c.loop-other.other-index c.args.sets.now c.loop-other-test.false)
     c.loop-other.invariant

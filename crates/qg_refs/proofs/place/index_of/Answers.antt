@@ -5,7 +5,8 @@ use Rattle.qg_refs.specs.declared.counted.Counted.{Counted}
 use Rattle.qg_refs.proofs.RankOrder.{same_reference_is}
 use Rattle.qg_refs.proofs.Counting.{count-found, count-missing}
 use Rattle.qg_refs.proofs.place.index_of.Goals as goal
-use Rattle.qg_refs.proofs.place.index_of.Goals.{else-index-entries-via-then-index-entries+else-is_same, else-index-entries-via-else-index-entries}
+use Rattle.qg_refs.proofs.place.index_of.Goals.{else-index-entries-via-then-index-entries+else-is_same}
+use Rattle.qg_refs.proofs.place.index_of.Goals.{else-index-entries-via-else-index-entries}
 
 pub returns-then-is_same-clause-counts : goal.returns-then-is_same-clause-counts
 returns-then-is_same-clause-counts c d =
@@ -22,9 +23,11 @@ returns-else-index-entries-clause-none c =
     let entries = c.args.entries.now in
     let reference = c.args.reference.now in
     let i = c.place_of-index.result in
-    count-missing reference entries i c.requires c.place_of-index.ensures.point (λ d inside. elim c.else-index-entries.branch [
+    count-missing reference entries i c.requires c.place_of-index.ensures.point
+    (λ d inside. elim c.else-index-entries.branch [
       | else-index-entries-via-then-index-entries+else-is_same w ↦
           let entry = w.index-entries-index.result in
-          subst (λ (other : Counted). same_reference other.reference reference ≡ false) (get_or_default entries i entry d inside) (sym w.is_same.ensures ∙ w.if-is_same.false)
+          subst (λ (other : Counted). same_reference other.reference reference ≡ false)
+          (get_or_default entries i entry d inside) (sym w.is_same.ensures ∙ w.if-is_same.false)
       | else-index-entries-via-else-index-entries w ↦ absurd (omega (arith, inside, w.if-index-entries.false))
     ])

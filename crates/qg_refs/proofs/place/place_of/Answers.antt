@@ -9,4 +9,5 @@ pub returns-clause-point : goal.returns-clause-point
 returns-clause-point c =
     let entries = c.args.entries.now in
     let reference = c.args.reference.now in
-    IsPartitionPoint-from_clause (λ (entry : Counted). precedes entry.reference reference) entries _ c.partition_point.ensures.partitioned (parted_by entries reference c.requires) (λ a r f h. search rules)
+    IsPartitionPoint-from_clause (λ (entry : Counted). precedes entry.reference reference) entries _
+    c.partition_point.ensures.partitioned (parted_by entries reference c.requires) (λ a r f h. search rules)

@@ -14,7 +14,8 @@ loop-one-init c =
     record {
       kept =
           rw (given.0, rest, c.new-files.ensures)
-          (IsKept-none c.args.parts told c.into_files-told.result.1 c.into_files-told.ensures.parts c.requires.ascending c.into_files-told.ensures.apart);
+          (IsKept-none c.args.parts told c.into_files-told.result.1 c.into_files-told.ensures.parts c.requires.ascending
+          c.into_files-told.ensures.apart);
       len = omega (arith, given.1, ap length given.0, c.into_files-told.result.0.ok.0);
     }
 
@@ -24,7 +25,8 @@ returns-in_default c =
     let left : List FileItems = into_iter_items c.next.new.self in
     let rest = c.rest.inside.items.items in
     let kept : IsKept c.args.parts (one ∷ left) rest c.loop-one.files =
-    subst (λ (files : List FileItems). IsKept c.args.parts files rest c.loop-one.files) c.in-Some.ensures.steps.0 c.loop-one.invariant.kept in
+    subst (λ (files : List FileItems). IsKept c.args.parts files rest c.loop-one.files) c.in-Some.ensures.steps.0
+    c.loop-one.invariant.kept in
     IsKept-broken c.args.parts one left rest c.loop-one.files kept (sym c.in_default.is ∙ c.read_file.ensures)
 
 pub loop-one-preserved : goal.loop-one-preserved
@@ -33,9 +35,12 @@ loop-one-preserved c =
     let left : List FileItems = into_iter_items c.next.new.self in
     let rest = c.rest.inside.items.items in
     let kept : IsKept c.args.parts (one ∷ left) rest c.loop-one.files =
-    subst (λ (files : List FileItems). IsKept c.args.parts files rest c.loop-one.files) c.in-Some.ensures.steps.0 c.loop-one.invariant.kept in
+    subst (λ (files : List FileItems). IsKept c.args.parts files rest c.loop-one.files) c.in-Some.ensures.steps.0
+    c.loop-one.invariant.kept in
     record {
-      kept = rw c.in_ok-push.ensures.ok (IsKept-more c.args.parts one left rest c.loop-one.files c.in-Some-read_file.file kept (sym c.in-Some-read_file.is ∙ c.read_file.ensures));
+      kept = rw c.in_ok-push.ensures.ok
+          (IsKept-more c.args.parts one left rest c.loop-one.files c.in-Some-read_file.file kept
+          (sym c.in-Some-read_file.is ∙ c.read_file.ensures));
       len = omega (arith, c.loop-one.invariant.len, c.in-Some.ensures.steps.1, ap length c.in-Some.ensures.steps.0);
     }
 
@@ -44,8 +49,10 @@ returns-then-is_empty c =
     let rest = c.rest.inside.items.items in
     let told = c.into_files-told.result.1 in
     let same : rest ≡ told = c.rest.view_is in
-    let none = no_files (into_iter_items c.loop-one.one-iterator) (omega (arith, c.loop-one.invariant.len, c.in-None.ensures.steps.0)) in
-    IsKept-all c.args.parts rest c.loop-one.files (ap length same ∙ eqb-true (length told) 0 (sym c.is_empty.ensures ∙ c.if-is_empty.true))
+    let none = no_files (into_iter_items c.loop-one.one-iterator)
+    (omega (arith, c.loop-one.invariant.len, c.in-None.ensures.steps.0)) in
+    IsKept-all c.args.parts rest c.loop-one.files (ap length same
+    ∙ eqb-true (length told) 0 (sym c.is_empty.ensures ∙ c.if-is_empty.true))
     (subst (λ (files : List FileItems). IsKept c.args.parts files rest c.loop-one.files) none c.loop-one.invariant.kept)
 
 pub returns : goal.returns
@@ -53,6 +60,8 @@ returns c =
     let rest = c.rest.inside.items.items in
     let told = c.into_files-told.result.1 in
     let same : rest ≡ told = c.rest.view_is in
-    let none = no_files (into_iter_items c.loop-one.one-iterator) (omega (arith, c.loop-one.invariant.len, c.in-None.ensures.steps.0)) in
-    IsKept-orphan c.args.parts rest c.loop-one.files (λ empty. eqb-false (length told) 0 (sym c.is_empty.ensures ∙ c.if-is_empty.false) (sym (ap length same) ∙ empty))
+    let none = no_files (into_iter_items c.loop-one.one-iterator)
+    (omega (arith, c.loop-one.invariant.len, c.in-None.ensures.steps.0)) in
+    IsKept-orphan c.args.parts rest c.loop-one.files (λ empty. eqb-false (length told) 0 (sym c.is_empty.ensures
+    ∙ c.if-is_empty.false) (sym (ap length same) ∙ empty))
     (subst (λ (files : List FileItems). IsKept c.args.parts files rest c.loop-one.files) none c.loop-one.invariant.kept)

@@ -8,13 +8,18 @@ returns-in_err-add c =
 pub returns-in_err-write_word : goal.returns-in_err-write_word
 returns-in_err-write_word c =
     let part = front_after c.in_ok-add.ensures c.in_err-write_word.ensures.no_memory in
-    rw (← c.rule_word.ensures) (stopped _ c.from_residual-in_err-write_word.ensures.0 (front_before _ (front_before _ part)))
+    rw (← c.rule_word.ensures)
+    (stopped _ c.from_residual-in_err-write_word.ensures.0 (front_before _ (front_before _ part)))
 
 pub returns-in_err-write_number : goal.returns-in_err-write_number
 returns-in_err-write_number c =
-    let part = front_after (then_added _ c.in_ok-add.ensures c.in_ok-write_word.ensures) c.in_err-write_number.ensures.no_memory in
-    rw (← c.rule_word.ensures, ← c.value.ensures) (stopped _ c.from_residual-in_err-write_number.ensures.0 (front_before _ part))
+    let part = front_after (then_added _ c.in_ok-add.ensures c.in_ok-write_word.ensures)
+    c.in_err-write_number.ensures.no_memory in
+    rw (← c.rule_word.ensures, ← c.value.ensures) (stopped _ c.from_residual-in_err-write_number.ensures.0
+    (front_before _ part))
 
 pub returns : goal.returns
 returns c =
-    rw (← c.rule_word.ensures, ← c.value.ensures) (then_added _ (then_added _ (then_added _ c.in_ok-add.ensures c.in_ok-write_word.ensures) c.in_ok-write_number.ensures) c.add-2.ensures)
+    rw (← c.rule_word.ensures, ← c.value.ensures)
+    (then_added _ (then_added _ (then_added _ c.in_ok-add.ensures c.in_ok-write_word.ensures)
+    c.in_ok-write_number.ensures) c.add-2.ensures)

@@ -1,6 +1,7 @@
 use Rattle.std.proofs.Common.{All, ℕ, ◌<◌, ◌^◌, refl, sym, subst, ap, ◌∙◌}
 use Rattle.std.proofs.lemmas.List.Elements.{All-nil}
-use Rattle.qg_script.proofs.GroupTexts.{all_read, fits_more, group_more, is_empty_text, is_some_text, none_read_yet, no_group_first, shorter_behind, some_after}
+use Rattle.qg_script.proofs.GroupTexts.{all_read, fits_more, group_more, is_empty_text, is_some_text, none_read_yet}
+use Rattle.qg_script.proofs.GroupTexts.{no_group_first, shorter_behind, some_after}
 use Rattle.qg_script.proofs.groups.groups_of.Goals as goal
 
 pub words-init : goal.words-init
@@ -11,7 +12,8 @@ words-init c =
 pub returns-in_default-clause-none : goal.returns-in_default-clause-none
 returns-in_default-clause-none c groups are =
     let more = c.words.invariant.only groups are in
-    no_group_first more.0 more.1 (is_some_text c.words.rest.now c.is_empty.result c.is_empty.ensures c.words-test.true) c.in_default.ensures.none
+    no_group_first more.0 more.1 (is_some_text c.words.rest.now c.is_empty.result c.is_empty.ensures c.words-test.true)
+    c.in_default.ensures.none
 
 pub words-preserved : goal.words-preserved
 words-preserved c =
@@ -29,6 +31,7 @@ words-smaller c = shorter_behind c.in-Some.ensures.found
 
 pub returns-clause-found : goal.returns-clause-found
 returns-clause-found c = record {
-  whole = all_read c.words.groups c.words.invariant.read (is_empty_text c.words.rest.now c.is_empty.result c.is_empty.ensures c.words-test.false);
+  whole = all_read c.words.groups c.words.invariant.read
+      (is_empty_text c.words.rest.now c.is_empty.result c.is_empty.ensures c.words-test.false);
   fit = c.words.invariant.fit;
 }

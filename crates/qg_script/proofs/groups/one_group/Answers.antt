@@ -1,6 +1,7 @@
 use Rattle.std.proofs.Common.{ℕ, List, [], sym, subst}
 use Rattle.qg_script.specs.Reading.{AreGroupWords}
-use Rattle.qg_script.proofs.GroupTexts.{begins_with_group, group_before, groups_after, is_empty_text, is_some_text, no_groups}
+use Rattle.qg_script.proofs.GroupTexts.{begins_with_group, group_before, groups_after, is_empty_text, is_some_text}
+use Rattle.qg_script.proofs.GroupTexts.{no_groups}
 use Rattle.qg_script.proofs.groups.one_group.Goals as goal
 
 pub returns-in_default-clause-none : goal.returns-in_default-clause-none

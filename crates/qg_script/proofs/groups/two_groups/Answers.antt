@@ -6,7 +6,8 @@ use Rattle.qg_script.proofs.GroupTexts.{begins_with_group, group_before, groups_
 use Rattle.qg_script.proofs.groups.two_groups.Goals as goal
 
 pub returns-in_default-clause-none : goal.returns-in_default-clause-none
-returns-in_default-clause-none c first second are = c.in_default.ensures.none first (flat_map then_group (second ∷ [])) (begins_with_group first (second ∷ []) are)
+returns-in_default-clause-none c first second are = c.in_default.ensures.none first (flat_map then_group (second ∷ []))
+    (begins_with_group first (second ∷ []) are)
 
 pub returns-in_err-second-clause-none : goal.returns-in_err-second-clause-none
 returns-in_err-second-clause-none c = if_none c.from_residual.result (λ first second are.

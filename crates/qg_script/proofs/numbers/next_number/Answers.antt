@@ -9,7 +9,8 @@ use Rattle.qg_script.proofs.numbers.next_number.Goals as goal
 pub returns-in_default-from_utf8-clause-none : goal.returns-in_default-from_utf8-clause-none
 returns-in_default-from_utf8-clause-none c number rest next =
     let is = (parted_once c.first_word.ensures (number_parted next)).0 in
-    c.in_default-from_utf8.ensures.cases.0 (subst IsUtf8 (sym is) (IsUtf8-from_ascii (decimal number) (IsAscii-decimal number next.fits)))
+    c.in_default-from_utf8.ensures.cases.0
+    (subst IsUtf8 (sym is) (IsUtf8-from_ascii (decimal number) (IsAscii-decimal number next.fits)))
 
 pub returns-in_err-number-clause-none : goal.returns-in_err-number-clause-none
 returns-in_err-number-clause-none c = if_none c.from_residual.result (λ number rest next.

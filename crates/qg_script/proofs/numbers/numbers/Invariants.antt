@@ -9,5 +9,6 @@ invariant-loop-place g l = record {
   as_many : length l.numbers ≡ l.place-end;
   read : l.text ≡ flat_map then_number (take l.place l.numbers) ++ l.rest;
   fit : All (λ number. number < 2 ^ 64) (take l.place l.numbers);
-  only : (numbers : List ℕ) → AreNumbers l.place-end l.text numbers → l.rest ≡ flat_map then_number (drop l.place numbers);
+  only : (numbers : List ℕ) → AreNumbers l.place-end l.text numbers
+      → l.rest ≡ flat_map then_number (drop l.place numbers);
 }

@@ -5,7 +5,9 @@ use Rattle.qg_script.proofs.parse.read_assign.Goals as goal
 
 pub returns-in_err-member : goal.returns-in_err-member
 returns-in_err-member c =
-    reads_none c.from_residual.result c.from_residual.ensures (only_assign (λ command. ⊥) c.args.rest.now (λ member parent are. c.in_err-member.ensures.none member parent are))
+    reads_none c.from_residual.result c.from_residual.ensures
+    (only_assign (λ command. ⊥) c.args.rest.now
+    (λ member parent are. c.in_err-member.ensures.none member parent are))
 
 pub returns : goal.returns
 returns c = reads_some (assign_read c.in_ok-member.ensures.found)

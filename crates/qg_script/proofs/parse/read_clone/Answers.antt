@@ -4,12 +4,14 @@ use Rattle.qg_script.proofs.parse.read_clone.Goals as goal
 pub returns-in_err-sub : goal.returns-in_err-sub
 returns-in_err-sub c =
     reads_none c.from_residual.result c.from_residual.ensures
-    (only_clone (λ command. ⊥) c.args.rest.now (λ sub ino off len to_sub to_ino to_off file to_file are. c.in_err-sub.ensures.none _ are))
+    (only_clone (λ command. ⊥) c.args.rest.now (λ sub ino off len to_sub to_ino to_off file to_file are.
+    c.in_err-sub.ensures.none _ are))
 
 pub returns-in_err-sub-2 : goal.returns-in_err-sub-2
 returns-in_err-sub-2 c =
     reads_none c.from_residual-in_err-sub-2.result c.from_residual-in_err-sub-2.ensures
-    (only_clone (λ command. ⊥) c.args.rest.now (λ sub ino off len to_sub to_ino to_off file to_file are. c.in_err-sub-2.ensures (file_at 0 1 c.in_ok-sub.ensures.found are file)))
+    (only_clone (λ command. ⊥) c.args.rest.now (λ sub ino off len to_sub to_ino to_off file to_file are.
+    c.in_err-sub-2.ensures (file_at 0 1 c.in_ok-sub.ensures.found are file)))
 
 pub returns-in_err-to_sub : goal.returns-in_err-to_sub
 returns-in_err-to_sub c =
@@ -18,4 +20,7 @@ returns-in_err-to_sub c =
     c.in_err-to_sub.ensures (file_at 4 5 c.in_ok-sub.ensures.found are to_file)))
 
 pub returns : goal.returns
-returns c = record { command = clone_read c.in_ok-sub.ensures.found c.in_ok-sub-2.ensures c.in_ok-to_sub.ensures; none = tt }
+returns c = record {
+  command = clone_read c.in_ok-sub.ensures.found c.in_ok-sub-2.ensures c.in_ok-to_sub.ensures;
+  none = tt;
+}

@@ -9,7 +9,8 @@ returns-in_err-sub c =
 pub returns-in_err-sub-2 : goal.returns-in_err-sub-2
 returns-in_err-sub-2 c =
     reads_none c.from_residual-in_err-sub-2.result c.from_residual-in_err-sub-2.ensures
-    (only_delete (λ command. ⊥) c.args.rest.now (λ sub is are. c.in_err-sub-2.ensures (sub_at c.in_ok-sub.ensures.found are is)))
+    (only_delete (λ command. ⊥) c.args.rest.now
+    (λ sub is are. c.in_err-sub-2.ensures (sub_at c.in_ok-sub.ensures.found are is)))
 
 pub returns : goal.returns
 returns c = record { command = delete_read c.in_ok-sub.ensures.found c.in_ok-sub-2.ensures; none = tt }

@@ -4,10 +4,13 @@ use Rattle.qg_script.proofs.GroupRows.{limit_read, no_group_limited, no_limit, o
 use Rattle.qg_script.proofs.parse.read_limit.Goals as goal
 
 pub returns-in_default : goal.returns-in_default
-returns-in_default c = reads_not (only_limit (λ command. ⊥) c.args.rest.now (λ group which max behind last is next limit. c.in_default.ensures.none which behind is))
+returns-in_default c = reads_not
+    (only_limit (λ command. ⊥) c.args.rest.now (λ group which max behind last is next limit.
+    c.in_default.ensures.none which behind is))
 
 pub returns-in_default-next_group : goal.returns-in_default-next_group
-returns-in_default-next_group c = reads_not (no_group_limited c.in-Some.ensures.found c.in_default-next_group.ensures.none)
+returns-in_default-next_group c =
+    reads_not (no_group_limited c.in-Some.ensures.found c.in_default-next_group.ensures.none)
 
 pub returns-in_err-max : goal.returns-in_err-max
 returns-in_err-max c =

@@ -9,7 +9,8 @@ returns-in_err-sub c =
 pub returns-in_err-sub-2 : goal.returns-in_err-sub-2
 returns-in_err-sub-2 c =
     reads_none c.from_residual-in_err-sub-2.result c.from_residual-in_err-sub-2.ensures
-    (only_ls (λ command. ⊥) c.args.rest.now (λ sub ino file are. c.in_err-sub-2.ensures (file_at 0 1 c.in_ok-sub.ensures.found are file)))
+    (only_ls (λ command. ⊥) c.args.rest.now
+    (λ sub ino file are. c.in_err-sub-2.ensures (file_at 0 1 c.in_ok-sub.ensures.found are file)))
 
 pub returns : goal.returns
 returns c = record { command = file_read ls_tells c.in_ok-sub.ensures.found c.in_ok-sub-2.ensures; none = tt }

@@ -14,5 +14,6 @@ returns-in_err-write_number c =
 
 pub returns : goal.returns
 returns c =
-    let last = after_items then_number c.args.owners.now c.loop-owner.owner-index _ c.loop-owner-test.false c.loop-owner.invariant c.add-2.ensures in
+    let last = after_items then_number c.args.owners.now c.loop-owner.owner-index _ c.loop-owner-test.false
+    c.loop-owner.invariant c.add-2.ensures in
     then_added _ c.in_ok-add.ensures last

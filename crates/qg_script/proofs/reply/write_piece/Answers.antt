@@ -5,7 +5,8 @@ use Rattle.qg_script.proofs.reply.write_piece.Goals as goal
 pub returns-in_err-write_decimal : goal.returns-in_err-write_decimal
 unfolding piece_text
 returns-in_err-write_decimal c =
-    stopped _ c.from_residual.ensures.0 (front_before _ (front_before _ (front_before _ (front_before _ c.in_err-write_decimal.ensures.no_memory))))
+    stopped _ c.from_residual.ensures.0
+    (front_before _ (front_before _ (front_before _ (front_before _ c.in_err-write_decimal.ensures.no_memory))))
 
 pub returns-in_err-write_number : goal.returns-in_err-write_number
 unfolding piece_text
@@ -16,16 +17,21 @@ returns-in_err-write_number c =
 pub returns-in_err-write_number-2 : goal.returns-in_err-write_number-2
 unfolding piece_text
 returns-in_err-write_number-2 c =
-    let part = front_after (then_added _ c.in_ok-write_decimal.ensures c.in_ok-write_number.ensures) c.in_err-write_number-2.ensures.no_memory in
-    rw (← c.value.ensures) (stopped _ c.from_residual-in_err-write_number-2.ensures.0 (front_before _ (front_before _ part)))
+    let part = front_after (then_added _ c.in_ok-write_decimal.ensures c.in_ok-write_number.ensures)
+    c.in_err-write_number-2.ensures.no_memory in
+    rw (← c.value.ensures) (stopped _ c.from_residual-in_err-write_number-2.ensures.0
+    (front_before _ (front_before _ part)))
 
 pub returns-in_err-write_number-3 : goal.returns-in_err-write_number-3
 unfolding piece_text
 returns-in_err-write_number-3 c =
-    let part = front_after (then_added _ (then_added _ c.in_ok-write_decimal.ensures c.in_ok-write_number.ensures) c.in_ok-write_number-2.ensures) c.in_err-write_number-3.ensures.no_memory in
+    let part = front_after (then_added _ (then_added _ c.in_ok-write_decimal.ensures c.in_ok-write_number.ensures)
+    c.in_ok-write_number-2.ensures) c.in_err-write_number-3.ensures.no_memory in
     rw (← c.value.ensures) (stopped _ c.from_residual-in_err-write_number-3.ensures.0 (front_before _ part))
 
 pub returns : goal.returns
 unfolding piece_text
 returns c =
-    rw (← c.value.ensures) (then_added _ (then_added _ (then_added _ (then_added _ c.in_ok-write_decimal.ensures c.in_ok-write_number.ensures) c.in_ok-write_number-2.ensures) c.in_ok-write_number-3.ensures) c.add.ensures)
+    rw (← c.value.ensures) (then_added _
+    (then_added _ (then_added _ (then_added _ c.in_ok-write_decimal.ensures c.in_ok-write_number.ensures)
+    c.in_ok-write_number-2.ensures) c.in_ok-write_number-3.ensures) c.add.ensures)

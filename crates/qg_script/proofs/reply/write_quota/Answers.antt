@@ -12,4 +12,5 @@ returns-in_err-write_next_group c =
 
 pub returns : goal.returns
 returns c =
-    rw (← c.which_word.ensures) (then_added _ (then_added _ c.in_ok-add.ensures c.in_ok-write_next_group.ensures) c.write_word.ensures)
+    rw (← c.which_word.ensures)
+    (then_added _ (then_added _ c.in_ok-add.ensures c.in_ok-write_next_group.ensures) c.write_word.ensures)

@@ -10,4 +10,5 @@ returns-in_err-write_row c =
 
 pub returns : goal.returns
 returns c =
-    after_items (λ row. line (row_text row)) c.args.rows.now c.loop-row.row-index _ c.loop-row-test.false c.loop-row.invariant c.add.ensures
+    after_items (λ row. line (row_text row)) c.args.rows.now c.loop-row.row-index _ c.loop-row-test.false
+    c.loop-row.invariant c.add.ensures

@@ -12,4 +12,5 @@ returns-in_err-write_number c =
 
 pub returns : goal.returns
 returns c =
-    rw (← c.value.ensures) (then_added _ (then_added _ c.in_ok-add.ensures c.in_ok-write_number.ensures) c.add-2.ensures)
+    rw (← c.value.ensures) (then_added _ (then_added _ c.in_ok-add.ensures c.in_ok-write_number.ensures)
+    c.add-2.ensures)

@@ -12,14 +12,18 @@ returns-in_err-write_number c =
 
 pub returns-in_err-write_number-2 : goal.returns-in_err-write_number-2
 returns-in_err-write_number-2 c =
-    let part = front_after (then_added _ c.in_ok-add.ensures c.in_ok-write_number.ensures) c.in_err-write_number-2.ensures.no_memory in
+    let part = front_after (then_added _ c.in_ok-add.ensures c.in_ok-write_number.ensures)
+    c.in_err-write_number-2.ensures.no_memory in
     stopped _ c.from_residual-in_err-write_number-2.ensures.0 (front_before _ (front_before _ part))
 
 pub returns-in_err-write_number-3 : goal.returns-in_err-write_number-3
 returns-in_err-write_number-3 c =
-    let part = front_after (then_added _ (then_added _ c.in_ok-add.ensures c.in_ok-write_number.ensures) c.in_ok-write_number-2.ensures) c.in_err-write_number-3.ensures.no_memory in
+    let part = front_after (then_added _ (then_added _ c.in_ok-add.ensures c.in_ok-write_number.ensures)
+    c.in_ok-write_number-2.ensures) c.in_err-write_number-3.ensures.no_memory in
     stopped _ c.from_residual-in_err-write_number-3.ensures.0 (front_before _ part)
 
 pub returns : goal.returns
 returns c =
-    then_added _ (then_added _ (then_added _ (then_added _ c.in_ok-add.ensures c.in_ok-write_number.ensures) c.in_ok-write_number-2.ensures) c.in_ok-write_number-3.ensures) c.add-2.ensures
+    then_added _ (then_added _
+    (then_added _ (then_added _ c.in_ok-add.ensures c.in_ok-write_number.ensures) c.in_ok-write_number-2.ensures)
+    c.in_ok-write_number-3.ensures) c.add-2.ensures

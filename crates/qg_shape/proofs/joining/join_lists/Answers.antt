@@ -10,5 +10,6 @@ returns-clause-joined g c =
     let right = c.args.right.now in
     let weighs = sum_by-append weight left right ∙ sym c.requires.total in (
       omega (arith, weighs, c.if-total-room.false),
-      IsCut-near 524 524 c.args.room c.args.total c.half.result weight (left ++ right) c.share.new.left c.share.new.right c.half.ensures weighs c.in_ok-share.ensures.whole c.in_ok-share.ensures.near,
+      IsCut-near 524 524 c.args.room c.args.total c.half.result weight (left ++ right) c.share.new.left
+          c.share.new.right c.half.ensures weighs c.in_ok-share.ensures.whole c.in_ok-share.ensures.near,
     )

@@ -13,7 +13,10 @@ returns c =
     let pointers = c.args.pointers.now in
     let key = c.args.key in
     let past = c.partition_point-past.result in
-    let point = IsPartitionPoint-from_clause (λ (pointer : Pointer). not (is_lt (key_cmp key pointer.key))) pointers past c.partition_point-past.ensures.partitioned
+    let point = IsPartitionPoint-from_clause (λ (pointer : Pointer). not (is_lt (key_cmp key pointer.key))) pointers
+    past c.partition_point-past.ensures.partitioned
     (parted_upto (λ (pointer : Pointer). pointer.key) key pointers c.requires.ascending) (λ a r f h. search rules) in
-    subst (λ (place : ℕ). LeadsTo (map (λ (pointer : Pointer). pointer.key) pointers) key place) (sym c.saturating_sub.ensures)
-    (leads_there (λ (pointer : Pointer). pointer.key) key pointers past c.requires.some c.partition_point-past.ensures.bound point)
+    subst (λ (place : ℕ). LeadsTo (map (λ (pointer : Pointer). pointer.key) pointers) key place)
+    (sym c.saturating_sub.ensures)
+    (leads_there (λ (pointer : Pointer). pointer.key) key pointers past c.requires.some
+    c.partition_point-past.ensures.bound point)

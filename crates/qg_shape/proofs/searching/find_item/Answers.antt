@@ -7,14 +7,16 @@ use Rattle.qg_node.specs.declared.item.Item.{Item}
 use Rattle.qg_shape.proofs.Ascending.{greater}
 use Rattle.qg_shape.proofs.Searched.{goes_there, parted_below}
 use Rattle.qg_shape.proofs.searching.find_item.Goals as goal
-use Rattle.qg_shape.proofs.searching.find_item.Goals.{else-place-items-via-then-place-items+else-eq, else-place-items-via-else-place-items}
+use Rattle.qg_shape.proofs.searching.find_item.Goals.{else-place-items-via-then-place-items+else-eq}
+use Rattle.qg_shape.proofs.searching.find_item.Goals.{else-place-items-via-else-place-items}
 
 pub returns-else-place-items-clause-absent : goal.returns-else-place-items-clause-absent
 returns-else-place-items-clause-absent c =
     let items = c.args.items.now in
     let key = c.args.key in
     let place = c.partition_point-place.result in
-    let point = IsPartitionPoint-from_clause (λ (item : Item). is_lt (key_cmp item.key key)) items place c.partition_point-place.ensures.partitioned
+    let point = IsPartitionPoint-from_clause (λ (item : Item). is_lt (key_cmp item.key key)) items place
+    c.partition_point-place.ensures.partitioned
     (parted_below (λ (item : Item). item.key) key items c.requires) (λ a r f h. search rules) in
     goes_there (λ (item : Item). item.key) key items place c.requires c.partition_point-place.ensures.bound point
     (λ d inside. elim c.else-place-items.branch [

@@ -18,6 +18,8 @@ loop-part-preserved c =
     take_more parts index part c.loop-part-test.true ∙ ap (λ (p : FilePart). front ++ p ∷ []) (sym c.part-item.is) in
     let whole : take (index + 1) parts ++ drop (index + 1) parts ≡ parts = take-append-drop (index + 1) parts in
     let ascends : IsTrue (is_ascending (map file_key (take (index + 1) parts))) =
-    ascending_front (take (index + 1) parts) (drop (index + 1) parts) (subst (λ (ps : List FilePart). IsTrue (is_ascending (map file_key ps))) (sym whole) c.requires) in
+    ascending_front (take (index + 1) parts) (drop (index + 1) parts)
+    (subst (λ (ps : List FilePart). IsTrue (is_ascending (map file_key ps))) (sym whole) c.requires) in
     subst (λ (ps : List FilePart). Tells c.push.new.self ps) (sym longer)
-    (c.push.ensures front c.loop-part.invariant (subst (λ (ps : List FilePart). IsTrue (is_ascending (map file_key ps))) longer ascends))
+    (c.push.ensures front c.loop-part.invariant
+    (subst (λ (ps : List FilePart). IsTrue (is_ascending (map file_key ps))) longer ascends))

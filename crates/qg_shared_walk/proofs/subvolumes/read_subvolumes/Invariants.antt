@@ -15,9 +15,11 @@ invariant-roots g l = record {
   count : g.D.Disk.faults l.initial.disk ≤ g.D.Disk.faults l.disk;
   slots : AreInSlots (sizes_of l.superblock) g.N.NodeList.keeps l.memo.nodes;
   passes :
-      (events : List Event) → g.D.Disk.history l.initial.disk ≡ Some events → (entry : ℕ × RootItem) → Contains (take l.entry-index l.roots) entry
+      (events : List Event) → g.D.Disk.history l.initial.disk ≡ Some events → (entry : ℕ × RootItem)
+      → Contains (take l.entry-index l.roots) entry
       → subvolume_failure l.superblock (content events) entry.1 ≡ None;
   read :
       (events : List Event) → g.D.Disk.history l.initial.disk ≡ Some events
-      → HasTrees l.superblock events g.N.NodeList.keeps (take l.entry-index l.roots) l.memo.digests.entries l.memo.nodes;
+      → HasTrees l.superblock events g.N.NodeList.keeps (take l.entry-index l.roots) l.memo.digests.entries
+      l.memo.nodes;
 }

@@ -6,4 +6,5 @@ use Rattle.qg_shared_walk.proofs.tree.first_fault.Goals as goal
 
 pub returns-in-Ok-clause-first : goal.returns-in-Ok-clause-first
 returns-in-Ok-clause-first g c events told denies =
-    known_tells c.args.known (tree_failure Files c.args.superblock.now (content events) c.args.expected.now c.args.root) denies (c.in-Ok.ensures.failure events told)
+    known_tells c.args.known (tree_failure Files c.args.superblock.now (content events) c.args.expected.now c.args.root)
+    denies (c.in-Ok.ensures.failure events told)

@@ -23,14 +23,17 @@ invariant-walk_pointers-pointers g l = record {
   history : g.D.Disk.history l.disk ≡ g.D.Disk.history l.initial.disk;
   size : g.D.Disk.size l.disk ≡ g.D.Disk.size l.initial.disk;
   count : g.D.Disk.faults l.initial.disk ≤ g.D.Disk.faults l.disk;
-  slots : AreInSlots (sizes_of l.superblock) g.N.NodeList.keeps l.initial.memo.nodes → AreInSlots (sizes_of l.superblock) g.N.NodeList.keeps l.memo.nodes;
+  slots : AreInSlots (sizes_of l.superblock) g.N.NodeList.keeps l.initial.memo.nodes
+      → AreInSlots (sizes_of l.superblock) g.N.NodeList.keeps l.memo.nodes;
   passes :
       (events : List Event) (depth : ℕ) → g.D.Disk.history l.initial.disk ≡ Some events → l.level ≤ depth
-      → below_failure l.superblock events depth l.level l.expected.to l.pointers ≡ None → below_failure l.superblock events depth l.level l.expected.to l.rest ≡ None;
+      → below_failure l.superblock events depth l.level l.expected.to l.pointers ≡ None
+      → below_failure l.superblock events depth l.level l.expected.to l.rest ≡ None;
   walks :
       (events : List Event) (kept : List Node) → g.D.Disk.history l.initial.disk ≡ Some events
       → Remembers l.superblock events g.N.NodeList.keeps kept l.initial.memo.digests.entries l.initial.memo.nodes
-      → WalksBelow l.superblock events g.N.NodeList.keeps kept l.memo.digests.entries l.memo.nodes l.expected.to l.level l.pointers l.rest l.below;
+      → WalksBelow l.superblock events g.N.NodeList.keeps kept l.memo.digests.entries l.memo.nodes l.expected.to l.level
+      l.pointers l.rest l.below;
 }
 
 abbrev pub decreases-walk_pointers-pointers : goal.decreases-walk_pointers-pointers

@@ -30,7 +30,8 @@ make_node-requires-clause-sound g c =
 pub returns-in_err-now-clause-rests : goal.returns-in_err-now-clause-rests
 returns-in_err-now-clause-rests g c =
     subst (λ (generation : ℕ). LeavesBe c.args.land.now c.make_node.new.land (g.D.Disk.history c.args.disk.now)
-    (g.D.Disk.history c.make_node.new.disk) (g.D.Disk.size c.args.disk.now) (g.D.Disk.size c.make_node.new.disk) generation)
+    (g.D.Disk.history c.make_node.new.disk) (g.D.Disk.size c.args.disk.now) (g.D.Disk.size c.make_node.new.disk)
+    generation)
     (leaf-dated c.empty_leaf-node.result c.args.next c.args.sub 0 c.empty_leaf-node.ensures.leaf)
     c.make_node.ensures.rests
 
@@ -52,7 +53,8 @@ returns-in-Some-clause-sound g c state events told_is holds unused =
 pub returns-in-Some-clause-rests : goal.returns-in-Some-clause-rests
 returns-in-Some-clause-rests g c =
     subst (λ (generation : ℕ). LeavesBe c.args.land.now c.make_node.new.land (g.D.Disk.history c.args.disk.now)
-    (g.D.Disk.history c.make_node.new.disk) (g.D.Disk.size c.args.disk.now) (g.D.Disk.size c.make_node.new.disk) generation)
+    (g.D.Disk.history c.make_node.new.disk) (g.D.Disk.size c.args.disk.now) (g.D.Disk.size c.make_node.new.disk)
+    generation)
     (leaf-dated c.empty_leaf-node.result c.args.next c.args.sub 0 c.empty_leaf-node.ensures.leaf)
     c.make_node.ensures.rests
 
@@ -114,7 +116,8 @@ returns-clause-begun g c =
 pub returns-clause-rests : goal.returns-clause-rests
 returns-clause-rests g c =
     subst (λ (generation : ℕ). LeavesBe c.args.land.now c.make_node.new.land (g.D.Disk.history c.args.disk.now)
-    (g.D.Disk.history c.make_node.new.disk) (g.D.Disk.size c.args.disk.now) (g.D.Disk.size c.make_node.new.disk) generation)
+    (g.D.Disk.history c.make_node.new.disk) (g.D.Disk.size c.args.disk.now) (g.D.Disk.size c.make_node.new.disk)
+    generation)
     (leaf-dated c.empty_leaf-node.result c.args.next c.args.sub 0 c.empty_leaf-node.ensures.leaf)
     c.make_node.ensures.rests
 

@@ -7,5 +7,7 @@ use Rattle.qg_space.proofs.runs.hold_all.Goals as goal
 
 pub loop-run-preserved : goal.loop-run-preserved
 loop-run-preserved c =
-    ap (λ (run : Run). set c.loop-run.runs c.loop-run.run-index run) (c.set_held.ensures ∙ ap with_held (sym c.run-item.is))
-    ∙ map_over_more with_held c.args.runs.now c.loop-run.runs c.loop-run.run-index c.run-item.result c.loop-run-test.true c.loop-run.invariant c.run-item.is
+    ap (λ (run : Run). set c.loop-run.runs c.loop-run.run-index run) (c.set_held.ensures
+    ∙ ap with_held (sym c.run-item.is))
+    ∙ map_over_more with_held c.args.runs.now c.loop-run.runs c.loop-run.run-index c.run-item.result
+    c.loop-run-test.true c.loop-run.invariant c.run-item.is

@@ -11,8 +11,16 @@ pub overflow_add-end : goal.overflow_add-end
 overflow_add-end c =
     let served = SizesFit-is_served c.args.sizes.now c.requires.served in
     let run = c.index-runs-number.result in
-    let whole = whole_at c.args.sizes.now data_begin c.args.runs.now c.loop-number.number run c.requires.apart c.loop-number-test.true in
-    omega (arith, whole.within, ap (λ (r : Run). end_of r.extent) c.index-runs-number.is, ap (λ (e : Element). end_of e) c.extent-extent.ensures, c.value-in-loop-number.ensures)
+    let whole = whole_at c.args.sizes.now data_begin c.args.runs.now c.loop-number.number run c.requires.apart
+    c.loop-number-test.true in
+    omega (
+      arith,
+      whole.within,
+      ap (λ (r : Run). end_of r.extent) c.index-runs-number.is,
+      ap (λ (e : Element). end_of e)
+          c.extent-extent.ensures,
+      c.value-in-loop-number.ensures,
+    )
 
 pub loop-number-preserved : goal.loop-number-preserved
 loop-number-preserved c =
@@ -22,6 +30,21 @@ loop-number-preserved c =
     let next : suc n ≡ n + 1 = omega arith in
     let taken = end_taken data_begin runs n run c.loop-number-test.true in
     let more = ap (λ m. end_of_last data_begin (take m (extents_of runs))) next in (
-      front_more runs n run c.loop-number-test.true c.index-runs-number.is c.loop-number.invariant.0 (omega (arith, ap (λ (e : Element). e.address) c.extent-extent.ensures, c.value.ensures, c.if-value-end.false, c.loop-number.invariant.1)),
-      omega (arith, taken, more, ap (λ (r : Run). end_of r.extent) c.index-runs-number.is, ap (λ (e : Element). end_of e) c.extent-extent.ensures, c.value-in-loop-number.ensures),
+      front_more runs n run c.loop-number-test.true c.index-runs-number.is c.loop-number.invariant.0
+          (omega (
+            arith,
+            ap (λ (e : Element). e.address) c.extent-extent.ensures,
+            c.value.ensures,
+            c.if-value-end.false,
+            c.loop-number.invariant.1,
+          )),
+      omega (
+        arith,
+        taken,
+        more,
+        ap (λ (r : Run). end_of r.extent) c.index-runs-number.is,
+        ap
+            (λ (e : Element). end_of e) c.extent-extent.ensures,
+        c.value-in-loop-number.ensures,
+      ),
     )

@@ -37,10 +37,12 @@ loop-run-preserved c =
 pub returns-clause-bytes : goal.returns-clause-bytes
 returns-clause-bytes c =
     let runs = c.args.runs.now in
-    c.loop-run.invariant ∙ ap (sum_by bytes_if_present) (take_all c.loop-run.run-index runs c.loop-run-test.false) ∙ sym (bytes_of_present runs)
+    c.loop-run.invariant ∙ ap (sum_by bytes_if_present) (take_all c.loop-run.run-index runs c.loop-run-test.false)
+    ∙ sym (bytes_of_present runs)
 
 pub returns-clause-most : goal.returns-clause-most
 returns-clause-most c =
     let runs = c.args.runs.now in
-    let bytes = c.loop-run.invariant ∙ ap (sum_by bytes_if_present) (take_all c.loop-run.run-index runs c.loop-run-test.false) in
+    let bytes = c.loop-run.invariant
+    ∙ ap (sum_by bytes_if_present) (take_all c.loop-run.run-index runs c.loop-run-test.false) in
     omega (arith, bytes, bytes_within c.args.sizes.now runs c.requires.apart)

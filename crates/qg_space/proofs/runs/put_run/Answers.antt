@@ -11,15 +11,18 @@ use Rattle.qg_space.proofs.runs.put_run.Goals.{In_ok-insert}
 
 pub runs_before-place-requires : goal.runs_before-place-requires
 runs_before-place-requires c =
-    subst (IsNonDecreasingBy (λ (run : Run). run.extent.address)) (sym c.deref.ensures.value) (addresses_rise c.args.sizes.now data_begin c.args.runs.now.items c.requires.apart)
+    subst (IsNonDecreasingBy (λ (run : Run). run.extent.address)) (sym c.deref.ensures.value)
+    (addresses_rise c.args.sizes.now data_begin c.args.runs.now.items c.requires.apart)
 
 pub new-requires : goal.new-requires
 new-requires c = clear_fits c.args.sizes.now c.args.runs.now.items c.args.extent c.requires.served c.requires.clear
 
 put : (c : In_ok-insert) → IsPut c.args.sizes.now c.args.runs.now.items c.insert.new.self.items c.args.extent
 put c =
-    let put' = c.in_ok-insert.ensures.items ∙ ap (λ (run : Run). insert c.args.runs.now.items c.runs_before-place.result run) c.new.ensures in
-    put_kept c.args.sizes.now c.args.runs.now.items c.deref.result.now c.insert.new.self.items c.runs_before-place.result c.args.extent c.requires.apart c.requires.clear c.deref.ensures.value
+    let put' = c.in_ok-insert.ensures.items
+    ∙ ap (λ (run : Run). insert c.args.runs.now.items c.runs_before-place.result run) c.new.ensures in
+    put_kept c.args.sizes.now c.args.runs.now.items c.deref.result.now c.insert.new.self.items
+    c.runs_before-place.result c.args.extent c.requires.apart c.requires.clear c.deref.ensures.value
     c.runs_before-place.ensures.bound c.runs_before-place.ensures.before c.runs_before-place.ensures.others put'
 
 pub returns-clause-apart : goal.returns-clause-apart
@@ -33,4 +36,5 @@ returns-clause-held c = (put c).held
 
 pub returns-clause-before : goal.returns-clause-before
 returns-clause-before c =
-    same_before_put c.args.runs.now.items c.insert.new.self.items c.runs_before-place.result _ (omega (arith, c.runs_before-place.ensures.bound, ap length c.deref.ensures.value)) c.in_ok-insert.ensures.items
+    same_before_put c.args.runs.now.items c.insert.new.self.items c.runs_before-place.result _
+    (omega (arith, c.runs_before-place.ensures.bound, ap length c.deref.ensures.value)) c.in_ok-insert.ensures.items

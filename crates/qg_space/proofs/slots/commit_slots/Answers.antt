@@ -13,4 +13,5 @@ loop-slot-preserved c =
     let unused : Slot = record { present = false; held = false } in
     let slot = get_or now i unused in
     ap (λ (s : Slot). set now i s) c.committed_slot.ensures
-    ∙ map_over_more committed_slot c.args.slots.now now i slot c.loop-slot-test.true c.loop-slot.invariant (get_or_default now i unused slot (omega (arith, c.loop-slot.auto.slots)))
+    ∙ map_over_more committed_slot c.args.slots.now now i slot c.loop-slot-test.true c.loop-slot.invariant
+    (get_or_default now i unused slot (omega (arith, c.loop-slot.auto.slots)))

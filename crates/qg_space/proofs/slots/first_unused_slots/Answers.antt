@@ -19,7 +19,8 @@ loop-number-init c = record {
 pub returns-then-len-count : goal.returns-then-len-count
 returns-then-len-count c =
     let those = c.loop-number.invariant.those in
-    those ∙ where_in_front is_unused c.args.sizes.now c.args.slots.now c.loop-number.number c.args.count (sym (ap length those) ∙ sym c.len.ensures ∙ c.if-len-count.true)
+    those ∙ where_in_front is_unused c.args.sizes.now c.args.slots.now c.loop-number.number c.args.count
+    (sym (ap length those) ∙ sym c.len.ensures ∙ c.if-len-count.true)
 
 pub loop-number-preserved : goal.loop-number-preserved
 loop-number-preserved c =
@@ -30,19 +31,32 @@ loop-number-preserved c =
     let few = c.loop-number.invariant.few in
     let differ = c.if-len-count.false in
     let known = c.loop-number.invariant.those in
-    let more = where_more is_unused sizes slots n slot c.loop-number-test.true (get_or_default slots n nothing slot c.loop-number-test.true) in
+    let more = where_more is_unused sizes slots n slot c.loop-number-test.true
+    (get_or_default slots n nothing slot c.loop-number-test.true) in
     elim c.if-is_unused.branch [
       | then-is_unused+in_ok-push w ↦
           let here : is_unused slot ≡ true = sym c.is_unused.ensures ∙ w.if-is_unused.true in
-          let pushed : c.if-is_unused.list ≡ c.loop-number.list ++ slot_at sizes n ∷ [] = w.list-is ∙ w.in_ok-push.ensures.ok ∙ ap (λ a. c.loop-number.list ++ a ∷ []) w.address_of.ensures in
+          let pushed : c.if-is_unused.list ≡ c.loop-number.list ++ slot_at sizes n ∷ [] = w.list-is
+          ∙ w.in_ok-push.ensures.ok ∙ ap (λ a. c.loop-number.list ++ a ∷ []) w.address_of.ensures in
           record {
-            those = pushed ∙ ap (λ ns. ns ++ slot_at sizes n ∷ []) known ∙ ap (λ b. slots_where is_unused sizes 0 (take n slots) ++ cond b (slot_at sizes n ∷ []) []) (sym here) ∙ sym more;
-            few = omega (arith, ap length pushed, length_push c.loop-number.list (slot_at sizes n), few, differ, c.len.ensures);
+            those = pushed ∙ ap (λ ns. ns ++ slot_at sizes n ∷ []) known
+                ∙ ap (λ b. slots_where is_unused sizes 0 (take n slots) ++ cond b (slot_at sizes n ∷ []) []) (sym here)
+                ∙ sym more;
+            few = omega (
+              arith,
+              ap length pushed,
+              length_push c.loop-number.list (slot_at sizes n),
+              few,
+              differ,
+              c.len.ensures,
+            );
           }
       | else-is_unused w ↦
           let here : is_unused slot ≡ false = sym c.is_unused.ensures ∙ w.if-is_unused.false in
           record {
-            those = w.list-is ∙ known ∙ sym (append-nil (slots_where is_unused sizes 0 (take n slots))) ∙ ap (λ b. slots_where is_unused sizes 0 (take n slots) ++ cond b (slot_at sizes n ∷ []) []) (sym here) ∙ sym more;
+            those = w.list-is ∙ known ∙ sym (append-nil (slots_where is_unused sizes 0 (take n slots)))
+                ∙ ap (λ b. slots_where is_unused sizes 0 (take n slots) ++ cond b (slot_at sizes n ∷ []) []) (sym here)
+                ∙ sym more;
             few = omega (arith, ap length w.list-is, few);
           }
     ]

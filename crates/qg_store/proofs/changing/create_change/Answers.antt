@@ -154,7 +154,8 @@ returns-clause-kept g c =
     c.in_ok-tree.ensures.rests)
     (made_next tree c.args.sub next kept.fs.tree.next c.next-next.ensures c.in_ok-tree.ensures.begun.is)
     (ap (λ (k : Kept). k.fs.others.items) group.rest ∙ added.trees)
-    (made_snapshots kept new tree c.new.result c.new.ensures (ap (λ (k : Kept). k.snapshots) group.rest ∙ added.snapshots))
+    (made_snapshots kept new tree c.new.result c.new.ensures (ap (λ (k : Kept). k.snapshots) group.rest
+    ∙ added.snapshots))
     (quota-created kept mid new next same c.next-next.ensures group.tracked group.held c.args.sub group.quota)
     (group-created kept mid new next same c.next-next.ensures group.tracked group.held c.args.sub group.quota)
     (rest-now kept new c.create.new.land c.create.new.book c.stand_for-2.new.self c.owner-hand.result
@@ -185,7 +186,8 @@ returns-clause-changed g c = λ state keeps none.
     c.in_ok-tree.ensures.rests)
     (made_next tree c.args.sub next kept.fs.tree.next c.next-next.ensures c.in_ok-tree.ensures.begun.is)
     (ap (λ (k : Kept). k.fs.others.items) group.rest ∙ added.trees)
-    (made_snapshots kept new tree c.new.result c.new.ensures (ap (λ (k : Kept). k.snapshots) group.rest ∙ added.snapshots))
+    (made_snapshots kept new tree c.new.result c.new.ensures (ap (λ (k : Kept). k.snapshots) group.rest
+    ∙ added.snapshots))
     (quota-created kept mid new next same c.next-next.ensures group.tracked group.held c.args.sub group.quota)
     (group-created kept mid new next same c.next-next.ensures group.tracked group.held c.args.sub group.quota)
     (rest-now kept new c.create.new.land c.create.new.book c.stand_for-2.new.self c.owner-hand.result

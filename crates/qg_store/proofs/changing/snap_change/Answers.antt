@@ -174,7 +174,8 @@ returns-clause-changed g c = λ state keeps none.
     let parents = c.args.parents.now in
     let same = ap (λ (k : Kept). k.quota) added.rest ∙ ap (λ (k : Kept). k.quota) c.mark_snapshot.ensures in
     let made = c.in_ok-tree.ensures.copied state parents
-    (holds-for kept history bytes c.args.copy state c.stand_for.new.self c.requires.kept keeps table c.stand_for.ensures)
+    (holds-for kept history bytes c.args.copy state c.stand_for.new.self c.requires.kept keeps table
+    c.stand_for.ensures)
     (source_known kept history state c.requires.kept.fitted keeps)
     (tree-is kept history bytes state (other_names state) c.requires.kept keeps kept.fs.tree (hand-among kept.fs))
     (number-new kept state history c.args.copy c.requires.kept.fitted keeps c.requires.number) in

@@ -79,7 +79,8 @@ pub returns-in_err-commit_pending-clause-so_far : goal.returns-in_err-commit_pen
 returns-in_err-commit_pending-clause-so_far g c = λ state events keeps told.
     so-far-first state c.args.command.now events (g.D.Disk.history c.commit_pending.new.disk)
     (g.D.Disk.history c.commit_pending.new.disk) (comes-group c.args.command.now c.requires.group)
-    (group-late c.args.kept.now state (g.D.Disk.history c.args.disk.now) (g.D.Disk.size c.args.disk.now) c.requires.kept keeps
+    (group-late c.args.kept.now state (g.D.Disk.history c.args.disk.now) (g.D.Disk.size c.args.disk.now) c.requires.kept
+    keeps
     c.in_ok-why.ensures.table c.args.command.now c.requires.group
     (asked-so c.args.kept.now (quota_of c.args.kept.now.quota) c.as_slice.result.now c.args.command.now
     c.refusal_of.result None c.as_slice.ensures c.refusal_of.ensures c.in_default.is)
@@ -125,7 +126,8 @@ pub returns-in_err-change_groups-clause-so_far : goal.returns-in_err-change_grou
 returns-in_err-change_groups-clause-so_far g c = λ state events keeps told.
     so-far-first state c.args.command.now events (g.D.Disk.history c.commit_pending.new.disk)
     (g.D.Disk.history c.commit_pending.new.disk) (comes-group c.args.command.now c.requires.group)
-    (group-late c.args.kept.now state (g.D.Disk.history c.args.disk.now) (g.D.Disk.size c.args.disk.now) c.requires.kept keeps
+    (group-late c.args.kept.now state (g.D.Disk.history c.args.disk.now) (g.D.Disk.size c.args.disk.now) c.requires.kept
+    keeps
     c.in_ok-why.ensures.table c.args.command.now c.requires.group
     (asked-so c.args.kept.now (quota_of c.args.kept.now.quota) c.as_slice.result.now c.args.command.now
     c.refusal_of.result None c.as_slice.ensures c.refusal_of.ensures c.in_default.is)
@@ -173,7 +175,8 @@ returns-in_err-commit_now-clause-so_far g c = λ state events keeps told.
     c.commit_now.new.kept events between between first change refl
     (held-regrouped first.before change.changed given Done c.requires.group change.changes)
     (g.D.Disk.history c.commit_now.new.disk) (comes-group given c.requires.group)
-    (group-late c.args.kept.now state (g.D.Disk.history c.args.disk.now) (g.D.Disk.size c.args.disk.now) c.requires.kept keeps
+    (group-late c.args.kept.now state (g.D.Disk.history c.args.disk.now) (g.D.Disk.size c.args.disk.now) c.requires.kept
+    keeps
     c.in_ok-why.ensures.table c.args.command.now c.requires.group
     (asked-so c.args.kept.now (quota_of c.args.kept.now.quota) c.as_slice.result.now c.args.command.now
     c.refusal_of.result None c.as_slice.ensures c.refusal_of.ensures c.in_default.is)
@@ -230,7 +233,8 @@ returns-clause-step g c = λ state events keeps told.
     does-structural state given Done mid new c.commit_now.new.kept events between between first change refl
     (held-regrouped first.before change.changed given Done c.requires.group change.changes)
     (g.D.Disk.history c.commit_now.new.disk) second
-    (group-late c.args.kept.now state (g.D.Disk.history c.args.disk.now) (g.D.Disk.size c.args.disk.now) c.requires.kept keeps
+    (group-late c.args.kept.now state (g.D.Disk.history c.args.disk.now) (g.D.Disk.size c.args.disk.now) c.requires.kept
+    keeps
     c.in_ok-why.ensures.table c.args.command.now c.requires.group
     (asked-so c.args.kept.now (quota_of c.args.kept.now.quota) c.as_slice.result.now c.args.command.now
     c.refusal_of.result None c.as_slice.ensures c.refusal_of.ensures c.in_default.is)
@@ -249,7 +253,8 @@ returns-clause-so_far g c = λ state events keeps told.
     c.commit_now.new.kept events between between first change refl
     (held-regrouped first.before change.changed given Done c.requires.group change.changes)
     (g.D.Disk.history c.commit_now.new.disk) (comes-group given c.requires.group)
-    (group-late c.args.kept.now state (g.D.Disk.history c.args.disk.now) (g.D.Disk.size c.args.disk.now) c.requires.kept keeps
+    (group-late c.args.kept.now state (g.D.Disk.history c.args.disk.now) (g.D.Disk.size c.args.disk.now) c.requires.kept
+    keeps
     c.in_ok-why.ensures.table c.args.command.now c.requires.group
     (asked-so c.args.kept.now (quota_of c.args.kept.now.quota) c.as_slice.result.now c.args.command.now
     c.refusal_of.result None c.as_slice.ensures c.refusal_of.ensures c.in_default.is)

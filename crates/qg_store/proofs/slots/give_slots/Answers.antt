@@ -5,10 +5,13 @@ use Rattle.qg_store.proofs.slots.give_slots.Goals.{then-has_slot, else-has_slot}
 
 pub loop-slot-preserved : goal.loop-slot-preserved
 loop-slot-preserved c =
-    gives_more c.args.space.now c.loop-slot.space c.if-has_slot.space c.args.slots.now c.loop-slot.slot-index c.slot-item.result c.loop-slot-test.true c.slot-item.is c.loop-slot.invariant
+    gives_more c.args.space.now c.loop-slot.space c.if-has_slot.space c.args.slots.now c.loop-slot.slot-index
+    c.slot-item.result c.loop-slot-test.true c.slot-item.is c.loop-slot.invariant
     (elim c.if-has_slot.branch [
-      | then-has_slot w ↦ gives_one c.loop-slot.space c.if-has_slot.space c.slot-item.result (w.space-is ∙ w.give_slot.ensures)
-      | else-has_slot w ↦ lacks_one c.loop-slot.space c.if-has_slot.space c.slot-item.result w.space-is (sym w.if-has_slot.ensures)
+      | then-has_slot w ↦ gives_one c.loop-slot.space c.if-has_slot.space c.slot-item.result (w.space-is
+          ∙ w.give_slot.ensures)
+      | else-has_slot w ↦ lacks_one c.loop-slot.space c.if-has_slot.space c.slot-item.result w.space-is
+          (sym w.if-has_slot.ensures)
     ])
 
 pub returns : goal.returns

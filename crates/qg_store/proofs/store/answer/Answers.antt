@@ -171,7 +171,8 @@ returns-in-Commit-clause-err g c =
 
 pub returns-in-SubCreate-clause-step : goal.returns-in-SubCreate-clause-step
 returns-in-SubCreate-clause-step g c = λ state events keeps told.
-    subst (λ (command : Command). IfOk c.create.result (λ answer. AnswersOn state command answer c.create.new.kept events
+    subst (λ (command : Command). IfOk c.create.result
+    (λ answer. AnswersOn state command answer c.create.new.kept events
     (g.D.Disk.history c.create.new.disk))) (sym c.in-SubCreate.is) (c.create.ensures.step state events keeps told)
 
 pub returns-in-SubCreate-clause-so_far : goal.returns-in-SubCreate-clause-so_far
@@ -212,7 +213,8 @@ returns-in-Snap-clause-unchanged g c = c.snap.ensures.refused
 
 pub returns-in-Snap-clause-still : goal.returns-in-Snap-clause-still
 returns-in-Snap-clause-still g c =
-    still-structural c.args.command.now (Snap c.in-Snap.sub c.in-Snap.groups) c.args.kept.now.pending _ c.in-Snap.is refl
+    still-structural c.args.command.now (Snap c.in-Snap.sub c.in-Snap.groups) c.args.kept.now.pending _ c.in-Snap.is
+    refl
     (λ same. cc)
 
 pub returns-in-Snap-clause-err : goal.returns-in-Snap-clause-err
@@ -220,12 +222,14 @@ returns-in-Snap-clause-err g c =
     let at = c.in-Snap in
     let is : c.args.command.now ≡ Snap at.sub c.as_slice.result.now =
     at.is ∙ ap (λ (groups : List ℕ). Snap at.sub groups) (sym c.as_slice.ensures) in
-    last-given c.args.command.now (Snap at.sub c.as_slice.result.now) c.args.kept.now c.snap.new.kept _ _ c.snap.result is
+    last-given c.args.command.now (Snap at.sub c.as_slice.result.now) c.args.kept.now c.snap.new.kept _ _ c.snap.result
+    is
     c.snap.ensures.err
 
 pub returns-in-Delete-clause-step : goal.returns-in-Delete-clause-step
 returns-in-Delete-clause-step g c = λ state events keeps told.
-    subst (λ (command : Command). IfOk c.delete.result (λ answer. AnswersOn state command answer c.delete.new.kept events
+    subst (λ (command : Command). IfOk c.delete.result
+    (λ answer. AnswersOn state command answer c.delete.new.kept events
     (g.D.Disk.history c.delete.new.disk))) (sym c.in-Delete.is) (c.delete.ensures.step state events keeps told)
 
 pub returns-in-Delete-clause-so_far : goal.returns-in-Delete-clause-so_far

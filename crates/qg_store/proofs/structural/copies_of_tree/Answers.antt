@@ -24,7 +24,8 @@ returns-in_err-nodes-clause-sound g c = λ state events told keeps.
     handed-sound ℕ c.from_residual.result _ (handed c.from_residual.result _ c.from_residual.ensures.1)
     (c.in_err-nodes.ensures.sound state kept.fs.refs events told
     (state-held kept.fs history bytes state keeps.mine keeps.files
-    (tree-kept kept state history bytes c.requires.kept keeps (subst IsTable c.refs.ensures c.len-ascending.ensures.table)) keeps.keeps)
+    (tree-kept kept state history bytes c.requires.kept keeps
+    (subst IsTable c.refs.ensures c.len-ascending.ensures.table)) keeps.keeps)
     (key-of-value kept.fs.tree.owner state.subvolumes keeps.mine keeps.keeps.there)
     (tree-is kept history bytes state (other_names state) c.requires.kept keeps kept.fs.tree (hand-among kept.fs)))
 
@@ -36,7 +37,8 @@ returns-clause-counted g c = λ state keeps.
     ap (λ (n : ℕ). 18 + n)
     (c.in_ok-nodes.ensures.counted state kept.fs.refs
     (state-held kept.fs history bytes state keeps.mine keeps.files
-    (tree-kept kept state history bytes c.requires.kept keeps (subst IsTable c.refs.ensures c.len-ascending.ensures.table)) keeps.keeps)
+    (tree-kept kept state history bytes c.requires.kept keeps
+    (subst IsTable c.refs.ensures c.len-ascending.ensures.table)) keeps.keeps)
     (key-of-value kept.fs.tree.owner state.subvolumes keeps.mine keeps.keeps.there)
     (tree-is kept history bytes state (other_names state) c.requires.kept keeps kept.fs.tree (hand-among kept.fs)))
 
@@ -47,7 +49,8 @@ returns-in_err-nodes-clause-looked g c =
 pub returns-in_err-nodes-clause-kept : goal.returns-in_err-nodes-clause-kept
 returns-in_err-nodes-clause-kept g c =
     kept-looked c.args.kept.now _ _ _ _ _ c.requires.kept
-    (looked-land c.args.kept.now c.count_nodes.new.land _ _ _ _ c.in_err-nodes.ensures.read c.in_err-nodes.ensures.space)
+    (looked-land c.args.kept.now c.count_nodes.new.land _ _ _ _ c.in_err-nodes.ensures.read
+    c.in_err-nodes.ensures.space)
     c.in_err-nodes.ensures.editable.backed
 
 pub returns-then-nodes-gt-MOST_NODES-clause-looked : goal.returns-then-nodes-gt-MOST_NODES-clause-looked

@@ -76,8 +76,10 @@ pub returns-in_err-commit_pending-clause-so_far : goal.returns-in_err-commit_pen
 returns-in_err-commit_pending-clause-so_far g c = λ state events keeps told.
     so-far-first state SubCreate events (g.D.Disk.history c.commit_pending.new.disk)
     (g.D.Disk.history c.commit_pending.new.disk) refl
-    (create-late c.args.kept.now state (g.D.Disk.history c.args.disk.now) (g.D.Disk.size c.args.disk.now) c.requires.kept
-    keeps c.in_ok-why.ensures.table (too-many-by c.args.kept.now 0 c.number_next-number.result c.are_too_many.result false
+    (create-late c.args.kept.now state (g.D.Disk.history c.args.disk.now) (g.D.Disk.size c.args.disk.now)
+    c.requires.kept
+    keeps c.in_ok-why.ensures.table
+    (too-many-by c.args.kept.now 0 c.number_next-number.result c.are_too_many.result false
     c.number_next-number.ensures.value c.are_too_many.ensures c.if-are_too_many.false) ∙ sym c.in_ok-why.ensures.value
     ∙ c.in_default.is) refl
     (c.in_err-commit_pending.ensures.so_far state events keeps told)
@@ -116,8 +118,10 @@ pub returns-in_err-create_change-clause-so_far : goal.returns-in_err-create_chan
 returns-in_err-create_change-clause-so_far g c = λ state events keeps told.
     so-far-first state SubCreate events (g.D.Disk.history c.commit_pending.new.disk)
     (g.D.Disk.history c.create_change.new.disk) refl
-    (create-late c.args.kept.now state (g.D.Disk.history c.args.disk.now) (g.D.Disk.size c.args.disk.now) c.requires.kept
-    keeps c.in_ok-why.ensures.table (too-many-by c.args.kept.now 0 c.number_next-number.result c.are_too_many.result false
+    (create-late c.args.kept.now state (g.D.Disk.history c.args.disk.now) (g.D.Disk.size c.args.disk.now)
+    c.requires.kept
+    keeps c.in_ok-why.ensures.table
+    (too-many-by c.args.kept.now 0 c.number_next-number.result c.are_too_many.result false
     c.number_next-number.ensures.value c.are_too_many.ensures c.if-are_too_many.false) ∙ sym c.in_ok-why.ensures.value
     ∙ c.in_default.is)
     c.in_err-create_change.ensures.apart.0
@@ -163,8 +167,10 @@ returns-in_err-commit_now-clause-so_far g c = λ state events keeps told.
     c.commit_now.new.kept events between after first change c.in_ok-create_change.ensures.apart.0
     (held-created first.before change.changed (Sub c.new-sub.result) change.changes)
     (g.D.Disk.history c.commit_now.new.disk) refl
-    (create-late c.args.kept.now state (g.D.Disk.history c.args.disk.now) (g.D.Disk.size c.args.disk.now) c.requires.kept
-    keeps c.in_ok-why.ensures.table (too-many-by c.args.kept.now 0 c.number_next-number.result c.are_too_many.result false
+    (create-late c.args.kept.now state (g.D.Disk.history c.args.disk.now) (g.D.Disk.size c.args.disk.now)
+    c.requires.kept
+    keeps c.in_ok-why.ensures.table
+    (too-many-by c.args.kept.now 0 c.number_next-number.result c.are_too_many.result false
     c.number_next-number.ensures.value c.are_too_many.ensures c.if-are_too_many.false) ∙ sym c.in_ok-why.ensures.value
     ∙ c.in_default.is)
     (c.in_ok-commit_pending.ensures.so_far state events keeps told)
@@ -233,8 +239,10 @@ returns-clause-so_far g c = λ state events keeps told.
     c.commit_now.new.kept events between after first change c.in_ok-create_change.ensures.apart.0
     (held-created first.before change.changed (Sub c.new-sub.result) change.changes)
     (g.D.Disk.history c.commit_now.new.disk) refl
-    (create-late c.args.kept.now state (g.D.Disk.history c.args.disk.now) (g.D.Disk.size c.args.disk.now) c.requires.kept
-    keeps c.in_ok-why.ensures.table (too-many-by c.args.kept.now 0 c.number_next-number.result c.are_too_many.result false
+    (create-late c.args.kept.now state (g.D.Disk.history c.args.disk.now) (g.D.Disk.size c.args.disk.now)
+    c.requires.kept
+    keeps c.in_ok-why.ensures.table
+    (too-many-by c.args.kept.now 0 c.number_next-number.result c.are_too_many.result false
     c.number_next-number.ensures.value c.are_too_many.ensures c.if-are_too_many.false) ∙ sym c.in_ok-why.ensures.value
     ∙ c.in_default.is)
     (c.in_ok-commit_pending.ensures.so_far state events keeps told)

@@ -120,7 +120,8 @@ returns-then-are_too_many-clause-step g c = λ state events given told.
     given
     keeps c.args.sub (sym c.turn_to.ensures.there ∙ c.if-not-turn_to.false))
     (sym c.in_ok-why.ensures ∙ c.in_default.is)
-    (too-many-by kept (length c.args.parents.now) c.number_next-number.result c.are_too_many.result true c.number_next-number.ensures.value
+    (too-many-by kept (length c.args.parents.now) c.number_next-number.result c.are_too_many.result true
+    c.number_next-number.ensures.value
     c.are_too_many.ensures c.if-are_too_many.true)))
 
 pub returns-then-are_too_many-clause-so_far : goal.returns-then-are_too_many-clause-so_far
@@ -205,7 +206,8 @@ returns-in_err-commit_pending-clause-sound g c = λ state events told given.
 
 pub returns-in_err-commit_pending-clause-err : goal.returns-in_err-commit_pending-clause-err
 returns-in_err-commit_pending-clause-err g c =
-    last-any (Snap c.args.sub c.args.parents.now) c.args.kept.now c.commit_pending.new.kept (g.D.Disk.history c.args.disk.now)
+    last-any (Snap c.args.sub c.args.parents.now) c.args.kept.now c.commit_pending.new.kept
+    (g.D.Disk.history c.args.disk.now)
     (g.D.Disk.history c.commit_pending.new.disk) c.from_residual-in_err-commit_pending.result
     (inl (c.in_err-commit_pending.ensures.err ∙ c.turn_to.ensures.superblock))
 
@@ -268,8 +270,10 @@ returns-in_err-snap_change-clause-err g c =
     let kept = c.args.kept.now in
     let before = g.D.Disk.history c.args.disk.now in
     let after = g.D.Disk.history c.snap_change.new.disk in
-    last-any (Snap c.args.sub c.args.parents.now) kept c.snap_change.new.kept before after c.from_residual-in_err-snap_change.result
-    (last-settled (Snap c.args.sub c.args.parents.now) kept c.turn_to.new.kept c.commit_pending.new.kept c.snap_change.new.kept before
+    last-any (Snap c.args.sub c.args.parents.now) kept c.snap_change.new.kept before after
+    c.from_residual-in_err-snap_change.result
+    (last-settled (Snap c.args.sub c.args.parents.now) kept c.turn_to.new.kept c.commit_pending.new.kept
+    c.snap_change.new.kept before
     after refl c.turn_to.ensures.superblock (ap (λ (k : Kept). k.pending) c.turn_to.ensures.same.rest)
     c.in_ok-commit_pending.ensures.settled c.in_err-snap_change.ensures.superblock (λ state events given told.
     let keeps = c.turn_to.ensures.keeps state before (g.D.Disk.size c.args.disk.now) (other_names state)
@@ -296,7 +300,8 @@ returns-in_err-commit_now-clause-so_far g c = λ state events given told.
     let first = c.in_ok-commit_pending.ensures.committed state events keeps told in
     let change = c.in_ok-snap_change.ensures.changed first.before first.keeps
     c.in_ok-commit_pending.ensures.settled.pending in
-    so-far-second state (Snap c.args.sub c.args.parents.now) (Sub c.new-copy.result) c.commit_pending.new.kept c.snap_change.new.kept
+    so-far-second state (Snap c.args.sub c.args.parents.now) (Sub c.new-copy.result) c.commit_pending.new.kept
+    c.snap_change.new.kept
     c.commit_now.new.kept events between after first change c.in_ok-snap_change.ensures.apart.0
     (held-snapped first.before change.changed c.args.sub c.args.parents.now (Sub c.new-copy.result) change.changes)
     (g.D.Disk.history c.commit_now.new.disk) refl
@@ -334,8 +339,10 @@ returns-in_err-commit_now-clause-err g c =
     let between = g.D.Disk.history c.commit_pending.new.disk in
     let after = g.D.Disk.history c.snap_change.new.disk in
     let last = g.D.Disk.history c.commit_now.new.disk in
-    last-any (Snap c.args.sub c.args.parents.now) kept c.commit_now.new.kept before last c.from_residual-in_err-commit_now.result
-    (last-settled (Snap c.args.sub c.args.parents.now) kept c.turn_to.new.kept c.commit_pending.new.kept c.commit_now.new.kept before
+    last-any (Snap c.args.sub c.args.parents.now) kept c.commit_now.new.kept before last
+    c.from_residual-in_err-commit_now.result
+    (last-settled (Snap c.args.sub c.args.parents.now) kept c.turn_to.new.kept c.commit_pending.new.kept
+    c.commit_now.new.kept before
     last refl c.turn_to.ensures.superblock (ap (λ (k : Kept). k.pending) c.turn_to.ensures.same.rest)
     c.in_ok-commit_pending.ensures.settled
     (c.in_err-commit_now.ensures.err ∙ c.in_ok-snap_change.ensures.superblock) (λ state events given told.
@@ -344,7 +351,8 @@ returns-in_err-commit_now-clause-err g c =
     let first = c.in_ok-commit_pending.ensures.committed state events keeps told in
     let change = c.in_ok-snap_change.ensures.changed first.before first.keeps
     c.in_ok-commit_pending.ensures.settled.pending in
-    made-second state (Snap c.args.sub c.args.parents.now) (Sub c.new-copy.result) c.commit_pending.new.kept c.snap_change.new.kept
+    made-second state (Snap c.args.sub c.args.parents.now) (Sub c.new-copy.result) c.commit_pending.new.kept
+    c.snap_change.new.kept
     c.commit_now.new.kept events between after first change c.in_ok-snap_change.ensures.apart.0
     (held-snapped first.before change.changed c.args.sub c.args.parents.now (Sub c.new-copy.result) change.changes) last
     (c.in_err-commit_now.ensures.so_far change.changed first.between (other_names first.before) change.keeps change.room
@@ -365,7 +373,8 @@ returns-clause-step g c = λ state events given told.
     change.room (c.in_ok-snap_change.ensures.apart.0 ∙ first.told) in
     let few = too-many-by kept (length c.args.parents.now) c.number_next-number.result c.are_too_many.result false
     c.number_next-number.ensures.value c.are_too_many.ensures c.if-are_too_many.false in
-    does-structural state (Snap c.args.sub c.args.parents.now) (Sub c.new-copy.result) c.commit_pending.new.kept c.snap_change.new.kept
+    does-structural state (Snap c.args.sub c.args.parents.now) (Sub c.new-copy.result) c.commit_pending.new.kept
+    c.snap_change.new.kept
     c.commit_now.new.kept events between after first change c.in_ok-snap_change.ensures.apart.0
     (held-snapped first.before change.changed c.args.sub c.args.parents.now (Sub c.new-copy.result) change.changes)
     (g.D.Disk.history c.commit_now.new.disk) second
@@ -389,7 +398,8 @@ returns-clause-so_far g c = λ state events given told.
     let first = c.in_ok-commit_pending.ensures.committed state events keeps told in
     let change = c.in_ok-snap_change.ensures.changed first.before first.keeps
     c.in_ok-commit_pending.ensures.settled.pending in
-    so-far-second state (Snap c.args.sub c.args.parents.now) (Sub c.new-copy.result) c.commit_pending.new.kept c.snap_change.new.kept
+    so-far-second state (Snap c.args.sub c.args.parents.now) (Sub c.new-copy.result) c.commit_pending.new.kept
+    c.snap_change.new.kept
     c.commit_now.new.kept events between after first change c.in_ok-snap_change.ensures.apart.0
     (held-snapped first.before change.changed c.args.sub c.args.parents.now (Sub c.new-copy.result) change.changes)
     (g.D.Disk.history c.commit_now.new.disk) refl

@@ -16,7 +16,8 @@ use Rattle.qg_survey.specs.Surveying.{AreRead, EndBelow, GoesOn, link_at}
 use Rattle.qg_survey.proofs.Reading.{none-there, on-err}
 use Rattle.qg_survey.proofs.Rounds.{surveyed-on, surveyed-stops}
 use Rattle.qg_survey.proofs.Stepped.{ends-there, goes-higher, goes-none, inner-goes, leaf-goes}
-use Rattle.qg_survey.proofs.surveying.+surveying.Goals.{survey_under-then-level-gt0+in_ok-survey_each, survey_under-else-level-gt0}
+use Rattle.qg_survey.proofs.surveying.+surveying.Goals.{survey_under-then-level-gt0+in_ok-survey_each}
+use Rattle.qg_survey.proofs.surveying.+surveying.Goals.{survey_under-else-level-gt0}
 use Rattle.qg_survey.proofs.surveying.+surveying.Goals as goal
 
 pub survey_each-returns-in_err-survey_under-clause-surveyed :
@@ -27,7 +28,8 @@ survey_each-returns-in_err-survey_under-clause-surveyed g t c state tells marks 
     let still = tells-read c.args.blocks.now.draft c.ways.blocks.draft (g.D.Disk.history c.args.disk.now)
     (g.D.Disk.history c.ways.disk) state met.read.draft met.read.history tells in
     let done = met.surveyed state tells marks all read in
-    let own = c.in_err-survey_under.ensures.surveyed state still marks (leads 0 c.in-Some.way.now (omega arith)) done.read in (
+    let own = c.in_err-survey_under.ensures.surveyed state still marks (leads 0 c.in-Some.way.now (omega arith))
+    done.read in (
       surveyed-stops state c.args.level c.args.ways.now c.ways.rest.now c.args.links.now.entries c.ways.links.entries
           c.survey_under.new.links.entries c.args.reads.now c.ways.reads c.survey_under.new.reads done own.0,
       on-err c.from_residual.result _ c.from_residual.ensures.0,
@@ -66,7 +68,8 @@ survey_under-returns-then-contains_key-clause-surveyed g t c state tells marks l
     let links = c.args.links.now.entries in
     let reads = c.args.reads.now in (
       goes-none state c.args.level links reads reads read (omega arith),
-      ends-there c.args.blocks.now.draft (g.D.Disk.history c.args.disk.now) (book_of c.args.book.now) state tells marks c.args.level c.args.way.now
+      ends-there c.args.blocks.now.draft (g.D.Disk.history c.args.disk.now) (book_of c.args.book.now) state tells marks
+          c.args.level c.args.way.now
           c.requires.levelled leads links reads read
           (ap (λ (q : ℕ). is_some (link_at links q)) (sym c.value.ensures) ∙ sym c.contains_key.ensures
           ∙ c.if-contains_key.true),
@@ -156,7 +159,8 @@ survey_under-returns-in_err-put_link-clause-surveyed g t c state tells marks lea
           c.peek-node.result.now c.peek-node.ensures) in
           let own = w.in_ok-survey_each.ensures.surveyed state still marks below read in
           subst (λ (n : ℕ). GoesOn state c.args.level old mid c.args.reads.now n) (sym w.reads-is)
-          (subst (λ l. GoesOn state c.args.level old l.entries c.args.reads.now w.survey_each.new.reads) (sym w.links-is)
+          (subst (λ l. GoesOn state c.args.level old l.entries c.args.reads.now w.survey_each.new.reads)
+          (sym w.links-is)
           (goes-higher state lower c.args.level old w.survey_each.new.links.entries c.args.reads.now c.visit.new.reads
           w.survey_each.new.reads high c.visit.ensures.reads own.0))
       | survey_under-else-level-gt0 w ↦
@@ -164,7 +168,8 @@ survey_under-returns-in_err-put_link-clause-surveyed g t c state tells marks lea
           subst (λ l. GoesOn state c.args.level old l.entries c.args.reads.now c.if-level-gt0.reads) (sym w.links-is)
           (goes-none state c.args.level old c.args.reads.now c.if-level-gt0.reads read reads)
     ] in (
-      subst (λ (l : List (ℕ × Surveyed)). GoesOn state c.args.level old l c.args.reads.now c.if-level-gt0.reads) (sym same) goes,
+      subst (λ (l : List (ℕ × Surveyed)). GoesOn state c.args.level old l c.args.reads.now c.if-level-gt0.reads)
+          (sym same) goes,
       on-err c.from_residual-in_err-put_link.result _ c.from_residual-in_err-put_link.ensures.0,
     )
 
@@ -192,7 +197,8 @@ survey_under-returns-clause-surveyed g t c state tells marks leads read =
     ∙ sym c.contains_key.ensures ∙ c.if-contains_key.false) in
     let still = tells-read draft c.visit.new.blocks.draft history (g.D.Disk.history c.visit.new.disk) state
     c.visit.ensures.read.draft c.visit.ensures.read.history tells in
-    let is : c.in_ok-link.link ≡ surveyed_of (header_of seen).address (record { node = seen; full = full_in (book_of c.args.book.now way.address) })
+    let is : c.in_ok-link.link ≡ surveyed_of (header_of seen).address
+    (record { node = seen; full = full_in (book_of c.args.book.now way.address) })
     = c.in_ok-link.ensures ∙ ap (λ (b : Bool). surveyed_of (header_of seen).address (record { node = seen; full = b }))
     c.is_marked.ensures in
     elim c.if-level-gt0.branch [
@@ -209,20 +215,26 @@ survey_under-returns-clause-surveyed g t c state tells marks leads read =
           let mid_is : mid ≡ w.survey_each.new.links.entries = ap (λ l. l.entries) w.links-is in
           let goes : GoesOn state lower old mid then c.if-level-gt0.reads
           = subst (λ (n : ℕ). GoesOn state lower old mid then n) (sym w.reads-is)
-          (subst (λ (l : List (ℕ × Surveyed)). GoesOn state lower old l then w.survey_each.new.reads) (sym mid_is) own.0) in
+          (subst (λ (l : List (ℕ × Surveyed)). GoesOn state lower old l then w.survey_each.new.reads)
+          (sym mid_is) own.0) in
           let ends : EndBelow state lower w.as_slice.result.now old mid then c.if-level-gt0.reads
           = subst (λ (n : ℕ). EndBelow state lower w.as_slice.result.now old mid then n) (sym w.reads-is)
-          (subst (λ (l : List (ℕ × Surveyed)). EndBelow state lower w.as_slice.result.now old l then w.survey_each.new.reads)
+          (subst (λ (l : List (ℕ × Surveyed)). EndBelow state lower w.as_slice.result.now old l then
+          w.survey_each.new.reads)
           (sym mid_is) own.1) in
-          inner-goes draft history (book_of c.args.book.now) state tells marks c.args.level way c.requires.levelled leads _
-          c.visit.new.blocks c.in_ok-visit.ensures.visited seen c.peek-node.ensures c.in_ok-link.link is old mid new before
+          inner-goes draft history (book_of c.args.book.now) state tells marks c.args.level way c.requires.levelled
+          leads _
+          c.visit.new.blocks c.in_ok-visit.ensures.visited seen c.peek-node.ensures c.in_ok-link.link is old mid new
+          before
           then c.if-level-gt0.reads c.visit.ensures.reads absent goes.read c.in_ok-put_link.ensures.put.0
           c.in_ok-put_link.ensures.grown lower high w.as_slice.result.now way.expected.to told goes ends
       | survey_under-else-level-gt0 w ↦
           let low : c.args.level ≡ 0 = omega (arith, w.if-level-gt0.false) in
           let mid_is : mid ≡ old = ap (λ l. l.entries) w.links-is in
-          leaf-goes draft history (book_of c.args.book.now) state tells marks c.args.level way c.requires.levelled leads _
-          c.visit.new.blocks c.in_ok-visit.ensures.visited seen c.peek-node.ensures c.in_ok-link.link is old mid new before
+          leaf-goes draft history (book_of c.args.book.now) state tells marks c.args.level way c.requires.levelled leads
+          _
+          c.visit.new.blocks c.in_ok-visit.ensures.visited seen c.peek-node.ensures c.in_ok-link.link is old mid new
+          before
           then c.if-level-gt0.reads c.visit.ensures.reads absent
           (subst (λ (l : List (ℕ × Surveyed)). AreRead state l) (sym mid_is) read) c.in_ok-put_link.ensures.put.0
           c.in_ok-put_link.ensures.grown low mid_is w.reads-is

@@ -49,7 +49,8 @@ returns-in_err-surveyed-clause-editable g c =
     (g.D.Disk.history c.survey_trees-surveyed.new.disk) c.args.book.now.next made.read.draft made.read.bound
     made.readable.backed c.requires.editable.drafted in
     edit-still c.args.land.now (record c.args.land.now { blocks = c.survey_trees-surveyed.new.blocks })
-    (g.D.Disk.history c.args.disk.now) (g.D.Disk.history c.survey_trees-surveyed.new.disk) (g.D.Disk.size c.args.disk.now)
+    (g.D.Disk.history c.args.disk.now) (g.D.Disk.history c.survey_trees-surveyed.new.disk)
+    (g.D.Disk.size c.args.disk.now)
     (g.D.Disk.size c.survey_trees-surveyed.new.disk) c.args.book.now.next c.requires.editable made.read.size rests
 
 pub returns-in_err-list_of-clause-reads : goal.returns-in_err-list_of-clause-reads
@@ -73,7 +74,8 @@ returns-in_err-list_of-clause-editable g c =
     (g.D.Disk.history c.survey_trees-surveyed.new.disk) c.args.book.now.next made.read.draft made.read.bound
     made.readable.backed c.requires.editable.drafted in
     edit-still c.args.land.now (record c.args.land.now { blocks = c.survey_trees-surveyed.new.blocks })
-    (g.D.Disk.history c.args.disk.now) (g.D.Disk.history c.survey_trees-surveyed.new.disk) (g.D.Disk.size c.args.disk.now)
+    (g.D.Disk.history c.args.disk.now) (g.D.Disk.history c.survey_trees-surveyed.new.disk)
+    (g.D.Disk.size c.args.disk.now)
     (g.D.Disk.size c.survey_trees-surveyed.new.disk) c.args.book.now.next c.requires.editable made.read.size rests
 
 pub returns-clause-surveyed : goal.returns-clause-surveyed
@@ -113,5 +115,6 @@ returns-clause-editable g c =
     (g.D.Disk.history c.survey_trees-surveyed.new.disk) c.args.book.now.next made.read.draft made.read.bound
     made.readable.backed c.requires.editable.drafted in
     edit-still c.args.land.now (record c.args.land.now { blocks = c.survey_trees-surveyed.new.blocks })
-    (g.D.Disk.history c.args.disk.now) (g.D.Disk.history c.survey_trees-surveyed.new.disk) (g.D.Disk.size c.args.disk.now)
+    (g.D.Disk.history c.args.disk.now) (g.D.Disk.history c.survey_trees-surveyed.new.disk)
+    (g.D.Disk.size c.args.disk.now)
     (g.D.Disk.size c.survey_trees-surveyed.new.disk) c.args.book.now.next c.requires.editable made.read.size rests

@@ -69,7 +69,8 @@ trees-preserved g c =
           let one = tree-leads state tree first c.height.result c.way.result c.height.ensures c.way.ensures.address
           c.way.ensures.expected in
           let own = made.surveyed state still marks one done.read in
-          let goes = subst (λ (n : ℕ). GoesOn state n c.trees.links.entries c.survey_under.new.links.entries c.trees.reads
+          let goes = subst (λ (n : ℕ). GoesOn state n c.trees.links.entries c.survey_under.new.links.entries
+          c.trees.reads
           c.survey_under.new.reads) c.height.ensures own.0 in
           let ends = subst (λ (n : ℕ). EndsBelow state n tree.address c.trees.links.entries
           c.survey_under.new.links.entries c.trees.reads c.survey_under.new.reads) c.height.ensures

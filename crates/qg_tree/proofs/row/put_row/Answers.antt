@@ -13,23 +13,29 @@ use Rattle.qg_tree.proofs.row.put_row.Goals.{After-is_empty}
 pub left-init : goal.left-init
 left-init g c =
     rw c.new-pointers.ensures (record {
-      growing = IsGrowing-none g.T.Part.own g.T.Weighed.weight c.args.level.now.nodesize c.args.level.now.owner c.args.level.now.generation c.args.level.now.level c.args.slots.now c.args.parts.now c.args.nodes.now
+      growing = IsGrowing-none g.T.Part.own g.T.Weighed.weight c.args.level.now.nodesize c.args.level.now.owner
+          c.args.level.now.generation c.args.level.now.level c.args.slots.now c.args.parts.now c.args.nodes.now
           c.total-weight.result c.total-weight.ensures c.requires.light c.requires.some c.requires.room;
       left_fit = c.requires.fit;
       fit = All-nil PointerFits;
     })
 
 -- one pointer more
-pointers_fit : (pointers : List Pointer) {given pointer : Pointer} → given ≡ pointer → All PointerFits pointers → PointerFits given → All PointerFits (pointers ++ pointer ∷ [])
-pointers_fit pointers {given} {pointer} same all fits = All-push PointerFits pointers pointer all (subst PointerFits same fits)
+pointers_fit : (pointers : List Pointer) {given pointer : Pointer} → given ≡ pointer → All PointerFits pointers
+    → PointerFits given → All PointerFits (pointers ++ pointer ∷ [])
+pointers_fit pointers {given} {pointer} same all fits =
+    All-push PointerFits pointers pointer all (subst PointerFits same fits)
 
 pub returns-then-is_empty-clause-fit : goal.returns-then-is_empty-clause-fit
 returns-then-is_empty-clause-fit g c =
-    rw (c.in_ok-push.ensures.ok, c.in_ok-put.ensures.pointer) (pointers_fit c.left.pointers c.in_ok-put.ensures.pointer c.left.invariant.fit c.in_ok-put.ensures.fits)
+    rw (c.in_ok-push.ensures.ok, c.in_ok-put.ensures.pointer)
+    (pointers_fit c.left.pointers c.in_ok-put.ensures.pointer c.left.invariant.fit c.in_ok-put.ensures.fits)
 
 -- the node that was put
 next : (g : Over) (c : After-is_empty g)
-    → IsNext g.T.Part.own g.T.Weighed.weight c.args.level.now.nodesize c.args.level.now.owner c.args.level.now.generation c.args.level.now.level c.args.slots.now c.args.parts.now c.args.nodes.now c.left.left.now c.left.nodes c.first_cut-cut.result.count c.first_cut-cut.result.taken c.in_ok-node.node
+    → IsNext g.T.Part.own g.T.Weighed.weight c.args.level.now.nodesize c.args.level.now.owner
+    c.args.level.now.generation c.args.level.now.level c.args.slots.now c.args.parts.now c.args.nodes.now
+    c.left.left.now c.left.nodes c.first_cut-cut.result.count c.first_cut-cut.result.taken c.in_ok-node.node
 next g c = record {
   cut = c.first_cut-cut.ensures;
   address = rw c.in_ok-node.ensures.header (rw c.len.ensures at c.index-slots-len.is);
@@ -48,19 +54,25 @@ big g c = let size = wide c.args.level.now.nodesize c.requires.size in omega (ar
 pub returns-then-is_empty-clause-row : goal.returns-then-is_empty-clause-row
 returns-then-is_empty-clause-row g c =
     let at = (goal.at.returns-then-is_empty-clause-row g c).After-is_empty in
-    let none : length (drop c.first_cut-cut.result.count c.left.left.now) ≡ 0 = rw (← c.split_at.ensures.back) (eqb-true (length c.split_at.result.1.now) 0 (sym c.if-is_empty.ensures)) in
+    let none : length (drop c.first_cut-cut.result.count c.left.left.now) ≡ 0 =
+    rw (← c.split_at.ensures.back) (eqb-true (length c.split_at.result.1.now) 0 (sym c.if-is_empty.ensures)) in
     rw (c.in_ok-put.ensures.put, c.in_ok-push.ensures.ok, c.in_ok-put.ensures.pointer)
-    (PutsRow-all g.T.Part.own g.T.Weighed.weight c.args.level.now.nodesize c.args.level.now.owner c.args.level.now.generation c.args.level.now.level c.args.slots.now c.args.parts.now c.args.nodes.now
-    c.left.left.now c.left.weight c.left.nodes c.left.pointers c.first_cut-cut.result.count c.first_cut-cut.result.taken c.in_ok-node.node (big g at) c.left.invariant.growing (next g at) none)
+    (PutsRow-all g.T.Part.own g.T.Weighed.weight c.args.level.now.nodesize c.args.level.now.owner
+    c.args.level.now.generation c.args.level.now.level c.args.slots.now c.args.parts.now c.args.nodes.now
+    c.left.left.now c.left.weight c.left.nodes c.left.pointers c.first_cut-cut.result.count c.first_cut-cut.result.taken
+    c.in_ok-node.node (big g at) c.left.invariant.growing (next g at) none)
 
 pub left-preserved : goal.left-preserved
 left-preserved g c =
     let at = (goal.at.left-preserved g c).After-is_empty in
-    let some : 1 ≤ length (drop c.first_cut-cut.result.count c.left.left.now) = rw (← c.split_at.ensures.back) (some_left (length c.split_at.result.1.now) (sym c.if-is_empty.ensures)) in
+    let some : 1 ≤ length (drop c.first_cut-cut.result.count c.left.left.now) =
+    rw (← c.split_at.ensures.back) (some_left (length c.split_at.result.1.now) (sym c.if-is_empty.ensures)) in
     rw (c.split_at.ensures.back, c.in_ok-put.ensures.put, c.in_ok-push.ensures.ok, c.in_ok-put.ensures.pointer)
     (record {
-      growing = IsGrowing-more g.T.Part.own g.T.Weighed.weight c.args.level.now.nodesize c.args.level.now.owner c.args.level.now.generation c.args.level.now.level c.args.slots.now c.args.parts.now c.args.nodes.now
-          c.left.left.now c.left.weight c.left.nodes c.left.pointers c.first_cut-cut.result.count c.first_cut-cut.result.taken c.in_ok-node.node (big g at) c.left.invariant.growing (next g at) some;
+      growing = IsGrowing-more g.T.Part.own g.T.Weighed.weight c.args.level.now.nodesize c.args.level.now.owner
+          c.args.level.now.generation c.args.level.now.level c.args.slots.now c.args.parts.now c.args.nodes.now
+          c.left.left.now c.left.weight c.left.nodes c.left.pointers c.first_cut-cut.result.count
+          c.first_cut-cut.result.taken c.in_ok-node.node (big g at) c.left.invariant.growing (next g at) some;
       left_fit = All-drop g.T.Part.fits c.first_cut-cut.result.count c.left.left.now c.left.invariant.left_fit;
       fit = pointers_fit c.left.pointers c.in_ok-put.ensures.pointer c.left.invariant.fit c.in_ok-put.ensures.fits;
     })

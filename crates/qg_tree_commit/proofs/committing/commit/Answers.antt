@@ -82,13 +82,16 @@ returns-clause-stopped g c = λ events told. inr (record {
 -- ---- crashes
 
 pub returns-in_err-trees-clause-crashes : goal.returns-in_err-trees-clause-crashes
-returns-in_err-trees-clause-crashes g c = λ before after state told now found. inl (left_alone before after _ _ told refl now)
+returns-in_err-trees-clause-crashes g c =
+    λ before after state told now found. inl (left_alone before after _ _ told refl now)
 
 pub returns-in_err-addresses-clause-crashes : goal.returns-in_err-addresses-clause-crashes
-returns-in_err-addresses-clause-crashes g c = λ before after state told now found. inl (left_alone before after _ _ told refl now)
+returns-in_err-addresses-clause-crashes g c =
+    λ before after state told now found. inl (left_alone before after _ _ told refl now)
 
 pub returns-in_err-buffer-clause-crashes : goal.returns-in_err-buffer-clause-crashes
-returns-in_err-buffer-clause-crashes g c = λ before after state told now found. inl (left_alone before after _ _ told refl now)
+returns-in_err-buffer-clause-crashes g c =
+    λ before after state told now found. inl (left_alone before after _ _ told refl now)
 
 pub returns-in-Ok-clause-crashes : goal.returns-in-Ok-clause-crashes
 returns-in-Ok-clause-crashes g c = λ before after state told now found.

@@ -2,7 +2,8 @@ use Rattle.std.proofs.Common.{◌++◌, length, refl, ◌∙◌}
 use Rattle.qg_commit.proofs.CommitCalls.{first_calls, two_calls}
 use Rattle.qg_other_trees.specs.Trees.{quota_nodes_laid}
 use Rattle.qg_tree_commit.specs.Writing.{fresh_nodes}
-use Rattle.qg_tree_commit.proofs.Calls.{all-calls, comes-extents, comes-fresh, comes-quotas, comes-roots, comes-superblocks, parts-writable}
+use Rattle.qg_tree_commit.proofs.Calls.{all-calls, comes-extents, comes-fresh, comes-quotas, comes-roots}
+use Rattle.qg_tree_commit.proofs.Calls.{comes-superblocks, parts-writable}
 use Rattle.qg_tree_commit.proofs.write.write_all.Goals as goal
 
 -- ---- the nodes may be written
@@ -126,7 +127,8 @@ returns-in_err-write_nodes-3-clause-front g c =
     let size3 = c.write_nodes-2.auto.buffer ∙ size2 in
     comes-quotas super fresh roots extents quotas old one first two second three third
     (length c.write_nodes-2.new.buffer)
-    c.quota_nodes.result.now (history c.write_nodes-3.new.disk) size3 c.quota_nodes.ensures c.write_nodes-3.ensures.front
+    c.quota_nodes.result.now (history c.write_nodes-3.new.disk) size3 c.quota_nodes.ensures
+    c.write_nodes-3.ensures.front
 
 pub returns-in_err-write_superblocks-clause-front : goal.returns-in_err-write_superblocks-clause-front
 returns-in_err-write_superblocks-clause-front g c =
@@ -151,7 +153,8 @@ returns-in_err-write_superblocks-clause-front g c =
     three size2 c.as_slice-2.ensures second c.in_ok-write_nodes-2.ensures.calls in
     let size3 = c.write_nodes-2.auto.buffer ∙ size2 in
     let four = history c.write_nodes-3.new.disk in
-    let fourth = two_calls super (length c.write_nodes-2.new.buffer) (fresh ++ roots ++ extents) c.quota_nodes.result.now
+    let fourth = two_calls super (length c.write_nodes-2.new.buffer) (fresh ++ roots ++ extents)
+    c.quota_nodes.result.now
     quotas old three four size3 c.quota_nodes.ensures third c.in_ok-write_nodes-3.ensures.calls in
     comes-superblocks super fresh roots extents quotas old one first two second three third four fourth
     (history c.write_superblocks.new.disk) c.write_superblocks.ensures.front
@@ -179,7 +182,8 @@ returns-clause-front g c =
     three size2 c.as_slice-2.ensures second c.in_ok-write_nodes-2.ensures.calls in
     let size3 = c.write_nodes-2.auto.buffer ∙ size2 in
     let four = history c.write_nodes-3.new.disk in
-    let fourth = two_calls super (length c.write_nodes-2.new.buffer) (fresh ++ roots ++ extents) c.quota_nodes.result.now
+    let fourth = two_calls super (length c.write_nodes-2.new.buffer) (fresh ++ roots ++ extents)
+    c.quota_nodes.result.now
     quotas old three four size3 c.quota_nodes.ensures third c.in_ok-write_nodes-3.ensures.calls in
     comes-superblocks super fresh roots extents quotas old one first two second three third four fourth
     (history c.write_superblocks.new.disk) c.write_superblocks.ensures.front
@@ -207,7 +211,8 @@ returns-clause-calls g c =
     three size2 c.as_slice-2.ensures second c.in_ok-write_nodes-2.ensures.calls in
     let size3 = c.write_nodes-2.auto.buffer ∙ size2 in
     let four = history c.write_nodes-3.new.disk in
-    let fourth = two_calls super (length c.write_nodes-2.new.buffer) (fresh ++ roots ++ extents) c.quota_nodes.result.now
+    let fourth = two_calls super (length c.write_nodes-2.new.buffer) (fresh ++ roots ++ extents)
+    c.quota_nodes.result.now
     quotas old three four size3 c.quota_nodes.ensures third c.in_ok-write_nodes-3.ensures.calls in
     all-calls super fresh roots extents quotas old one first two second three third four fourth
     (history c.write_superblocks.new.disk) c.in_ok-write_superblocks.ensures.calls

@@ -1,4 +1,5 @@
-use Rattle.std.proofs.Common.{◌≡◌, ℕ, ◌+◌, ◌<◌, List, ◌∷◌, length, drop, get_or, subst, sym, ap, ◌∙◌, arith, refl, rules}
+use Rattle.std.proofs.Common.{◌≡◌, ℕ, ◌+◌, ◌<◌, List, ◌∷◌, length, drop, get_or, subst, sym, ap, ◌∙◌, arith, refl}
+use Rattle.std.proofs.Common.{rules}
 use Rattle.std.specs.Prelude.{IsSome, slice_index}
 use Rattle.std.specs.List.{AllByRecursion}
 use Rattle.std.specs.Map.{keys_of}

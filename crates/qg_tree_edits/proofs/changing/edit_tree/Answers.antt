@@ -26,8 +26,11 @@ pub returns-in_err-instead-clause-reads : goal.returns-in_err-instead-clause-rea
 returns-in_err-instead-clause-reads g c most all =
     let low = c.edit_under.ensures.reads most all in
     let level = c.height-level.ensures in
-    let one : (5 + 4 * most) * suc (c.height-level.result + 1) ≡ (5 + 4 * most) * (c.height-level.result + 1) + (5 + 4 * most) = mul-suc (5 + 4 * most) (c.height-level.result + 1) in
-    let whole : (5 + 4 * most) * (c.args.tree.now.height + 2) ≡ (5 + 4 * most) * suc (c.height-level.result + 1) = ap (λ (n : ℕ). (5 + 4 * most) * n) (let e : c.args.tree.now.height + 2 ≡ suc (c.height-level.result + 1) = omega (arith, level) in e) in
+    let one : (5 + 4 * most) * suc (c.height-level.result + 1) ≡ (5 + 4 * most) * (c.height-level.result + 1)
+    + (5 + 4 * most) = mul-suc (5 + 4 * most) (c.height-level.result + 1) in
+    let whole : (5 + 4 * most) * (c.args.tree.now.height + 2) ≡ (5 + 4 * most) * suc (c.height-level.result + 1) =
+    ap (λ (n : ℕ). (5 + 4 * most) * n) (let e : c.args.tree.now.height + 2 ≡ suc (c.height-level.result + 1) = omega
+    (arith, level) in e) in
     omega (arith, low, one, whole)
 
 pub returns-clause-reads : goal.returns-clause-reads
@@ -35,8 +38,11 @@ returns-clause-reads g c most all =
     let low = c.edit_under.ensures.reads most all in
     let last = c.set_root.ensures.reads most all in
     let level = c.height-level.ensures in
-    let one : (5 + 4 * most) * suc (c.height-level.result + 1) ≡ (5 + 4 * most) * (c.height-level.result + 1) + (5 + 4 * most) = mul-suc (5 + 4 * most) (c.height-level.result + 1) in
-    let whole : (5 + 4 * most) * (c.args.tree.now.height + 2) ≡ (5 + 4 * most) * suc (c.height-level.result + 1) = ap (λ (n : ℕ). (5 + 4 * most) * n) (let e : c.args.tree.now.height + 2 ≡ suc (c.height-level.result + 1) = omega (arith, level) in e) in
+    let one : (5 + 4 * most) * suc (c.height-level.result + 1) ≡ (5 + 4 * most) * (c.height-level.result + 1)
+    + (5 + 4 * most) = mul-suc (5 + 4 * most) (c.height-level.result + 1) in
+    let whole : (5 + 4 * most) * (c.args.tree.now.height + 2) ≡ (5 + 4 * most) * suc (c.height-level.result + 1) =
+    ap (λ (n : ℕ). (5 + 4 * most) * n) (let e : c.args.tree.now.height + 2 ≡ suc (c.height-level.result + 1) = omega
+    (arith, level) in e) in
     omega (arith, low, last, one, whole)
 
 -- ---- where the disk tells a tree
@@ -188,7 +194,8 @@ returns-clause-fails g c =
 pub returns-clause-owners : goal.returns-clause-owners
 returns-clause-owners g c =
     on_ok_weaker c.set_root.result
-    (λ last. IsOwnedBy-after c.args.tree.now.owner c.args.land.now c.edit_under.new.land c.set_root.new.land c.in_ok-instead.ensures.part.owners last)
+    (λ last. IsOwnedBy-after c.args.tree.now.owner c.args.land.now c.edit_under.new.land c.set_root.new.land
+    c.in_ok-instead.ensures.part.owners last)
     c.set_root.ensures.root.owners
 
 pub returns-in_err-instead-clause-book : goal.returns-in_err-instead-clause-book

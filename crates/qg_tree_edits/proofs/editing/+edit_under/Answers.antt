@@ -19,9 +19,11 @@ use Rattle.qg_tree_edits.specs.First.{leaves, leaves_behind}
 use Rattle.qg_tree_edits.specs.Editing.{IsFreshOn, IsPartEdited, IsPartFit, RestIsReady}
 use Rattle.qg_tree_edits.specs.Counting.{IsPartTold, tellings_made, tellings_owned}
 use Rattle.qg_tree_edits.specs.Steps.{EditsItems, EditsPart, FailsToEdit}
-use Rattle.qg_tree_edits.proofs.Descended.{descended-edited, descended-first, descended-fit, descended-items, descended-leaves, descended-mine, descended-told, descended-unsettled}
+use Rattle.qg_tree_edits.proofs.Descended.{descended-edited, descended-first, descended-fit, descended-items}
+use Rattle.qg_tree_edits.proofs.Descended.{descended-leaves, descended-mine, descended-told, descended-unsettled}
 use Rattle.qg_tree_edits.proofs.FitTold.{fit-told}
-use Rattle.qg_tree_edits.proofs.Handed.{child-edited, child-leaves, child-told, settle-leaves, settle-settled, settle-sound, settle-told}
+use Rattle.qg_tree_edits.proofs.Handed.{child-edited, child-leaves, child-told, settle-leaves, settle-settled}
+use Rattle.qg_tree_edits.proofs.Handed.{settle-sound, settle-told}
 use Rattle.qg_tree_edits.proofs.LeafLists.{behind-leaf}
 use Rattle.qg_tree_edits.proofs.LeavesBelow.{placed-leaves}
 use Rattle.qg_tree_edits.proofs.PartBelow.{fit-inner, fit-there}

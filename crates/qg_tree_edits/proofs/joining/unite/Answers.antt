@@ -8,7 +8,8 @@ use Rattle.qg_ground.proofs.Lands.{Rests-after, told-fresh_at}
 use Rattle.qg_tree_edits.specs.declared.instead.Instead.{Instead}
 use Rattle.qg_tree_edits.proofs.Levels.{both-space, joined-empties, joined-levels}
 use Rattle.qg_tree_edits.proofs.ToldUnited.{left-cleared}
-use Rattle.qg_tree_edits.proofs.United.{between-backed, both-backed, both-rests, first-spares, fresh-unbroken, later-spares}
+use Rattle.qg_tree_edits.proofs.United.{between-backed, both-backed, both-rests, first-spares, fresh-unbroken}
+use Rattle.qg_tree_edits.proofs.United.{later-spares}
 use Rattle.qg_tree_edits.proofs.Naming.{names-none_other, names-other}
 use Rattle.qg_tree_edits.proofs.Rejoined.{unbroken-other}
 use Rattle.qg_tree_edits.proofs.Stepped.{cause-handed, cause-none}
@@ -74,16 +75,21 @@ returns-in-Parted-clause-stands g c =
     let new = c.join_nodes.new.land in
     let are = c.join_nodes.ensures.rewritten in
     let history = g.D.Disk.history c.args.disk.now in
-    let between = between-backed old new c.args.left c.args.right c.requires.apart c.requires.pair are history c.requires.backed in
-    let both = both-backed old new c.args.left c.args.right c.requires.apart c.requires.pair are history c.requires.backed in
-    g.met.B.Book.lasts c.args.book.now are.mid new c.args.disk.now c.args.disk.now refl refl both (later-spares old new c.args.left c.args.right c.requires.apart c.requires.pair are)
-    (g.met.B.Book.lasts c.args.book.now old are.mid c.args.disk.now c.args.disk.now refl refl between (first-spares old new c.args.left c.args.right c.requires.apart c.requires.pair are) c.requires.stands)
+    let between = between-backed old new c.args.left c.args.right c.requires.apart c.requires.pair are history
+    c.requires.backed in
+    let both = both-backed old new c.args.left c.args.right c.requires.apart c.requires.pair are history
+    c.requires.backed in
+    g.met.B.Book.lasts c.args.book.now are.mid new c.args.disk.now c.args.disk.now refl refl both
+    (later-spares old new c.args.left c.args.right c.requires.apart c.requires.pair are)
+    (g.met.B.Book.lasts c.args.book.now old are.mid c.args.disk.now c.args.disk.now refl refl between
+    (first-spares old new c.args.left c.args.right c.requires.apart c.requires.pair are) c.requires.stands)
 
 -- ---- the right one is left
 
 pub leave_node-requires-clause-backed : goal.leave_node-requires-clause-backed
 leave_node-requires-clause-backed g c =
-    both-backed c.args.land.now c.join_nodes.new.land c.args.left c.args.right c.requires.apart c.requires.pair c.join_nodes.ensures.rewritten (g.D.Disk.history c.args.disk.now) c.requires.backed
+    both-backed c.args.land.now c.join_nodes.new.land c.args.left c.args.right c.requires.apart c.requires.pair
+    c.join_nodes.ensures.rewritten (g.D.Disk.history c.args.disk.now) c.requires.backed
 
 pub leave_node-requires-clause-stands : goal.leave_node-requires-clause-stands
 leave_node-requires-clause-stands g c =
@@ -91,10 +97,14 @@ leave_node-requires-clause-stands g c =
     let new = c.join_nodes.new.land in
     let are = c.join_nodes.ensures.rewritten in
     let history = g.D.Disk.history c.args.disk.now in
-    let between = between-backed old new c.args.left c.args.right c.requires.apart c.requires.pair are history c.requires.backed in
-    let both = both-backed old new c.args.left c.args.right c.requires.apart c.requires.pair are history c.requires.backed in
-    g.met.B.Book.lasts c.args.book.now are.mid new c.args.disk.now c.args.disk.now refl refl both (later-spares old new c.args.left c.args.right c.requires.apart c.requires.pair are)
-    (g.met.B.Book.lasts c.args.book.now old are.mid c.args.disk.now c.args.disk.now refl refl between (first-spares old new c.args.left c.args.right c.requires.apart c.requires.pair are) c.requires.stands)
+    let between = between-backed old new c.args.left c.args.right c.requires.apart c.requires.pair are history
+    c.requires.backed in
+    let both = both-backed old new c.args.left c.args.right c.requires.apart c.requires.pair are history
+    c.requires.backed in
+    g.met.B.Book.lasts c.args.book.now are.mid new c.args.disk.now c.args.disk.now refl refl both
+    (later-spares old new c.args.left c.args.right c.requires.apart c.requires.pair are)
+    (g.met.B.Book.lasts c.args.book.now old are.mid c.args.disk.now c.args.disk.now refl refl between
+    (first-spares old new c.args.left c.args.right c.requires.apart c.requires.pair are) c.requires.stands)
 
 pub returns-in_err-leave_node-in-Whole-clause-fails : goal.returns-in_err-leave_node-in-Whole-clause-fails
 returns-in_err-leave_node-in-Whole-clause-fails g c =

@@ -107,7 +107,8 @@ returns-clause-fails g c =
           (g.D.Disk.history c.visit.new.disk) (g.D.Disk.history c.args.disk.now) at visited.node read.draft read.history
           (λ some. (c.own_node.ensures.same some).0) c.own_node.ensures.fails.answers (visited.tells events told_is));
       cause = cause-last (g.D.Disk.faults c.args.disk.now) (g.D.Disk.faults c.visit.new.disk)
-          (g.D.Disk.faults c.own_node.new.disk) c.own_node.result c.visit.ensures.cause.later c.own_node.ensures.fails.cause;
+          (g.D.Disk.faults c.own_node.new.disk) c.own_node.result c.visit.ensures.cause.later
+          c.own_node.ensures.fails.cause;
     }
 
 -- ---- what is left so
@@ -134,7 +135,8 @@ returns-clause-rests g c =
     c.requires.editable.drafted in
     let second = rw c.next.ensures at c.own_node.ensures.rests in
     record {
-      rests = Rests-after land mid c.own_node.new.land later (g.D.Disk.history c.own_node.new.disk) next first second.rests;
+      rests = Rests-after land mid c.own_node.new.land later (g.D.Disk.history c.own_node.new.disk) next first
+          second.rests;
       history = second.history ∙ read.history;
       size = second.size ∙ read.size;
     }

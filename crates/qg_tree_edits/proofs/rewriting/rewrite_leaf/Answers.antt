@@ -15,9 +15,12 @@ use Rattle.qg_blocks.specs.Told.{fresh_at}
 use Rattle.qg_tree_edits.proofs.rewriting.rewrite_leaf.Goals as goal
 
 pub returns-clause-cut : goal.returns-clause-cut
-returns-clause-cut c node is = IsCutThere-edited c.args.land.now c.args.at c.args.land.now.space.sizes.nodesize c.nodesize-nodesize.result c.get_mut.result.now c.edit_leaf.new.leaf node
+returns-clause-cut c node is =
+    IsCutThere-edited c.args.land.now c.args.at c.args.land.now.space.sizes.nodesize c.nodesize-nodesize.result
+    c.get_mut.result.now c.edit_leaf.new.leaf node
     (λ (n : Node). with_items n (edited c.args.edit (own_items n))) c.edit_leaf.result
-    c.get_mut.ensures.value (c.nodesize-nodesize.ensures ∙ c.requires.sizes.nodesize) (IfOk-weaker c.edit_leaf.result _ _ (λ rest left. left.cut) c.edit_leaf.ensures.edited)
+    c.get_mut.ensures.value (c.nodesize-nodesize.ensures ∙ c.requires.sizes.nodesize)
+    (IfOk-weaker c.edit_leaf.result _ _ (λ rest left. left.cut) c.edit_leaf.ensures.edited)
     (IfOk-weaker c.edit_leaf.result _ _ (λ rest left. left.rest) c.edit_leaf.ensures.edited) is
 
 -- ---- where a rule is named

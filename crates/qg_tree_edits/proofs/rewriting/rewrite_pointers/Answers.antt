@@ -19,17 +19,22 @@ pub splice-requires-clause-within : goal.splice-requires-clause-within
 splice-requires-clause-within c = c.requires.within c.get_mut.result.now c.get_mut.ensures.value
 
 pub returns-clause-cut : goal.returns-clause-cut
-returns-clause-cut c node is = IsCutThere-edited c.args.land.now c.args.at c.args.land.now.space.sizes.nodesize c.nodesize-nodesize.result c.get_mut.result.now c.splice.new.node node
+returns-clause-cut c node is =
+    IsCutThere-edited c.args.land.now c.args.at c.args.land.now.space.sizes.nodesize c.nodesize-nodesize.result
+    c.get_mut.result.now c.splice.new.node node
     (λ (n : Node). with_pointers n (spliced c.args.from c.args.to c.args.new.now (own_pointers n))) c.splice.result
-    c.get_mut.ensures.value (c.nodesize-nodesize.ensures ∙ c.requires.sizes.nodesize) (IfOk-weaker c.splice.result _ _ (λ rest left. left.cut) c.splice.ensures.spliced)
+    c.get_mut.ensures.value (c.nodesize-nodesize.ensures ∙ c.requires.sizes.nodesize)
+    (IfOk-weaker c.splice.result _ _ (λ rest left. left.cut) c.splice.ensures.spliced)
     (IfOk-weaker c.splice.result _ _ (λ rest left. left.rest) c.splice.ensures.spliced) is
 
 pub returns-clause-fits : goal.returns-clause-fits
 returns-clause-fits c few =
     let node = c.get_mut.result.now in
     let within = c.requires.within node c.get_mut.ensures.value in
-    none-cut c.nodesize-nodesize.result c.args.land.now.space.sizes.nodesize c.args.from c.args.to node c.args.new.now c.splice.result (c.requires.inner node c.get_mut.ensures.value)
-    (c.requires.sound node c.get_mut.ensures.value) (c.nodesize-nodesize.ensures ∙ c.requires.sizes.nodesize) within.0 within.1 few
+    none-cut c.nodesize-nodesize.result c.args.land.now.space.sizes.nodesize c.args.from c.args.to node c.args.new.now
+    c.splice.result (c.requires.inner node c.get_mut.ensures.value)
+    (c.requires.sound node c.get_mut.ensures.value) (c.nodesize-nodesize.ensures ∙ c.requires.sizes.nodesize) within.0
+    within.1 few
     (IfOk-weaker c.splice.result _ _ (λ rest left. left.overfull) c.splice.ensures.spliced)
 
 -- ---- where a rule is named

@@ -22,34 +22,50 @@ use Rattle.qg_tree_edits.proofs.settling.lead_to.Goals as goal
 pub returns-in-None-clause-led : goal.returns-in-None-clause-led
 returns-in-None-clause-led c = λ tree super history level pointers header items can.
     IfOk-weaker c.rewrite_pointers.result _ _
-    (λ rest cut. led-one tree super c.args.land.now c.rewrite_pointers.new.land history level c.args.at c.args.from c.args.to c.args.instead pointers header items can c.requires.fresh.0
+    (λ rest cut. led-one tree super c.args.land.now c.rewrite_pointers.new.land history level c.args.at c.args.from
+    c.args.to c.args.instead pointers header items can c.requires.fresh.0
     c.peek.result.now c.peek.ensures rest c.in-None.is c.rewrite_pointers.ensures.rewritten
-    (subst (λ (p : Pointer). IsCutThere c.args.land.now.space.sizes.nodesize c.rewrite_pointers.new.land c.args.at (Inner header pointers)
-    (Inner header (take c.args.from pointers ++ (p ∷ []) ++ drop c.args.to pointers)) rest) c.pointer_to-now.ensures.pointer cut))
+    (subst (λ (p : Pointer). IsCutThere c.args.land.now.space.sizes.nodesize c.rewrite_pointers.new.land c.args.at
+    (Inner header pointers)
+    (Inner header (take c.args.from pointers ++ (p ∷ []) ++ drop c.args.to pointers)) rest)
+    c.pointer_to-now.ensures.pointer cut))
     (c.rewrite_pointers.ensures.cut (Inner header pointers) can.here)
 
 pub returns-in-Some-clause-led : goal.returns-in-Some-clause-led
 returns-in-Some-clause-led c = λ tree super history level pointers header items can.
     let named = MatchOption-at_some _ (IsNamed c.args.land.now) c.in-Some.more c.in-Some.is c.requires.fresh.1 in
     IfOk-weaker c.rewrite_pointers-in-Some.result _ _
-    (λ rest cut. led-two tree super c.args.land.now c.rewrite_pointers-in-Some.new.land history level c.args.at c.args.from c.args.to c.args.instead pointers header items can c.requires.fresh.0
-    c.peek.result.now c.peek.ensures c.in-Some.more c.in-Some.is named c.peek-in-Some.result.now c.peek-in-Some.ensures rest c.rewrite_pointers-in-Some.ensures.rewritten
-    (subst (λ (p : Pointer). IsCutThere c.args.land.now.space.sizes.nodesize c.rewrite_pointers-in-Some.new.land c.args.at (Inner header pointers)
-    (Inner header (take c.args.from pointers ++ (p ∷ pointer_to c.peek-in-Some.result.now ∷ []) ++ drop c.args.to pointers)) rest) c.pointer_to-now.ensures.pointer
-    (subst (λ (p : Pointer). IsCutThere c.args.land.now.space.sizes.nodesize c.rewrite_pointers-in-Some.new.land c.args.at (Inner header pointers)
-    (Inner header (take c.args.from pointers ++ (c.pointer_to-now.result ∷ p ∷ []) ++ drop c.args.to pointers)) rest) c.pointer_to-behind.ensures.pointer cut)))
+    (λ rest cut. led-two tree super c.args.land.now c.rewrite_pointers-in-Some.new.land history level c.args.at
+    c.args.from c.args.to c.args.instead pointers header items can c.requires.fresh.0
+    c.peek.result.now c.peek.ensures c.in-Some.more c.in-Some.is named c.peek-in-Some.result.now c.peek-in-Some.ensures
+    rest c.rewrite_pointers-in-Some.ensures.rewritten
+    (subst (λ (p : Pointer). IsCutThere c.args.land.now.space.sizes.nodesize c.rewrite_pointers-in-Some.new.land
+    c.args.at (Inner header pointers)
+    (Inner header (take c.args.from pointers ++ (p ∷ pointer_to c.peek-in-Some.result.now ∷ [])
+    ++ drop c.args.to pointers)) rest) c.pointer_to-now.ensures.pointer
+    (subst (λ (p : Pointer). IsCutThere c.args.land.now.space.sizes.nodesize c.rewrite_pointers-in-Some.new.land
+    c.args.at (Inner header pointers)
+    (Inner header (take c.args.from pointers ++ (c.pointer_to-now.result ∷ p ∷ []) ++ drop c.args.to pointers)) rest)
+    c.pointer_to-behind.ensures.pointer cut)))
     (c.rewrite_pointers-in-Some.ensures.cut (Inner header pointers) can.here)
 
 pub returns-in-None-clause-rest : goal.returns-in-None-clause-rest
 returns-in-None-clause-rest c = λ node here.
-    stays-cut_ok c.args.land.now.space.sizes.nodesize node (with_pointers node (spliced c.args.from c.args.to (c.pointer_to-now.result ∷ []) (own_pointers node))) c.rewrite_pointers.new.land c.args.at
-    c.rewrite_pointers.result (header-pointers node _ (inner-here c.args.land.now c.args.at node c.requires.parent.0 here c.requires.parent.1 c.requires.parent.2)) (c.rewrite_pointers.ensures.cut node here)
+    stays-cut_ok c.args.land.now.space.sizes.nodesize node
+    (with_pointers node (spliced c.args.from c.args.to (c.pointer_to-now.result ∷ []) (own_pointers node)))
+    c.rewrite_pointers.new.land c.args.at
+    c.rewrite_pointers.result
+    (header-pointers node _ (inner-here c.args.land.now c.args.at node c.requires.parent.0 here c.requires.parent.1
+    c.requires.parent.2)) (c.rewrite_pointers.ensures.cut node here)
 
 pub returns-in-Some-clause-rest : goal.returns-in-Some-clause-rest
 returns-in-Some-clause-rest c = λ node here.
-    stays-cut_ok c.args.land.now.space.sizes.nodesize node (with_pointers node (spliced c.args.from c.args.to (c.pointer_to-now.result ∷ c.pointer_to-behind.result ∷ []) (own_pointers node)))
+    stays-cut_ok c.args.land.now.space.sizes.nodesize node
+    (with_pointers node (spliced c.args.from c.args.to (c.pointer_to-now.result ∷ c.pointer_to-behind.result ∷ [])
+    (own_pointers node)))
     c.rewrite_pointers-in-Some.new.land c.args.at c.rewrite_pointers-in-Some.result
-    (header-pointers node _ (inner-here c.args.land.now c.args.at node c.requires.parent.0 here c.requires.parent.1 c.requires.parent.2)) (c.rewrite_pointers-in-Some.ensures.cut node here)
+    (header-pointers node _ (inner-here c.args.land.now c.args.at node c.requires.parent.0 here c.requires.parent.1
+    c.requires.parent.2)) (c.rewrite_pointers-in-Some.ensures.cut node here)
 
 -- ---- where a rule is named
 

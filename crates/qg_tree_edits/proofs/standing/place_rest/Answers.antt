@@ -19,7 +19,8 @@ generation_of_put owner generation node put is dated =
 
 pub make_node-requires-clause-ready : goal.make_node-requires-clause-ready
 make_node-requires-clause-ready g c =
-    let dated = generation_of_put c.owner.result c.args.tree.now.next c.in-Some.node c.owned_by.result c.owned_by.ensures
+    let dated = generation_of_put c.owner.result c.args.tree.now.next c.in-Some.node c.owned_by.result
+    c.owned_by.ensures
     (rw c.in-Some.is at c.requires.rest.ready).2 in
     record {
       backed = c.requires.editable.backed;
@@ -38,7 +39,8 @@ make_node-requires-clause-sound g c =
 
 pub returns-in_err-more-in-Some-clause-rests : goal.returns-in_err-more-in-Some-clause-rests
 returns-in_err-more-in-Some-clause-rests g c =
-    let dated = generation_of_put c.owner.result c.args.tree.now.next c.in-Some.node c.owned_by.result c.owned_by.ensures
+    let dated = generation_of_put c.owner.result c.args.tree.now.next c.in-Some.node c.owned_by.result
+    c.owned_by.ensures
     (rw c.in-Some.is at c.requires.rest.ready).2 in
     subst (λ (n : ℕ). LeavesBe c.args.land.now c.make_node.new.land (g.D.Disk.history c.args.disk.now)
     (g.D.Disk.history c.make_node.new.disk) (g.D.Disk.size c.args.disk.now) (g.D.Disk.size c.make_node.new.disk) n)
@@ -72,7 +74,8 @@ returns-in_ok-more-in-Some-clause-placed g c =
 
 pub returns-in_ok-more-in-Some-clause-rests : goal.returns-in_ok-more-in-Some-clause-rests
 returns-in_ok-more-in-Some-clause-rests g c =
-    let dated = generation_of_put c.owner.result c.args.tree.now.next c.in-Some.node c.owned_by.result c.owned_by.ensures
+    let dated = generation_of_put c.owner.result c.args.tree.now.next c.in-Some.node c.owned_by.result
+    c.owned_by.ensures
     (rw c.in-Some.is at c.requires.rest.ready).2 in
     subst (λ (n : ℕ). LeavesBe c.args.land.now c.make_node.new.land (g.D.Disk.history c.args.disk.now)
     (g.D.Disk.history c.make_node.new.disk) (g.D.Disk.size c.args.disk.now) (g.D.Disk.size c.make_node.new.disk) n)

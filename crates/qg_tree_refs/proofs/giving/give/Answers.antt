@@ -18,5 +18,6 @@ returns-then-count_one-greatest_count-clause-proper c can =
 
 pub returns-clause-done : goal.returns-clause-done
 returns-clause-done c given =
-    Gives-one (book_of c.args.refs.now.refs) (book_of c.add_one.new.self.refs) (owing_told c.args.owing.now) c.in-Some.what
+    Gives-one (book_of c.args.refs.now.refs) (book_of c.add_one.new.self.refs) (owing_told c.args.owing.now)
+    c.in-Some.what
     (sym c.known.ensures ∙ c.in-Some.is) c.in_ok-add_one.ensures.ok

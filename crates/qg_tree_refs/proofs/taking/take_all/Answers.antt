@@ -8,7 +8,11 @@ use Rattle.qg_tree_refs.proofs.taking.take_all.Goals.{then-not-take, else-not-ta
 use Rattle.qg_tree_refs.proofs.taking.take_all.Goals as goal
 
 pub loop-owing-init : goal.loop-owing-init
-loop-owing-init c = record { done = λ none. Takes-none (book_of c.args.refs.now.refs); proper = λ can. refl; held = refl }
+loop-owing-init c = record {
+  done = λ none. Takes-none (book_of c.args.refs.now.refs);
+  proper = λ can. refl;
+  held = refl;
+}
 
 pub loop-owing-preserved : goal.loop-owing-preserved
 loop-owing-preserved c =

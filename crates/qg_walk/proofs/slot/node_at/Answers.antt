@@ -27,7 +27,8 @@ pub returns-in-Ok-clause-told : goal.returns-in-Ok-clause-told
 returns-in-Ok-clause-told g c events told =
     let slot = rw c.sizes.ensures at (sym c.is_slot.ensures ∙ c.if-not-is_slot.false) in
     let bytes = rw c.value.ensures at (c.in_ok-read.ensures.bytes events told) in
-    node_found-read c.args.superblock.now (content events) c.read.new.buf c.args.address (length c.args.buffer.now) (Ok c.in-Ok.node) slot bytes c.requires.buffer c.in-Ok.ensures.exact
+    node_found-read c.args.superblock.now (content events) c.read.new.buf c.args.address (length c.args.buffer.now)
+    (Ok c.in-Ok.node) slot bytes c.requires.buffer c.in-Ok.ensures.exact
 
 pub returns-in-Err-Bad-clause-told : goal.returns-in-Err-Bad-clause-told
 returns-in-Err-Bad-clause-told g c events told =
@@ -35,4 +36,5 @@ returns-in-Err-Bad-clause-told g c events told =
     let bytes = rw c.value.ensures at (c.in_ok-read.ensures.bytes events told) in
     let exact = rw c.in-Err-Bad.field-0-is at c.in-Err-Bad.ensures.exact in
     rw c.rule_of.ensures
-    (node_found-read c.args.superblock.now (content events) c.read.new.buf c.args.address (length c.args.buffer.now) (Err c.in-Err-Bad.fault) slot bytes c.requires.buffer exact)
+    (node_found-read c.args.superblock.now (content events) c.read.new.buf c.args.address (length c.args.buffer.now)
+    (Err c.in-Err-Bad.fault) slot bytes c.requires.buffer exact)

@@ -11,12 +11,14 @@ form_failure-requires g c = record { ascending = c.in_ok-node.ensures.stands.sou
 
 pub returns-in-Some-clause-failure : goal.returns-in-Some-clause-failure
 returns-in-Some-clause-failure g c = λ events told.
-    let is : standing_failure g.P.TreePart.tree c.args.superblock.now c.args.expected.now c.args.address (node_found c.args.superblock.now (content events) c.args.address) ≡ Some c.in-Some.failure =
+    let is : standing_failure g.P.TreePart.tree c.args.superblock.now c.args.expected.now c.args.address
+    (node_found c.args.superblock.now (content events) c.args.address) ≡ Some c.in-Some.failure =
     rw (c.in_ok-node.ensures.told events told) (sym c.form_failure.ensures ∙ c.in-Some.is) in
     TellsFailure-of c.from.result c.in-Some.failure _ c.from.ensures is
 
 pub returns-in-Some-clause-cause : goal.returns-in-Some-clause-cause
 returns-in-Some-clause-cause g c = record {
   later = c.in_ok-node.ensures.cause.later;
-  rose = λ is. let disk : c.from.result ≡ Disk = cc in absurd (told-no_disk c.from.result c.in-Some.failure c.from.ensures disk);
+  rose = λ is. let disk : c.from.result ≡ Disk = cc in
+      absurd (told-no_disk c.from.result c.in-Some.failure c.from.ensures disk);
 }

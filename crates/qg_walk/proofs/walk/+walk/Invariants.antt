@@ -20,10 +20,13 @@ invariant-walk_pointers-pointers g l = record {
   spaced : AreSpaced l.expected.from l.expected.to l.rest;
   failure :
       (events : List Event) (depth : ℕ) → g.D.Disk.history l.initial.disk ≡ Some events → l.level ≤ depth
-      → pointers_failure (walk_failure (node_failure g.P.TreePart.tree l.superblock) (node_found l.superblock (content events)) depth) l.level l.expected.to l.rest
-      ≡ pointers_failure (walk_failure (node_failure g.P.TreePart.tree l.superblock) (node_found l.superblock (content events)) depth) l.level l.expected.to l.pointers;
+      → pointers_failure (walk_failure (node_failure g.P.TreePart.tree l.superblock)
+      (node_found l.superblock (content events)) depth) l.level l.expected.to l.rest
+      ≡ pointers_failure (walk_failure (node_failure g.P.TreePart.tree l.superblock)
+      (node_found l.superblock (content events)) depth) l.level l.expected.to l.pointers;
   passed :
-      HasPassed g.P.TreePart.tree g.P.TreePart.meaning g.N.NodeList.keeps l.superblock (g.D.Disk.history l.initial.disk) l.expected.from l.expected.to l.level l.pointers l.rest
+      HasPassed g.P.TreePart.tree g.P.TreePart.meaning g.N.NodeList.keeps l.superblock (g.D.Disk.history l.initial.disk)
+      l.expected.from l.expected.to l.level l.pointers l.rest
       (found_by g.L.PartList.list l.initial.walked) (found_by g.L.PartList.list l.walked);
 }
 

@@ -15,16 +15,22 @@ pub returns-clause-found : goal.returns-clause-found
 unfolding tree_failure
 returns-clause-found g c events told =
     let walked = c.in_ok-walk.ensures in
-    IsWalk-added g.P.TreePart.tree g.P.TreePart.meaning g.N.NodeList.keeps c.args.superblock.now (g.D.Disk.history c.args.disk.now) events c.args.expected.now.from c.args.expected.now.to
-    c.args.expected.now c.args.root (record { parts = g.L.PartList.list c.new.result; nodes = c.args.nodes }) (found_by g.L.PartList.list c.walk.new.walked) told c.new.ensures c.requires.none
+    IsWalk-added g.P.TreePart.tree g.P.TreePart.meaning g.N.NodeList.keeps c.args.superblock.now
+    (g.D.Disk.history c.args.disk.now) events c.args.expected.now.from c.args.expected.now.to
+    c.args.expected.now c.args.root (record { parts = g.L.PartList.list c.new.result; nodes = c.args.nodes })
+    (found_by g.L.PartList.list c.walk.new.walked) told c.new.ensures c.requires.none
     (walked.failure events deepest told (levels_few c.args.expected.now.level)) walked.added
 
 pub returns-clause-slots : goal.returns-clause-slots
 returns-clause-slots g c =
-    slots-added g.P.TreePart.tree g.P.TreePart.meaning g.N.NodeList.keeps c.args.superblock.now (g.D.Disk.history c.args.disk.now) c.args.expected.now.from c.args.expected.now.to c.args.root
-    (record { parts = g.L.PartList.list c.new.result; nodes = c.args.nodes }) (found_by g.L.PartList.list c.walk.new.walked) c.requires.none c.in_ok-walk.ensures.added
+    slots-added g.P.TreePart.tree g.P.TreePart.meaning g.N.NodeList.keeps c.args.superblock.now
+    (g.D.Disk.history c.args.disk.now) c.args.expected.now.from c.args.expected.now.to c.args.root
+    (record { parts = g.L.PartList.list c.new.result; nodes = c.args.nodes })
+    (found_by g.L.PartList.list c.walk.new.walked) c.requires.none c.in_ok-walk.ensures.added
 
 pub returns-clause-held : goal.returns-clause-held
 returns-clause-held g c =
-    held-added g.P.TreePart.tree g.P.TreePart.meaning g.N.NodeList.keeps c.args.superblock.now (g.D.Disk.history c.args.disk.now) c.args.expected.now.from c.args.expected.now.to c.args.root
-    (record { parts = g.L.PartList.list c.new.result; nodes = c.args.nodes }) (found_by g.L.PartList.list c.walk.new.walked) c.new.ensures c.in_ok-walk.ensures.added
+    held-added g.P.TreePart.tree g.P.TreePart.meaning g.N.NodeList.keeps c.args.superblock.now
+    (g.D.Disk.history c.args.disk.now) c.args.expected.now.from c.args.expected.now.to c.args.root
+    (record { parts = g.L.PartList.list c.new.result; nodes = c.args.nodes })
+    (found_by g.L.PartList.list c.walk.new.walked) c.new.ensures c.in_ok-walk.ensures.added

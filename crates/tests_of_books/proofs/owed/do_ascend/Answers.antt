@@ -13,9 +13,13 @@ not_less a b h = grind (arith, nat_tests)
 pub loop-i-preserved : goal.loop-i-preserved
 loop-i-preserved c =
     let le = not_less c.address_of.result c.address_of-in-loop-i.result (sym c.lt.ensures ∙ c.if-lt.false) in
-    all_adjacent_more c.args.parts.now (λ (x : ExtentPart) (y : ExtentPart). part_address x ≤ part_address y) c.loop-i.i (omega arith) c.loop-i.invariant
-    (pair_read c.args.parts.now (λ (x : ExtentPart) (y : ExtentPart). part_address x ≤ part_address y) (c.loop-i.i - 1) c.loop-i.i c.index-parts-i-in-loop-i.result c.index-parts-i.result
-    (omega arith) (omega arith) c.index-parts-i-in-loop-i.is c.index-parts-i.is (omega (arith, le, c.address_of.ensures, c.address_of-in-loop-i.ensures)))
+    all_adjacent_more c.args.parts.now (λ (x : ExtentPart) (y : ExtentPart). part_address x ≤ part_address y) c.loop-i.i
+    (omega arith) c.loop-i.invariant
+    (pair_read c.args.parts.now (λ (x : ExtentPart) (y : ExtentPart). part_address x ≤ part_address y)
+    (c.loop-i.i - 1) c.loop-i.i c.index-parts-i-in-loop-i.result c.index-parts-i.result
+    (omega arith) (omega arith) c.index-parts-i-in-loop-i.is c.index-parts-i.is
+    (omega (arith, le, c.address_of.ensures, c.address_of-in-loop-i.ensures)))
 
 pub returns : goal.returns
-returns c = λ holds. IsNonDecreasingBy-from_all_adjacent part_address c.args.parts.now (λ k d h. c.loop-i.invariant k d (omega (arith, h, c.loop-i-test.false)))
+returns c = λ holds. IsNonDecreasingBy-from_all_adjacent part_address c.args.parts.now
+    (λ k d h. c.loop-i.invariant k d (omega (arith, h, c.loop-i-test.false)))

@@ -11,7 +11,8 @@ six-ascend a b c d e f first second third fourth fifth (suc zero) short = second
 six-ascend a b c d e f first second third fourth fifth (suc (suc zero)) short = third
 six-ascend a b c d e f first second third fourth fifth (suc (suc (suc zero))) short = fourth
 six-ascend a b c d e f first second third fourth fifth (suc (suc (suc (suc zero)))) short = fifth
-six-ascend a b c d e f first second third fourth fifth (suc (suc (suc (suc (suc k))))) short = absurd (omega (arith, short))
+six-ascend a b c d e f first second third fourth fifth (suc (suc (suc (suc (suc k))))) short =
+    absurd (omega (arith, short))
 
 pub group_counts-requires-clause-ascending : goal.group_counts-requires-clause-ascending
 group_counts-requires-clause-ascending c =

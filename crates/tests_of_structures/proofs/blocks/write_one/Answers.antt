@@ -24,7 +24,11 @@ write_at-requires g c =
 pub returns-clause-written : goal.returns-clause-written
 returns-clause-written g c node fresh =
     let placed = c.is_placed.ensures c.if-not-is_placed.false in
-    let same : c.peek-node.result.now ≡ node = fresh-held c.args.blocks.now c.args.address node c.peek-node.result.now fresh c.peek-node.ensures in
-    let read : node_read c.args.address c.write_node.new.bytes ≡ Ok node = rw (placed.kept.placed, same) at c.write_node.ensures.read in
-    HasWritten-wrote (slots_of 4096 64) c.len.result c.args.address c.write_node.new.bytes node (g.D.Disk.history c.args.disk.now) (g.D.Disk.history c.write_at.new.self)
-    small_served c.write_node.auto.bytes (rw c.value.ensures at c.in_ok-write_at.ensures.event) (λ events told. c.len.ensures ∙ g.met.D.Disk.sized c.args.disk.now events told) placed.slot read
+    let same : c.peek-node.result.now ≡ node =
+    fresh-held c.args.blocks.now c.args.address node c.peek-node.result.now fresh c.peek-node.ensures in
+    let read : node_read c.args.address c.write_node.new.bytes ≡ Ok node =
+    rw (placed.kept.placed, same) at c.write_node.ensures.read in
+    HasWritten-wrote (slots_of 4096 64) c.len.result c.args.address c.write_node.new.bytes node
+    (g.D.Disk.history c.args.disk.now) (g.D.Disk.history c.write_at.new.self)
+    small_served c.write_node.auto.bytes (rw c.value.ensures at c.in_ok-write_at.ensures.event)
+    (λ events told. c.len.ensures ∙ g.met.D.Disk.sized c.args.disk.now events told) placed.slot read

@@ -15,4 +15,5 @@ put_piece-requires-2-clause-hole c =
     let old = c.put_piece.new.pieces in
     let cut = hole_behind 4096 8192 4096 8192 [] old c.in_ok-put_piece.ensures.apart (lit≤ tt) (lit≤ tt) tt in
     let hole = subst (λ pieces. pieces_meeting 4096 8192 pieces ≡ 0) (sym c.in_ok-cut_range.ensures.ok) cut in
-    subst (λ (piece : Piece). pieces_meeting piece.position (piece_end piece) c.cut_range.new.pieces ≡ 0) (sym c.piece-2.ensures) hole
+    subst (λ (piece : Piece). pieces_meeting piece.position (piece_end piece) c.cut_range.new.pieces ≡ 0)
+    (sym c.piece-2.ensures) hole

@@ -8,4 +8,5 @@ loop-i-init c = rw c.new-items.ensures (AreSamples-none (length c.args.body.now)
 pub loop-i-preserved : goal.loop-i-preserved
 loop-i-preserved c =
     rw c.in_ok-push.ensures.ok
-    (AreSamples-more (length c.args.body.now) c.loop-i.items c.loop-i.i c.in_ok-item_of.field-0 (ap (λ (bytes : List ℕ). length bytes) c.in_ok-item_of.ensures.body) c.requires c.loop-i.invariant)
+    (AreSamples-more (length c.args.body.now) c.loop-i.items c.loop-i.i c.in_ok-item_of.field-0
+    (ap (λ (bytes : List ℕ). length bytes) c.in_ok-item_of.ensures.body) c.requires c.loop-i.invariant)

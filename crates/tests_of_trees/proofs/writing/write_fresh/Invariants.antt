@@ -12,6 +12,8 @@ invariant-loop-address g l = record {
   items : l.address-items ≡ keys_of l.fn.blocks.draft.fresh;
   buffer : l.buffer.len ≡ l.sizes.nodesize;
   size : g.D.Disk.size l.fn.disk ≤ g.D.Disk.size l.disk;
-  flushed : HasFlushed l.fn.blocks.draft (g.D.Disk.history l.fn.disk) (g.D.Disk.history l.disk) (IsAmong l.address-items l.address-index);
-  kept : (at : ℕ) (node : Node) → IsAmong l.address-items l.address-index at → fresh_at l.fn.blocks.draft at ≡ Some node → IsNodeAt l.sizes.nodesize at node;
+  flushed : HasFlushed l.fn.blocks.draft (g.D.Disk.history l.fn.disk) (g.D.Disk.history l.disk)
+      (IsAmong l.address-items l.address-index);
+  kept : (at : ℕ) (node : Node) → IsAmong l.address-items l.address-index at → fresh_at l.fn.blocks.draft at ≡ Some node
+      → IsNodeAt l.sizes.nodesize at node;
 }

@@ -21,9 +21,12 @@ pub returns-clause-written : goal.returns-clause-written
 returns-clause-written g c =
     let placed = c.is_placed.ensures c.if-not-is_placed.false in
     let node = c.args.node.now in
-    let read : node_read c.args.address c.write_node.new.bytes ≡ Ok node = rw placed.kept.placed at c.write_node.ensures.read in
+    let read : node_read c.args.address c.write_node.new.bytes ≡ Ok node =
+    rw placed.kept.placed at c.write_node.ensures.read in
     let long = c.write_node.auto.bytes ∙ c.requires.buffer in
     on_ok_weaker c.write.result
-    (λ event. HasWritten-wrote c.args.sizes.now c.len.result c.args.address c.write_node.new.bytes node (g.D.Disk.history c.args.disk.now)
+    (λ event. HasWritten-wrote c.args.sizes.now c.len.result c.args.address c.write_node.new.bytes node
+    (g.D.Disk.history c.args.disk.now)
     (g.D.Disk.history c.write.new.disk) c.requires.served long (rw c.value.ensures at event)
-    (λ events told. c.len.ensures ∙ g.met.D.Disk.sized c.args.disk.now events told) placed.slot read) c.write.ensures.event
+    (λ events told. c.len.ensures ∙ g.met.D.Disk.sized c.args.disk.now events told) placed.slot read)
+    c.write.ensures.event

@@ -11,7 +11,8 @@ served : (found : Option Super) → IfSome found FieldsFit → IfSome found (λ 
 served None fits = tt
 served (Some super) fits = (SuperFits-is_super super fits).served
 
-chosen : (first second : Option Super) → IfSome first FieldsFit → IfSome second FieldsFit → IfSome (choose first second) FieldsFit
+chosen : (first second : Option Super) → IfSome first FieldsFit → IfSome second FieldsFit
+    → IfSome (choose first second) FieldsFit
 chosen None second fits fits' = fits'
 chosen (Some a) None fits fits' = fits
 chosen (Some a) (Some b) fits fits' = either (nat_lt a.generation b.generation) where
@@ -21,4 +22,5 @@ chosen (Some a) (Some b) fits fits' = either (nat_lt a.generation b.generation) 
 
 pub returns-clause-served : goal.returns-clause-served
 returns-clause-served c =
-    served c.choose.result (subst (λ (found : Option Super). IfSome found FieldsFit) (sym c.choose.ensures) (chosen c.args.self.now.first c.args.self.now.second c.requires.first c.requires.second))
+    served c.choose.result (subst (λ (found : Option Super). IfSome found FieldsFit) (sym c.choose.ensures)
+    (chosen c.args.self.now.first c.args.self.now.second c.requires.first c.requires.second))

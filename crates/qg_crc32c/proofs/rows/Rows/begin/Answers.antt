@@ -10,7 +10,8 @@ invariant_of-result c =
     let front = c.args.front.now in
     let fits : (k : ℕ) → get_or front k 0 < 256 = λ k. omega (arith, c.type_inv.front k) in
     rw c.register_row.ensures (
-      row-xor (row_of_register c.args.register) (chunk 0 32 front) (row_of_register_is c.args.register) (row-chunk 0 front fits (omega arith)),
+      row-xor (row_of_register c.args.register) (chunk 0 32 front) (row_of_register_is c.args.register)
+          (row-chunk 0 front fits (omega arith)),
       row-chunk 32 front fits (omega arith),
       row-chunk 64 front fits (omega arith),
       row-chunk 96 front fits (omega arith),
@@ -21,4 +22,5 @@ returns c =
     let register = c.args.register in
     let front = c.args.front.now in
     let fits : (k : ℕ) → get_or front k 0 < 256 = λ k. omega (arith, c.type_inv.front k) in
-    rw c.register_row.ensures (remainder-first_rows register (row_of_register register) front (row_of_register_is register) (remainder-row_of_register register (omega arith)) fits c.requires)
+    rw c.register_row.ensures (remainder-first_rows register (row_of_register register) front
+    (row_of_register_is register) (remainder-row_of_register register (omega arith)) fits c.requires)

@@ -23,4 +23,5 @@ returns c =
     let are = c.self.invariant in
     let next : IsRow c.args.row.now = record { len = search rules; bytes = search rules } in
     rw (c.moved.ensures.bytes, c.moved-2.ensures.bytes, c.moved-3.ensures.bytes, c.moved-4.ensures.bytes)
-    (remainder-five_rows _ _ _ _ tables_move rows.first rows.second rows.third rows.fourth c.args.row.now are.0 are.1 are.2 are.3 next ∙ ap (λ (l : List ℕ). remainder 0 (l ++ c.args.row.now)) c.self.view_is)
+    (remainder-five_rows _ _ _ _ tables_move rows.first rows.second rows.third rows.fourth c.args.row.now are.0 are.1
+    are.2 are.3 next ∙ ap (λ (l : List ℕ). remainder 0 (l ++ c.args.row.now)) c.self.view_is)

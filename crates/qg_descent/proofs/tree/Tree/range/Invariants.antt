@@ -9,15 +9,21 @@ use Rattle.qg_descent.proofs.tree.Tree.range.Given as goal
 
 abbrev pub invariant-leaves : goal.invariant-leaves
 invariant-leaves g l = record {
-  read : HasRead l.fn.blocks l.blocks (g.D.Disk.history l.fn.disk) (g.D.Disk.history l.disk) (g.D.Disk.size l.fn.disk) (g.D.Disk.size l.disk);
+  read : HasRead l.fn.blocks l.blocks (g.D.Disk.history l.fn.disk) (g.D.Disk.history l.disk) (g.D.Disk.size l.fn.disk)
+      (g.D.Disk.size l.disk);
   readable : IsReadable l.blocks (g.D.Disk.history l.disk) (g.D.Disk.size l.disk);
   count : g.D.Disk.faults l.fn.disk ≤ g.D.Disk.faults l.disk;
   upto : IfSome l.next (λ key. is_upto l.to key ≡ true);
-  there : (whole : List Item) → TellsTree g.P.TreePart.tree l.fn.self l.fn.blocks.draft (g.D.Disk.history l.fn.disk) whole → IfSome l.next (λ key. IsSome (body_at key whole));
-  part : (whole : List Item) → TellsTree g.P.TreePart.tree l.fn.self l.fn.blocks.draft (g.D.Disk.history l.fn.disk) whole
+  there : (whole : List Item)
+      → TellsTree g.P.TreePart.tree l.fn.self l.fn.blocks.draft (g.D.Disk.history l.fn.disk) whole
+      → IfSome l.next (λ key. IsSome (body_at key whole));
+  part : (whole : List Item)
+      → TellsTree g.P.TreePart.tree l.fn.self l.fn.blocks.draft (g.D.Disk.history l.fn.disk) whole
       → items_within l.fn.from l.to whole ≡ l.found ++ rest_within l.next l.to whole;
-  steps : (whole : List Item) → TellsTree g.P.TreePart.tree l.fn.self l.fn.blocks.draft (g.D.Disk.history l.fn.disk) whole
-      → l.reads + (l.fn.self.height + 1) * length (rest_within l.next l.to whole) ≤ l.fn.reads + (l.fn.self.height + 1) * (1 + length (items_within l.fn.from l.to whole));
+  steps : (whole : List Item)
+      → TellsTree g.P.TreePart.tree l.fn.self l.fn.blocks.draft (g.D.Disk.history l.fn.disk) whole
+      → l.reads + (l.fn.self.height + 1) * length (rest_within l.next l.to whole) ≤ l.fn.reads
+      + (l.fn.self.height + 1) * (1 + length (items_within l.fn.from l.to whole));
 }
 
 abbrev pub decreases-leaves : goal.decreases-leaves

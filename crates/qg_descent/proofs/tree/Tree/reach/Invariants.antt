@@ -11,7 +11,8 @@ use Rattle.qg_descent.proofs.tree.Tree.reach.Given as goal
 
 abbrev pub invariant-down : goal.invariant-down
 invariant-down g l = record {
-  read : HasRead l.fn.blocks l.blocks (g.D.Disk.history l.fn.disk) (g.D.Disk.history l.disk) (g.D.Disk.size l.fn.disk) (g.D.Disk.size l.disk);
+  read : HasRead l.fn.blocks l.blocks (g.D.Disk.history l.fn.disk) (g.D.Disk.history l.disk) (g.D.Disk.size l.fn.disk)
+      (g.D.Disk.size l.disk);
   readable : IsReadable l.blocks (g.D.Disk.history l.disk) (g.D.Disk.size l.disk);
   count : g.D.Disk.faults l.fn.disk ≤ g.D.Disk.faults l.disk;
   steps : l.reads + l.level ≡ l.fn.reads + l.fn.self.height;
@@ -19,10 +20,12 @@ invariant-down g l = record {
   levelled : l.way.expected.level ≡ Some l.level;
   past : is_to l.way.expected.to l.fn.key ≡ true;
   comes : (events : List Event) → g.D.Disk.history l.fn.disk ≡ Some events
-      → ComesTo g.P.TreePart.tree (super_of l.fn.self l.fn.blocks.draft) (told l.fn.blocks.draft (Some events)) (root_expected (Some l.fn.self.height) None) l.fn.self.address
+      → ComesTo g.P.TreePart.tree (super_of l.fn.self l.fn.blocks.draft) (told l.fn.blocks.draft (Some events))
+      (root_expected (Some l.fn.self.height) None) l.fn.self.address
       (l.fn.self.height - l.level) l.way.expected l.way.address;
   on : (whole : List Item) → TellsTree g.P.TreePart.tree l.fn.self l.fn.blocks.draft (g.D.Disk.history l.fn.disk) whole
-      → IsOnWay g.P.TreePart.tree (super_of l.fn.self l.fn.blocks.draft) (told l.fn.blocks.draft (g.D.Disk.history l.fn.disk)) l.fn.key l.level l.way.expected l.way.address whole;
+      → IsOnWay g.P.TreePart.tree (super_of l.fn.self l.fn.blocks.draft)
+      (told l.fn.blocks.draft (g.D.Disk.history l.fn.disk)) l.fn.key l.level l.way.expected l.way.address whole;
 }
 
 abbrev pub decreases-down : goal.decreases-down

@@ -5,7 +5,8 @@ use Rattle.qg_refs.specs.declared.kept.Kept.{Kept}
 use Rattle.qg_refs.specs.Book.{references_in}
 use Rattle.qg_refs.specs.Counts.{HasOneMore, IsRefList, count_of}
 use Rattle.qg_extents.specs.Table.{IsTable, MayKeep, book_of}
-use Rattle.qg_extents.proofs.Tables.{found_there, kept_at, lent_put, lent_same, may_first, may_more, on_err, table-put, updated_put}
+use Rattle.qg_extents.proofs.Tables.{found_there, kept_at, lent_put, lent_same, may_first, may_more, on_err, table-put}
+use Rattle.qg_extents.proofs.Tables.{updated_put}
 use Rattle.qg_extents.proofs.extents.Extents.add_one.Goals as goal
 
 pub invariant_of-self : goal.invariant_of-self

@@ -4,7 +4,8 @@ use Rattle.std.specs.Option.{option_copied_mut}
 use Rattle.std.proofs.lemmas.Bool.Decides.{nat_tests}
 use Rattle.qg_refs.specs.declared.kept.Kept.{Kept}
 use Rattle.qg_extents.specs.Table.{MayKeep, book_of}
-use Rattle.qg_extents.proofs.Tables.{drops-last, found_there, kept_at, lent_put, may_less, nothing_kept, nothing_there, put-put, table-put}
+use Rattle.qg_extents.proofs.Tables.{drops-last, found_there, kept_at, lent_put, may_less, nothing_kept, nothing_there}
+use Rattle.qg_extents.proofs.Tables.{put-put, table-put}
 use Rattle.qg_extents.proofs.extents.Extents.drop_at.Goals as goal
 
 zero_from : (n : ℕ) → (n == 0) ≡ true → n ≡ 0

@@ -21,15 +21,22 @@ returns-clause-reads g c =
 pub returns-clause-inserted : goal.returns-clause-inserted
 returns-clause-inserted g c items names stands there named =
     let old = c.args.self.now in
-    let new : FsTree = record { tree = c.insert.new.tree; others = old.others; land = c.insert.new.land; refs = c.insert.new.book } in
+    let new : FsTree = record {
+      tree = c.insert.new.tree;
+      others = old.others;
+      land = c.insert.new.land;
+      refs = c.insert.new.book;
+    } in
     let history = g.D.Disk.history c.args.disk.now in
     let bytes = g.D.Disk.size c.args.disk.now in
     let met = c.in_ok-insert.ensures in
     let table = subst (λ (refs : List (ℕ × Kept)). IsTable refs) c.refs.ensures c.len-ascending.ensures.table in
     let made = met.inserted items stands.rooted there in
     let told = made.told old.refs [] (Follows-none old.refs) in
-    let edited = IsEditedTo-called old new history bytes items (with_item (record { key = c.args.key; body = c.args.body }) items) names told.0
-    c.requires.subvolume stands table told.2 told.1 (g.D.Disk.history c.insert.new.disk) (g.D.Disk.size c.insert.new.disk)
+    let edited = IsEditedTo-called old new history bytes items
+    (with_item (record { key = c.args.key; body = c.args.body }) items) names told.0
+    c.requires.subvolume stands table told.2 told.1 (g.D.Disk.history c.insert.new.disk)
+    (g.D.Disk.size c.insert.new.disk)
     1 made.replaced c.insert.ensures.rests refl met.tree.stays c.in_ok-insert.ensures.owners.each
     (met.book.settled (λ none. stands.settled))
     (subst (λ (refs : List (ℕ × Kept)). IsTable refs) c.refs-2.ensures c.len-ascending_still.ensures.table) named in
@@ -38,11 +45,17 @@ returns-clause-inserted g c items names stands there named =
 pub returns-clause-sound : goal.returns-clause-sound
 returns-clause-sound g c events is items names stands there room =
     let old = c.args.self.now in
-    let new : FsTree = record { tree = c.insert.new.tree; others = old.others; land = c.insert.new.land; refs = c.insert.new.book } in
+    let new : FsTree = record {
+      tree = c.insert.new.tree;
+      others = old.others;
+      land = c.insert.new.land;
+      refs = c.insert.new.book;
+    } in
     let history = g.D.Disk.history c.args.disk.now in
     let bytes = g.D.Disk.size c.args.disk.now in
     let table = subst (λ (refs : List (ℕ × Kept)). IsTable refs) c.refs.ensures c.len-ascending.ensures.table in
     let told = (c.in_ok-insert.ensures.inserted items stands.rooted there).told old.refs [] (Follows-none old.refs) in
-    let fits = fits-called old new history bytes items items names told.0 c.requires.subvolume stands table told.2 told.1
+    let fits = fits-called old new history bytes items items names told.0 c.requires.subvolume stands table told.2
+    told.1
     in
     fitting-sound new.refs.misfit c.fitting.result c.fitting.ensures fits

@@ -10,7 +10,8 @@ use Rattle.qg_weighed.specs.Weight.{reference_bytes}
 use Rattle.qg_fs_tree.proofs.Heavier.{heavier-named}
 use Rattle.qg_fs_tree.proofs.Named.{Stands-named, room-named, some-named, taken-named}
 use Rattle.qg_fs_tree.proofs.fs_tree.FsTree.name.Goals as goal
-use Rattle.qg_fs_tree.proofs.fs_tree.FsTree.name.Goals.{then-how_many-eq0-via-then-how_many-eq0, then-how_many-eq0-via-else-how_many-eq0+then-not-is_taken}
+use Rattle.qg_fs_tree.proofs.fs_tree.FsTree.name.Goals.{then-how_many-eq0-via-then-how_many-eq0}
+use Rattle.qg_fs_tree.proofs.fs_tree.FsTree.name.Goals.{then-how_many-eq0-via-else-how_many-eq0+then-not-is_taken}
 
 pub returns-then-how_many-eq0-clause-sound : goal.returns-then-how_many-eq0-clause-sound
 returns-then-how_many-eq0-clause-sound c history bytes items names subvolume stands among few =

@@ -24,7 +24,12 @@ returns-clause-reads g c =
 pub returns-clause-removed : goal.returns-clause-removed
 returns-clause-removed g c items names stands there =
     let old = c.args.self.now in
-    let new : FsTree = record { tree = c.remove.new.tree; others = old.others; land = c.remove.new.land; refs = c.remove.new.book } in
+    let new : FsTree = record {
+      tree = c.remove.new.tree;
+      others = old.others;
+      land = c.remove.new.land;
+      refs = c.remove.new.book;
+    } in
     let history = g.D.Disk.history c.args.disk.now in
     let bytes = g.D.Disk.size c.args.disk.now in
     let met = c.in_ok-remove.ensures in
@@ -32,10 +37,12 @@ returns-clause-removed g c items names stands there =
     let made = met.removed items stands.rooted there in
     let told = made.told old.refs [] (Follows-none old.refs) in
     let edited = IsEditedTo-called old new history bytes items (without_key c.args.key items) names told.0
-    c.requires.subvolume stands table told.2 told.1 (g.D.Disk.history c.remove.new.disk) (g.D.Disk.size c.remove.new.disk)
+    c.requires.subvolume stands table told.2 told.1 (g.D.Disk.history c.remove.new.disk)
+    (g.D.Disk.size c.remove.new.disk)
     0 made.replaced c.remove.ensures.rests refl met.tree.stays c.in_ok-remove.ensures.owners.each
     (met.book.settled (λ none. stands.settled))
-    (subst (λ (refs : List (ℕ × Kept)). IsTable refs) c.refs-2.ensures c.len-ascending_still.ensures.table) (λ at reference.
+    (subst (λ (refs : List (ℕ × Kept)). IsTable refs) c.refs-2.ensures c.len-ascending_still.ensures.table)
+    (λ at reference.
     let fewer = names-fewer old.tree.owner (λ item. not (same_key item.key c.args.key)) items at reference in
     let within = stands.within at reference in
     omega (arith, fewer, within)) in
@@ -44,11 +51,17 @@ returns-clause-removed g c items names stands there =
 pub returns-clause-sound : goal.returns-clause-sound
 returns-clause-sound g c events is items names stands there room =
     let old = c.args.self.now in
-    let new : FsTree = record { tree = c.remove.new.tree; others = old.others; land = c.remove.new.land; refs = c.remove.new.book } in
+    let new : FsTree = record {
+      tree = c.remove.new.tree;
+      others = old.others;
+      land = c.remove.new.land;
+      refs = c.remove.new.book;
+    } in
     let history = g.D.Disk.history c.args.disk.now in
     let bytes = g.D.Disk.size c.args.disk.now in
     let table = subst (λ (refs : List (ℕ × Kept)). IsTable refs) c.refs.ensures c.len-ascending.ensures.table in
     let told = (c.in_ok-remove.ensures.removed items stands.rooted there).told old.refs [] (Follows-none old.refs) in
-    let fits = fits-called old new history bytes items items names told.0 c.requires.subvolume stands table told.2 told.1
+    let fits = fits-called old new history bytes items items names told.0 c.requires.subvolume stands table told.2
+    told.1
     in
     fitting-sound new.refs.misfit c.fitting.result c.fitting.ensures fits

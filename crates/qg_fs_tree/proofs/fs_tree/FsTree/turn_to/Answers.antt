@@ -4,7 +4,8 @@ use Rattle.std.proofs.lemmas.List.Sorted.{IsPermutation-refl}
 use Rattle.std.specs.List.{filter_map}
 use Rattle.qg_fs_tree.specs.declared.fs_tree.FsTree.{FsTree}
 use Rattle.qg_fs_tree.specs.Standing.{AreNumbered, IsTurned, name_told, trees_of}
-use Rattle.qg_fs_tree.proofs.AtHand.{IsTurned-exchanged, Stands-turned, layout-turned, numbered-standing, subvolume-turned}
+use Rattle.qg_fs_tree.proofs.AtHand.{IsTurned-exchanged, Stands-turned, layout-turned, numbered-standing}
+use Rattle.qg_fs_tree.proofs.AtHand.{subvolume-turned}
 use Rattle.qg_fs_tree.proofs.Numbers.{AreNumbered-turned}
 use Rattle.qg_fs_tree.proofs.fs_tree.FsTree.turn_to.Goals as goal
 

@@ -12,7 +12,8 @@ loop-node-preserved c =
     let read = c.node-item.result in
     let slice = c.as_slice-node-items.ensures.value in
     let short = subst (λ (list : List NodeRead). c.loop-node.node-index < length list) slice c.loop-node-test.true in
-    let here = subst (λ (list : List NodeRead). c.node-item.result ≡ get_or list c.loop-node.node-index c.node-item.result)
+    let here = subst (λ (list : List NodeRead). c.node-item.result
+    ≡ get_or list c.loop-node.node-index c.node-item.result)
     slice c.node-item.is in
     c.in_ok-put_extents.ensures ∙ ap (λ (own : List Element). c.loop-node.named.items ++ own) c.as_slice.ensures
     ∙ ap (λ (all : List Element). all ++ c.node-item.result.extents) c.loop-node.invariant

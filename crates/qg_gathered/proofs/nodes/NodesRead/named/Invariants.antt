@@ -4,4 +4,5 @@ use Rattle.qg_gathered.specs.Told.{told_by}
 use Rattle.qg_gathered.proofs.nodes.NodesRead.named.Given as goal
 
 abbrev pub invariant-loop-node : goal.invariant-loop-node
-invariant-loop-node l = l.named.items ≡ flat_map (λ told. told.extents) (map told_by (take l.node-index l.self.nodes.items))
+invariant-loop-node l = l.named.items ≡ flat_map (λ told. told.extents)
+    (map told_by (take l.node-index l.self.nodes.items))

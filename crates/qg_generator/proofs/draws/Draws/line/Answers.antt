@@ -1,5 +1,6 @@
 use Rattle.std.proofs.Common.{◌≡◌, ◌<◌, ◌≤◌, ◌∙◌, arith}
-use Rattle.qg_generator.proofs.OfKind.{of_kind, kind-write, kind-clone, kind-truncate, kind-unlink, kind-snap, kind-delete, kind-assign, kind-limit, kind-commit}
+use Rattle.qg_generator.proofs.OfKind.{of_kind, kind-write, kind-clone, kind-truncate, kind-unlink, kind-snap}
+use Rattle.qg_generator.proofs.OfKind.{kind-delete, kind-assign, kind-limit, kind-commit}
 use Rattle.qg_generator.proofs.draws.Draws.line.Goals as goal
 
 pub returns-in-0-to-6 : goal.returns-in-0-to-6

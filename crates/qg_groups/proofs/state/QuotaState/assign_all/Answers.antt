@@ -32,11 +32,14 @@ loop-parent-preserved c =
     record {
       tracked = after.tracked;
       quota = after.quota ∙ ap (λ (q : Quota). assigned member one q) before.quota
-          ∙ ap (λ (p : ℕ). assigned member p (fold (λ made parent. assigned member parent made) c.args.self.now.quota (take i parents))) c.parent-item.is
-          ∙ sym (fold_more (λ (made : Quota) (parent : ℕ). assigned member parent made) c.args.self.now.quota parents i one c.loop-parent-test.true);
+          ∙ ap (λ (p : ℕ). assigned member p (fold (λ made parent. assigned member parent made) c.args.self.now.quota
+          (take i parents))) c.parent-item.is
+          ∙ sym (fold_more (λ (made : Quota) (parent : ℕ). assigned member parent made) c.args.self.now.quota parents i
+          one c.loop-parent-test.true);
       groups = ap (λ (q : Quota). q.groups) after.quota ∙ before.groups;
       pairs = λ parent. ap (λ (q : Quota). has_pair member parent q.pairs) after.quota
-          ∙ join-next member parent parents i one c.loop-parent.self.quota.pairs c.loop-parent-test.true c.parent-item.is (before.pairs parent);
+          ∙ join-next member parent parents i one c.loop-parent.self.quota.pairs c.loop-parent-test.true
+          c.parent-item.is (before.pairs parent);
       held = λ group. after.held group ∙ before.held group;
     }
 
@@ -48,11 +51,14 @@ assign-requires c =
     let parents = c.args.parents.now in
     let before = c.loop-parent.invariant in
     let into = c.requires.member.parents in
-    let above : 0 < level_of_group (get_or parents i one) = All-get_or (λ (p : ℕ). 0 < level_of_group p) parents i one c.loop-parent-test.true into.above in
-    let level : level_of_group one ≡ level_of_group (get_or parents i one) = ap (λ (p : ℕ). level_of_group p) c.parent-item.is in
+    let above : 0 < level_of_group (get_or parents i one) =
+    All-get_or (λ (p : ℕ). 0 < level_of_group p) parents i one c.loop-parent-test.true into.above in
+    let level : level_of_group one ≡ level_of_group (get_or parents i one) =
+    ap (λ (p : ℕ). level_of_group p) c.parent-item.is in
     let rises : level_of_group member < level_of_group one = omega (arith, above, level, c.requires.member.level) in
     let there : is_kept (hierarchy_of c.args.self.now.quota) (get_or parents i one) ≡ true =
-    All-get_or (λ (p : ℕ). IsTrue (is_kept (hierarchy_of c.args.self.now.quota) p)) parents i one c.loop-parent-test.true into.there in
+    All-get_or (λ (p : ℕ). IsTrue (is_kept (hierarchy_of c.args.self.now.quota) p)) parents i one
+    c.loop-parent-test.true into.there in
     record {
       tracked = before.tracked;
       free = free-assign (hierarchy_of c.loop-parent.self.quota) member one rises

@@ -10,8 +10,10 @@ use Rattle.qg_groups.proofs.state.QuotaState.assign_all.Given as goal
 abbrev pub invariant-loop-parent : goal.invariant-loop-parent
 invariant-loop-parent l = record {
   tracked : IsTracked l.self;
-  quota : l.self.quota ≡ fold (λ made parent. assigned l.member parent made) l.initial.self.quota (take l.parent-index l.parents);
+  quota : l.self.quota ≡ fold (λ made parent. assigned l.member parent made) l.initial.self.quota
+      (take l.parent-index l.parents);
   groups : l.self.quota.groups ≡ l.initial.self.quota.groups;
-  pairs : (parent : ℕ) → has_pair l.member parent l.self.quota.pairs ≡ list_any (λ other. other == parent) (take l.parent-index l.parents);
+  pairs : (parent : ℕ) → has_pair l.member parent l.self.quota.pairs ≡ list_any (λ other. other == parent)
+      (take l.parent-index l.parents);
   held : SameHeld l.initial.self.limits l.self.limits;
 }

@@ -17,7 +17,8 @@ pub returns-clause-holds : goal.returns-clause-holds
 returns-clause-holds c =
     let old = c.args.self.now in
     ok-then c.hold.result (HoldsMore old.limits c.hold.new.self c.args.path.now c.args.n) _
-    (λ more given pending is has amount holds group. held-more old.quota given pending c.args.path.now c.args.n group (held_of old.limits group) (held_of c.hold.new.self group)
+    (λ more given pending is has amount holds group. held-more old.quota given pending c.args.path.now c.args.n group
+    (held_of old.limits group) (held_of c.hold.new.self group)
     c.requires.tracked.sound has c.requires.ascending is amount (holds group) (more group))
     c.hold.ensures.ok
 

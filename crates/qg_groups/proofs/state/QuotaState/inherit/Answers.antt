@@ -13,4 +13,5 @@ assign_all-requires-clause-member c =
     let is : member ≡ c.args.copy = c.from_number-member.ensures ∙ c.value-2.ensures in
     subst (λ (q : Quota). CanJoin q member c.args.parents.now) (sym c.in_ok-put.ensures.quota)
     (can-join old member c.with_limits-group.result c.args.parents.now c.requires.tracked.sound
-    (ap (λ (n : ℕ). create_fault (hierarchy_of old) n) is ∙ c.requires.free) (ap (λ (n : ℕ). level_of_group n) is ∙ c.requires.level) c.requires.parents)
+    (ap (λ (n : ℕ). create_fault (hierarchy_of old) n) is ∙ c.requires.free) (ap (λ (n : ℕ). level_of_group n) is
+    ∙ c.requires.level) c.requires.parents)

@@ -15,9 +15,12 @@ returns-clause-value c pending holds =
     let path = c.in-Ok.path in
     let number : c.from_number.result ≡ c.args.sub = c.from_number.ensures ∙ c.value.ensures in
     let above : path ≡ path_of state.quota c.args.sub =
-    c.in-Ok.ensures.ok ∙ ap (λ (n : ℕ). groups_above state.hierarchy n) number ∙ ap (λ (h : Hierarchy). groups_above h c.args.sub) c.requires.tracked.same in
+    c.in-Ok.ensures.ok ∙ ap (λ (n : ℕ). groups_above state.hierarchy n) number
+    ∙ ap (λ (h : Hierarchy). groups_above h c.args.sub) c.requires.tracked.same in
     let told : c.in_ok-counted.counted ≡ counted_path state.quota.groups path =
     c.in_ok-counted.ensures ∙ ap (λ (gs : List (ℕ × Group)). counted_path gs c.as_slice-2.result.now) c.as_slice.ensures
     ∙ ap (λ (p : List ℕ). counted_path state.quota.groups p) c.as_slice-2.ensures in
-    c.answer_by.ensures.over ∙ c.over-found.ensures ∙ ap (λ (cs : List (ℕ × Counters)). first_over_of state.limits cs c.args.n) c.as_slice-3.ensures
-    ∙ judged-by state pending c.args.sub c.args.n path c.in_ok-counted.counted c.requires.tracked c.requires.group holds told above
+    c.answer_by.ensures.over ∙ c.over-found.ensures
+    ∙ ap (λ (cs : List (ℕ × Counters)). first_over_of state.limits cs c.args.n) c.as_slice-3.ensures
+    ∙ judged-by state pending c.args.sub c.args.n path c.in_ok-counted.counted c.requires.tracked c.requires.group holds
+    told above

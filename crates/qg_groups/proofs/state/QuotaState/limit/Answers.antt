@@ -8,9 +8,15 @@ use Rattle.qg_groups.proofs.state.QuotaState.limit.Goals as goal
 pub returns-clause-tracked : goal.returns-clause-tracked
 returns-clause-tracked c =
     let old = c.args.self.now in
-    let new : QuotaState = record { quota = record { groups = c.put_group.new.groups; pairs = old.quota.pairs }; hierarchy = old.hierarchy; limits = c.set.new.self } in
+    let new : QuotaState = record {
+      quota = record { groups = c.put_group.new.groups; pairs = old.quota.pairs };
+      hierarchy = old.hierarchy;
+      limits = c.set.new.self;
+    } in
     ok-then c.set.result _ _
     (tracked-limited old new c.requires.tracked c.args.number c.in-Some.group c.args.which c.args.max
-    (ap (λ (t : List (ℕ × Group)). value_at c.args.number t) (sym c.as_slice.ensures) ∙ sym c.find_group.ensures ∙ c.in-Some.is)
-    (c.in_ok-put_group.ensures ∙ ap (λ (g : Group). with_value c.args.number g old.quota.groups) c.with_limit.ensures) refl refl)
+    (ap (λ (t : List (ℕ × Group)). value_at c.args.number t) (sym c.as_slice.ensures) ∙ sym c.find_group.ensures
+    ∙ c.in-Some.is)
+    (c.in_ok-put_group.ensures ∙ ap (λ (g : Group). with_value c.args.number g old.quota.groups) c.with_limit.ensures)
+    refl refl)
     c.set.ensures.ok

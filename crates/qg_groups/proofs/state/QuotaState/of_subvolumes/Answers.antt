@@ -12,6 +12,7 @@ new-requires-2 c =
     let made : Quota = quota_for c.args.stamp (keys_of c.args.subs.now) in
     let given : Quota = record { groups = c.in_ok-groups.groups; pairs = c.new.result } in
     record {
-      sound = subst (λ (q : Quota). IsSound (hierarchy_of q)) (sym (quota-by given made c.in_ok-groups.ensures c.new.ensures))
+      sound = subst (λ (q : Quota). IsSound (hierarchy_of q))
+          (sym (quota-by given made c.in_ok-groups.ensures c.new.ensures))
           (sound-alone c.args.stamp (keys_of c.args.subs.now) c.requires);
     }

@@ -6,7 +6,11 @@ use Rattle.qg_groups.proofs.state.QuotaState.settle.Goals as goal
 
 pub returns-clause-tracked : goal.returns-clause-tracked
 returns-clause-tracked c =
-    let new : QuotaState = record { quota = c.args.quota; hierarchy = c.args.self.now.hierarchy; limits = c.release_all.new.self } in
+    let new : QuotaState = record {
+      quota = c.args.quota;
+      hierarchy = c.args.self.now.hierarchy;
+      limits = c.release_all.new.self;
+    } in
     tracked-recounted c.args.self.now new c.requires.tracked c.requires.counted refl c.release_all.ensures.maxima
 
 pub returns-clause-none : goal.returns-clause-none

@@ -8,14 +8,18 @@ use Rattle.qg_limits.proofs.limits.Limits.over.Goals as goal
 pub returns-in-Some : goal.returns-in-Some
 returns-in-Some c =
     sym (c.loop-entry.invariant
-    ∙ passed_here c.args.self.now c.args.path.now c.args.n c.loop-entry.entry-index c.entry-item.result c.in-Some.which c.loop-entry-test.true c.entry-item.is (sym c.passed.ensures ∙ c.in-Some.is))
+    ∙ passed_here c.args.self.now c.args.path.now c.args.n c.loop-entry.entry-index c.entry-item.result c.in-Some.which
+    c.loop-entry-test.true c.entry-item.is (sym c.passed.ensures ∙ c.in-Some.is))
 
 pub loop-entry-preserved : goal.loop-entry-preserved
 loop-entry-preserved c =
     c.loop-entry.invariant
-    ∙ passed_later c.args.self.now c.args.path.now c.args.n c.loop-entry.entry-index c.entry-item.result c.loop-entry-test.true c.entry-item.is (sym c.passed.ensures ∙ c.in_default.is)
+    ∙ passed_later c.args.self.now c.args.path.now c.args.n c.loop-entry.entry-index c.entry-item.result
+    c.loop-entry-test.true c.entry-item.is (sym c.passed.ensures ∙ c.in_default.is)
 
 pub returns : goal.returns
 returns c =
-    let rest : drop c.loop-entry.entry-index c.args.path.now ≡ [] = drop_all c.loop-entry.entry-index c.args.path.now c.loop-entry-test.false in
-    sym (c.loop-entry.invariant ∙ ap (λ (path : List (ℕ × Counters)). first_over_of c.args.self.now path c.args.n) rest ∙ passed_none c.args.self.now c.args.n)
+    let rest : drop c.loop-entry.entry-index c.args.path.now ≡ [] =
+    drop_all c.loop-entry.entry-index c.args.path.now c.loop-entry-test.false in
+    sym (c.loop-entry.invariant ∙ ap (λ (path : List (ℕ × Counters)). first_over_of c.args.self.now path c.args.n) rest
+    ∙ passed_none c.args.self.now c.args.n)

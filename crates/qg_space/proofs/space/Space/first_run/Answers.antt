@@ -7,14 +7,17 @@ use Rattle.qg_space.specs.Lying.{extents_of}
 use Rattle.qg_space.proofs.Gaps.{none_of_none, none_of_too_many}
 use Rattle.qg_space.proofs.Used.{first_clear_used}
 use Rattle.qg_space.proofs.space.Space.first_run.Goals as goal
-use Rattle.qg_space.proofs.space.Space.first_run.Goals.{then-sectors-eq0-via-then-sectors-eq0, then-sectors-eq0-via-else-sectors-eq0+then-sectors-self}
+use Rattle.qg_space.proofs.space.Space.first_run.Goals.{then-sectors-eq0-via-then-sectors-eq0}
+use Rattle.qg_space.proofs.space.Space.first_run.Goals.{then-sectors-eq0-via-else-sectors-eq0+then-sectors-self}
 
 pub returns-then-sectors-eq0 : goal.returns-then-sectors-eq0
 returns-then-sectors-eq0 c =
     let seen = ap (λ (h : Holding). first_run h (c.args.sectors * sector)) c.self.view_is in
     elim c.then-sectors-eq0.branch [
-      | then-sectors-eq0-via-then-sectors-eq0 w ↦ sym (none_of_none _ _ (c.args.sectors * sector) (omega (arith, w.if-sectors-eq0.true))) ∙ seen
-      | then-sectors-eq0-via-else-sectors-eq0+then-sectors-self w ↦ sym (none_of_too_many _ _ c.args.sectors w.if-sectors-self.true) ∙ seen
+      | then-sectors-eq0-via-then-sectors-eq0 w ↦ sym
+          (none_of_none _ _ (c.args.sectors * sector) (omega (arith, w.if-sectors-eq0.true))) ∙ seen
+      | then-sectors-eq0-via-else-sectors-eq0+then-sectors-self w ↦ sym
+          (none_of_too_many _ _ c.args.sectors w.if-sectors-self.true) ∙ seen
     ]
 
 pub overflow_mul-sectors : goal.overflow_mul-sectors

@@ -9,9 +9,12 @@ use Rattle.qg_space.proofs.Listed.{free_listed, listed_apart, listed_free, liste
 use Rattle.qg_space.proofs.space.Space.free_list.Goals as goal
 
 -- the list is that of the slots that nothing holds
-unused : (c : goal.In_ok-slots) → c.in_ok-slots.slots ≡ take c.args.count (slots_where is_unused c.self.inside.sizes 0 c.self.inside.slots.items)
+unused : (c : goal.In_ok-slots)
+    → c.in_ok-slots.slots ≡ take c.args.count (slots_where is_unused c.self.inside.sizes 0 c.self.inside.slots.items)
 unused c =
-    let Listed : List Slot → Type 0 = λ slots. c.in_ok-slots.slots ≡ take c.args.count (slots_where is_unused c.self.inside.sizes 0 slots) in
+    let Listed : List Slot
+    → Type 0 = λ slots. c.in_ok-slots.slots ≡ take c.args.count
+    (slots_where is_unused c.self.inside.sizes 0 slots) in
     subst Listed c.deref.ensures.value c.in_ok-slots.ensures
 
 -- those are the free ones
@@ -32,7 +35,8 @@ returns-clause-apart c =
     subst (IsDistinct (λ a b. a == b)) (sym (unused c)) (listed_apart s.sizes s.slots.items c.args.count fit.some)
 
 pub returns-clause-free : goal.returns-clause-free
-returns-clause-free c = ap (list_all (is_free_slot c.args.self.now)) (first c) ∙ listed_free c.args.self.now c.args.count
+returns-clause-free c = ap (list_all (is_free_slot c.args.self.now)) (first c)
+    ∙ listed_free c.args.self.now c.args.count
 
 pub returns-clause-count : goal.returns-clause-count
 returns-clause-count c = ap length (first c) ∙ listed_count c.args.self.now c.args.count

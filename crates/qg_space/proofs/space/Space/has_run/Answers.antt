@@ -14,5 +14,6 @@ overflow_mul-sectors c =
 pub returns-else-sectors-self : goal.returns-else-sectors-self
 returns-else-sectors-self c =
     lt-leb c.args.sectors c.self.inside.sizes.sectors c.if-sectors-self.false
-    ∙ sym (has_few c.self.inside.sizes data_begin c.self.inside.runs.items c.args.at c.args.sectors c.self.invariant.apart c.if-sectors-self.false)
+    ∙ sym (has_few c.self.inside.sizes data_begin c.self.inside.runs.items c.args.at c.args.sectors
+    c.self.invariant.apart c.if-sectors-self.false)
     ∙ ap (λ (h : Holding). has_run h c.args.at (c.args.sectors * sector)) c.self.view_is

@@ -8,7 +8,8 @@ invariant_of-self c =
     let sizes = ap (λ (h : Holding). h.sizes) c.self.view_is in
     record {
       served = c.self.invariant.served;
-      apart = new_apart c.self.inside.sizes c.args.self.now c.in_ok-runs.runs.items c.args.extents.now sizes c.in_ok-runs.ensures.runs c.requires;
+      apart = new_apart c.self.inside.sizes c.args.self.now c.in_ok-runs.runs.items c.args.extents.now sizes
+          c.in_ok-runs.ensures.runs c.requires;
       front = c.in_ok-runs.ensures.front;
       all = c.self.invariant.all;
       counted = c.self.invariant.counted;

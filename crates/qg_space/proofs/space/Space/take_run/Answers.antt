@@ -17,12 +17,14 @@ overflow_mul-extent c =
 
 pub put_run-requires-clause-clear : goal.put_run-requires-clause-clear
 put_run-requires-clause-clear c =
-    sym (is_clear_used c.self.inside.sizes data_begin c.self.inside.runs.items c.args.at (c.args.sectors * sector) c.self.invariant.apart)
+    sym (is_clear_used c.self.inside.sizes data_begin c.self.inside.runs.items c.args.at
+    (c.args.sectors * sector) c.self.invariant.apart)
     ∙ ap (λ (h : Holding). is_free_run h c.args.at (c.args.sectors * sector)) c.self.view_is ∙ c.requires
 
 pub packed_runs-self-inside-requires-clause-known : goal.packed_runs-self-inside-requires-clause-known
 packed_runs-self-inside-requires-clause-known c =
     let Front : List Run → Type 0 = λ runs. IsFront runs c.min.result in
     subst Front (sym c.deref.ensures.value)
-    (front_kept c.self.inside.runs.items c.put_run.new.runs.items c.self.inside.packed c.in_ok-place.place c.min.result (omega (arith, c.min.ensures)) (omega (arith, c.min.ensures))
+    (front_kept c.self.inside.runs.items c.put_run.new.runs.items c.self.inside.packed c.in_ok-place.place c.min.result
+    (omega (arith, c.min.ensures)) (omega (arith, c.min.ensures))
     c.in_ok-place.ensures.before c.self.invariant.front)

@@ -81,5 +81,6 @@ returns-in-Ok-clause-crashes g c = λ state committed events store told rests la
 pub returns-in-Err-clause-crashes : goal.returns-in-Err-clause-crashes
 returns-in-Err-clause-crashes g c = λ state committed events store told rests last.
     let keeps = kept-in _ c.args.self.now state (g.D.Disk.history c.args.disk.now) c.self.view_is store in
-    outlives state c.args.command.now committed events _ last rests _ _ (c.in-Err.ensures.so_far state events keeps told)
+    outlives state c.args.command.now committed events _ last rests _ _
+    (c.in-Err.ensures.so_far state events keeps told)
     tt

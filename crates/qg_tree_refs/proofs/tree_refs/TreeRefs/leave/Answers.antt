@@ -12,7 +12,8 @@ use Rattle.qg_tree_refs.proofs.tree_refs.TreeRefs.leave.Goals as goal
 
 pub exchange-requires : goal.exchange-requires
 exchange-requires c =
-    subst (λ (refs : List (ℕ × Kept)). IfSome c.in_ok-lists.lists.full (λ at. 0 < length (references_at (book_of refs) at)))
+    subst (λ (refs : List (ℕ × Kept)). IfSome c.in_ok-lists.lists.full
+    (λ at. 0 < length (references_at (book_of refs) at)))
     c.refs.ensures c.in_ok-lists.ensures.some
 
 pub returns : goal.returns

@@ -17,8 +17,15 @@ invariant_of-result g c =
     let rests = c.make_node.ensures.rests.rests in
     let room : second_place ≤ bytes = let same = c.make_node.ensures.rests.size in rw same c.in_ok-lengthen.ensures in
     let next : c.tree_at.result.next ≡ 1 = rw c.tree_at.ensures refl in
-    let dated = subst (λ (generation : ℕ). Rests old new history generation) (c.empty_leaf-node.ensures ∙ sym next) rests in
+    let dated = subst (λ (generation : ℕ). Rests old new history generation) (c.empty_leaf-node.ensures
+    ∙ sym next) rests in
     let makes = makes_files c.tree_at.result c.in_ok-root.root 0 1 c.tree_at.ensures (lit≤ tt) in
     let nodes = draft_sizes old.blocks.draft sizes c.in_ok-land.ensures.draft in
-    let space = ap (λ (holding : Holding). holding.sizes) c.in_ok-land.ensures.space in
-    (rested_land old new history bytes c.tree_at.result.next dated room, makes, rests.node_sizes ∙ nodes, rests.sizes ∙ space, lit≤ tt)
+    let space = ap (λ (holding : Holding). holding.sizes) c.in_ok-land.ensures.space in (
+      rested_land old new history bytes c.tree_at.result.next dated room,
+      makes,
+      rests.node_sizes ∙ nodes,
+      rests.sizes
+          ∙ space,
+      lit≤ tt,
+    )

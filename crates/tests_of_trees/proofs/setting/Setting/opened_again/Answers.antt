@@ -15,8 +15,10 @@ invariant_of-result g c =
     let new : Ground = record { blocks = c.in_ok-land.land.blocks; space = c.hold_first.new.space } in
     let history = g.D.Disk.history s.disk in
     let served : is_served sizes ≡ true = subst (λ (x : Sizes). is_served x ≡ true) is.3 is.0.drafted.sizes.served in
-    let space : new.space.sizes ≡ sizes = c.hold_first.ensures ∙ ap (λ (holding : Holding). holding.sizes) c.in_ok-land.ensures.space in
-    let editable = empty_land new sizes served c.in_ok-land.ensures.draft space history (g.D.Disk.size s.disk) c.tree_at.result.next
+    let space : new.space.sizes ≡ sizes = c.hold_first.ensures
+    ∙ ap (λ (holding : Holding). holding.sizes) c.in_ok-land.ensures.space in
+    let editable = empty_land new sizes served c.in_ok-land.ensures.draft space history
+    (g.D.Disk.size s.disk) c.tree_at.result.next
     (c.in_ok-land.ensures.backed history) is.0.room in
     let makes = makes_files c.tree_at.result c.args.root c.args.height s.generation c.tree_at.ensures is.4 in
     (editable, makes, draft_sizes new.blocks.draft sizes c.in_ok-land.ensures.draft, space, is.4)
