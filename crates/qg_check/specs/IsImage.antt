@@ -40,7 +40,7 @@ pub record IsSubvolumeOf (super : Super) (bytes : List ℕ) (root : RootItem) : 
   pub told : files_of super.generation (items_of_root Files super bytes root) ≡ Some files
   pub bodies : All (λ item. IsBytes item.body) (items_of_root Files super bytes root)
 
--- what is known of a node of so many bytes, and of a data extent
+-- what is known of a node of so many bytes
 abbrev pub node_known : ℕ → Node → What
 node_known nodesize node = record {
   bytes = nodesize;
@@ -48,6 +48,7 @@ node_known nodesize node = record {
   generation = (header_of node).generation;
 }
 
+-- what is known of a data extent, whose record is of this generation
 abbrev pub extent_known : ℕ → Element → What
 extent_known generation extent = record { bytes = extent.bytes; level = None; generation = generation }
 

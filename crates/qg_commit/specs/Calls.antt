@@ -75,9 +75,11 @@ commit_calls super nodes = node_calls super.nodesize nodes ++ superblock_calls s
 abbrev pub with_nodes : ℕ → List Node → List Event → List Event
 with_nodes nodesize nodes events = with_calls (node_calls nodesize nodes) events
 
+-- what was done once both superblocks were written at their places
 abbrev pub with_superblocks : Super → List Event → List Event
 with_superblocks super events = with_calls (superblock_calls super) events
 
+-- what was done once all calls of a commit were made: those of its nodes, and those of its superblocks
 abbrev pub with_commit : Super → List Node → List Event → List Event
 with_commit super nodes events = with_superblocks super (with_nodes super.nodesize nodes events)
 

@@ -25,6 +25,7 @@ item_under objectid kind offset body = record {
 abbrev pub item_of_root : ℕ → RootItem → Item
 item_of_root tree root = item_under tree ROOT_ITEM 0 (root_text root)
 
+-- the same of a tree that is told with its number
 abbrev pub item_of_named : ℕ × RootItem → Item
 item_of_named entry = item_of_root entry.0 entry.1
 

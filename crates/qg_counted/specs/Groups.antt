@@ -23,10 +23,11 @@ unfoldable pub passing_count : (ℕ → Bool) → List ℕ → ℕ → ℕ
 passing_count test row zero = 0
 passing_count test row (suc bound) = given (row_has row bound && test bound) 1 + passing_count test row bound
 
--- a member of a set passes; each member does
+-- a member of a set passes
 abbrev pub meets : (ℕ → Bool) → List (List ℕ) → ℕ → ℕ → Bool
 meets test rows subvolumes set = not (passing_count test (row_of rows set) subvolumes == 0)
 
+-- each member of a set passes
 abbrev pub is_within : (ℕ → Bool) → List (List ℕ) → ℕ → ℕ → Bool
 is_within test rows subvolumes set =
     meets test rows subvolumes set
@@ -84,6 +85,7 @@ with_hits hits many bytes counters = record {
   excl = counters.excl + given (not (many == 0) && (many - hits == 0)) bytes;
 }
 
+-- nothing is counted yet
 abbrev pub none : Tally
 none = record { counters = nothing; seen = 0; hits = 0 }
 

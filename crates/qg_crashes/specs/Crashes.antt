@@ -18,6 +18,7 @@ pub record IsRewriting (place since : ℕ) (bytes : List ℕ) (older : List Even
       → last_rewriting place (length bytes) since (Tore place bytes left ∷ older)
       ≡ record { old = range place (length bytes) (content older); new = bytes }
 
+-- so it is for each write of some bytes
 abbrev pub IsOfWholePlace : Type 0
 IsOfWholePlace = (place since : ℕ) (bytes : List ℕ) (older : List Event) → 0 < length bytes → since ≤ length older
     → IsRewriting place since bytes older

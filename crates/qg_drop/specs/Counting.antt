@@ -42,11 +42,11 @@ pub record LeadsToBranch (state : State) (level : ℕ) (way : Way) : Type 0 wher
   pub items_are : items_below (node_at state.layout) level way.address ≡ Some items
   pub ascending : IsTrue (is_ascending (map (λ item. item.key) items))
 
--- how many nodes lie below the node of a level at an address, itself included, and how many below those that ways lead
--- to
+-- how many nodes lie below the node of a level at an address, itself included
 abbrev pub nodes_below : State → ℕ → ℕ → ℕ
 nodes_below state level at = length (filter (λ element. has_key element.address state.layout)
     (distinct (reach_under (node_at state.layout) state.sizes.nodesize level at)))
 
+-- how many lie below the nodes that ways lead to, each way by itself
 abbrev pub ways_reached : State → ℕ → List Way → ℕ
 ways_reached state level ways = sum_by (λ (way : Way). nodes_below state level way.address) ways

@@ -44,10 +44,11 @@ use Rattle.qg_drop.specs.declared.child.Child.{Child}
 abbrev pub is_below : State → ℕ → ℕ → ℕ → Bool
 is_below state level from at = is_among at (reach_under (node_at state.layout) state.sizes.nodesize level from)
 
--- what is open once a part was dropped, and once the parts were that pointers lead to
+-- what is open once a part was dropped
 abbrev pub without_part : State → ℕ → ℕ → (ℕ → Bool) → ℕ → Bool
 without_part state level from waiting at = waiting at && not (is_below state level from at)
 
+-- what is open once the parts were dropped that pointers lead to
 abbrev pub without_parts : State → ℕ → List ℕ → (ℕ → Bool) → ℕ → Bool
 without_parts state level [] waiting = waiting
 without_parts state level (from ∷ others) waiting = without_parts state level others

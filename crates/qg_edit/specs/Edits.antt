@@ -53,8 +53,10 @@ growth_of (Replace body) = 1
 growth_of Remove = 0
 growth_of Clear = 0
 
+-- what an edit makes of items
 abbrev pub edited : Edit → List Item → List Item
 edited edit items = changed edit.key edit.change items
 
+-- an edit can be made of items
 abbrev pub CanEdit : Edit → List Item → Type 0
 CanEdit edit items = CanChange edit.key edit.change items

@@ -20,11 +20,13 @@ key_at ino position = key_with ino EXTENT_DATA position
 
 -- ---- what steps make of items
 
+-- what one step makes of the items
 abbrev pub after_step : ℕ → Step → List Item → List Item
 after_step ino (Remove position) items = without_key (key_at ino position) items
 after_step ino (Insert piece) items = with_item (item_of_piece ino piece) items
 after_step ino (Replace piece) items = with_item (item_of_piece ino piece) items
 
+-- what steps make of them, one after the other
 abbrev pub after_steps : ℕ → List Step → List Item → List Item
 after_steps ino [] items = items
 after_steps ino (step ∷ steps) items = after_steps ino steps (after_step ino step items)

@@ -45,11 +45,12 @@ abbrev pub CutIsExchanged : Type 0
 CutIsExchanged = (by size : ℕ) (old : List Piece) → IsTrue (are_pieces 0 size old)
     → let cut = pieces_cut by old in IsExchange old (before by old) cut (before by cut)
 
--- a file is made, or taken out
+-- a file is made: all its pieces come
 abbrev pub AllIsPut : Type 0
 AllIsPut = (from to : ℕ) (given : List Piece)
     → IsExchange [] (with_range from to given []) [] given
 
+-- a file is taken out: all its pieces go
 abbrev pub AllIsGone : Type 0
 AllIsGone = (old : List Piece) → IsExchange old [] old []
 
@@ -61,7 +62,7 @@ ExchangesCanBeMade = (ino : ℕ) (new gone put : List Piece) (files : List (ℕ 
     → IsExchange (pieces_or_none (value_at ino files)) new gone put → AscendByPosition new
     → CanExchange ino gone put (flat_map items_of_file files)
 
--- so it is for each file command
+-- so it is where a range of a file gets other pieces
 abbrev pub RangeCanBeMade : Type 0
 RangeCanBeMade =
     (generation ino from to : ℕ) (given : List Piece) (old : File) (files : List (ℕ × File)) → AreWritableFiles files
@@ -70,6 +71,7 @@ RangeCanBeMade =
     → let met = pieces_met from to old.pieces in
     CanExchange ino met (with_range from to given met) (flat_map items_of_file files)
 
+-- where a file is cut to a size, or gets a greater one
 abbrev pub SizeCanBeMade : Type 0
 SizeCanBeMade =
     (generation ino size : ℕ) (old : File) (files : List (ℕ × File)) → AreWritableFiles files
@@ -77,11 +79,13 @@ SizeCanBeMade =
     → let cut = pieces_cut size old.pieces in
     CanExchange ino cut (before size cut) (flat_map items_of_file files)
 
+-- where a file is made
 abbrev pub FileCanBeMade : Type 0
 FileCanBeMade =
     (ino : ℕ) (file : File) (files : List (ℕ × File)) → AreWritableFiles files → IsWritableFile (ino, file)
     → value_at ino files ≡ None → CanExchange ino [] file.pieces (flat_map items_of_file files)
 
+-- where a file is taken out
 abbrev pub FileCanGo : Type 0
 FileCanGo =
     (ino : ℕ) (old : File) (files : List (ℕ × File)) → AreWritableFiles files → value_at ino files ≡ Some old
@@ -135,13 +139,15 @@ RemovesNames =
 abbrev pub NameExtentsOf : List Piece → List Piece → Type 0
 NameExtentsOf those these = All (λ piece. Contains (map extent_of those) (extent_of piece)) these
 
--- what rests beside a range, in front of a size, or in a range
+-- what rests beside a range names extents of what met it
 abbrev pub RangeRestsNameExtents : Type 0
 RangeRestsNameExtents = (from to : ℕ) (met : List Piece) → NameExtentsOf met (with_range from to [] met)
 
+-- what rests in front of a size names extents of what ended past it
 abbrev pub CutRestsNameExtents : Type 0
 CutRestsNameExtents = (size : ℕ) (cut : List Piece) → NameExtentsOf cut (before size cut)
 
+-- what lies in a range names extents of the file
 abbrev pub PartsNameExtents : Type 0
 PartsNameExtents = (from to : ℕ) (pieces : List Piece) → NameExtentsOf pieces (within from to pieces)
 
@@ -160,16 +166,18 @@ abbrev pub NamesAreFew : Type 0
 NamesAreFew = (owner : ℕ) (files : List (ℕ × File)) → AreWritableFiles files → (at : ℕ) (reference : Reference)
     → names_times owner (names_by files) at reference ≤ 268435456
 
--- names count no more than they are, both lists count, and in any order they count the same
+-- a reference is named no more often than there are names
 abbrev pub NamesCountOnce : Type 0
 NamesCountOnce = (owner : ℕ) (names : List (ℕ × Piece)) (at : ℕ) (reference : Reference)
     → names_times owner names at reference ≤ length names
 
+-- the names of two lists count together
 abbrev pub NamesAdd : Type 0
 NamesAdd = (owner : ℕ) (some others : List (ℕ × Piece)) (at : ℕ) (reference : Reference)
     → names_times owner (some ++ others) at reference
     ≡ names_times owner some at reference + names_times owner others at reference
 
+-- names count the same in any order
 abbrev pub NamesInAnyOrder : Type 0
 NamesInAnyOrder = (owner : ℕ) (some others : List (ℕ × Piece)) → IsPermutation some others
     → (at : ℕ) (reference : Reference)

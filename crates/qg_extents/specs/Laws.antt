@@ -27,6 +27,7 @@ pub record IsReadBack (nodesize : ℕ) (table : List (ℕ × Kept)) : Type 0 whe
   pub sound : records_failure (parts_of_book table) ≡ None
   pub told : IsTold nodesize (parts_of_book table) (book_of table)
 
+-- so it is for each table that can be read
 abbrev pub ReadsBack : Type 0
 ReadsBack = (nodesize : ℕ) (table : List (ℕ × Kept)) → IsTable table → All (λ entry. IsReadable nodesize entry.1) table
     → IsReadBack nodesize table
@@ -47,6 +48,7 @@ pub record IsOwedBook (nodesize : ℕ) (layout : Layout) (parts : List ExtentPar
   pub sound : records_failure parts ≡ None
   pub agrees : AgreesWithOwed layout book
 
+-- so it is for parts that agree with a layout and tell a book
 abbrev pub ReadsOwed : Type 0
 ReadsOwed = (nodesize : ℕ) (layout : Layout) (parts : List ExtentPart) (book : Book)
     → Agrees layout parts → IsOwing layout → AreFew parts → IsTold nodesize parts book

@@ -39,11 +39,12 @@ abbrev pub IsRefused : Gathered → Reference → ℕ → Type 0
 IsRefused old reference count =
     (is_count (reference, count) ≡ false) ⊎ (0 < count_of old.references reference) ⊎ (old.left < count)
 
--- so for what a part tells: a reference with its count, or none
+-- what a part tells is taken: a reference with its count, or none
 abbrev pub IsPartTaken : Gathered → Gathered → Option (Reference × ℕ) → Type 0
 IsPartTaken old new None = new ≡ old
 IsPartTaken old new (Some told) = IsTaken old new told.0 told.1
 
+-- what a part tells is refused, as only a reference with its count is
 abbrev pub IsPartRefused : Gathered → Option (Reference × ℕ) → Type 0
 IsPartRefused old None = ⊥
 IsPartRefused old (Some told) = IsRefused old told.0 told.1

@@ -40,6 +40,7 @@ abbrev pub record_part : ℕ → ℕ → Option ℕ → ExtentItem → ExtentPar
 record_part at bytes None extent = DataRecord at bytes extent
 record_part at bytes (Some level) extent = NodeRecord at level extent
 
+-- the record of what is kept at an address
 abbrev pub record_of : ℕ × Kept → ExtentPart
 record_of entry = record_part entry.0 entry.1.what.bytes entry.1.what.level (extent_of entry.1)
 
@@ -90,6 +91,7 @@ abbrev pub record_item : ℕ → ℕ → Option ℕ → ExtentItem → Item
 record_item at bytes None extent = item_at at EXTENT_ITEM bytes (extent_text extent)
 record_item at bytes (Some level) extent = item_at at METADATA_ITEM level (extent_text extent)
 
+-- the item of the record of what is kept at an address
 abbrev pub item_of_record : ℕ × Kept → Item
 item_of_record entry = record_item entry.0 entry.1.what.bytes entry.1.what.level (extent_of entry.1)
 
@@ -103,6 +105,7 @@ items_of_book table = flat_map items_of_extent table
 
 -- ---- numbers of their fields
 
+-- the numbers of a reference
 abbrev pub ReferenceFits : Reference → Type 0
 ReferenceFits (KeyedBlock root) = root < 2 ^ 64
 ReferenceFits (KeyedData root ino offset) = (root < 2 ^ 64) × (ino < 2 ^ 64) × (offset < 2 ^ 64)

@@ -15,10 +15,12 @@ use Rattle.qg_file_edits.specs.declared.inode.InodeEdit.TheVariants.{Insert, Rep
 
 -- ---- the files that each command leaves, as the machine says it
 
+-- a file gets these pieces in the place of a range; it is made where it is not there
 abbrev pub files_with : ℕ → ℕ → ℕ → ℕ → List Piece → List (ℕ × File) → List (ℕ × File)
 files_with generation ino from to given files =
     with_value ino (with_pieces generation from to given (file_or_new generation (value_at ino files))) files
 
+-- a write puts one new piece into its range
 abbrev pub files_written : ℕ → ℕ → ℕ → ℕ → ℕ → List (ℕ × File) → List (ℕ × File)
 files_written generation ino off len extent files =
     files_with generation ino off (off + len) (new_piece generation off len extent ∷ []) files
@@ -28,6 +30,7 @@ abbrev pub files_cloned_from : ℕ → List Piece → ℕ → ℕ → ℕ → �
 files_cloned_from generation pieces from len ino off files =
     files_with generation ino off (off + len) (map (moved from off) (within from (from + len) pieces)) files
 
+-- a file gets another size
 abbrev pub files_cut : ℕ → ℕ → ℕ → File → List (ℕ × File) → List (ℕ × File)
 files_cut generation ino size file files = with_value ino (with_size generation size file) files
 

@@ -30,6 +30,7 @@ inode_key ino = key_with ino INODE_ITEM 0
 abbrev pub inode_item : ℕ → InodeItem → Item
 inode_item ino inode = item_under ino INODE_ITEM 0 (inode_text inode)
 
+-- what an edit of a file's INODE_ITEM makes of the items
 abbrev pub after_inode : ℕ → InodeEdit → List Item → List Item
 after_inode ino (Insert inode) items = with_item (inode_item ino inode) items
 after_inode ino (Replace inode) items = with_item (inode_item ino inode) items

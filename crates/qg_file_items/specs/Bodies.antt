@@ -36,9 +36,11 @@ piece_over position (piece ∷ pieces) =
 
 -- ---- bodies
 
+-- the body of a file's INODE_ITEM
 abbrev pub inode_body : File → List ℕ
 inode_body file = inode_text (inode_of file)
 
+-- the body of a piece's EXTENT_DATA
 abbrev pub piece_body : Piece → List ℕ
 piece_body piece = extent_data_text (extent_data_of piece)
 

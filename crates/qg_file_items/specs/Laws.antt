@@ -40,6 +40,7 @@ pub record IsPutIn (new : Item) (items : List Item) : Type 0 where
       ≡ (if same_key new.key key then Some new.body else body_at key items)
   pub ascending : Ascend items → Ascend (with_item new items)
 
+-- so it is for each item
 abbrev pub PutsIn : Type 0
 PutsIn = (new : Item) (items : List Item) → IsPutIn new items
 
@@ -49,6 +50,7 @@ pub record IsTakenOut (gone : Key) (items : List Item) : Type 0 where
       ≡ (if same_key gone key then None else body_at key items)
   pub ascending : Ascend items → Ascend (without_key gone items)
 
+-- so it is for each key
 abbrev pub TakesOut : Type 0
 TakesOut = (gone : Key) (items : List Item) → IsTakenOut gone items
 
@@ -60,6 +62,7 @@ pub record AreItemsOf (generation : ℕ) (files : List (ℕ × File)) (items : L
   pub writable : AreWritableFiles files
   pub by : All (IsFileBy generation) files
 
+-- so it is for items of bytes whose keys ascend
 abbrev pub AreSpelled : Type 0
 AreSpelled =
     (generation : ℕ) (items : List Item) (files : List (ℕ × File)) → All (λ item. IsBytes item.body) items
@@ -116,25 +119,28 @@ CutsPieces =
     (size : ℕ) (pieces : List Piece) (position : ℕ)
     → piece_at position (before size pieces) ≡ piece_at_cut size pieces position
 
--- so what stands under the keys of the file
+-- what stands under the keys of a file once a range of it has other pieces
 pub record HasRangeBodies (ino from to : ℕ) (given : List Piece) (old new : File) (items : List Item) : Type 0 where
   pub inode : body_at (key_with ino INODE_ITEM 0) items ≡ Some (inode_body new)
   pub pieces : (position : ℕ)
       → body_at (key_with ino EXTENT_DATA position) items
       ≡ option_map piece_body (piece_at_range from to given old.pieces position)
 
+-- so it is once the file is in its place among the others
 abbrev pub RangeHasBodies : Type 0
 RangeHasBodies = (generation ino from to : ℕ) (given : List Piece) (old : File) (files : List (ℕ × File))
     → IsStrictlyIncreasing (keys_of files) → IsTrue (are_pieces from to given)
     → let new = with_pieces generation from to given old in
     HasRangeBodies ino from to given old new (flat_map items_of_file (with_value ino new files))
 
+-- what stands under the keys of a file once it is cut to a size
 pub record HasCutBodies (ino size : ℕ) (old new : File) (items : List Item) : Type 0 where
   pub inode : body_at (key_with ino INODE_ITEM 0) items ≡ Some (inode_body new)
   pub pieces : (position : ℕ)
       → body_at (key_with ino EXTENT_DATA position) items
       ≡ option_map piece_body (piece_at_cut size old.pieces position)
 
+-- so it is once the file is in its place among the others
 abbrev pub CutHasBodies : Type 0
 CutHasBodies = (generation ino size : ℕ) (old : File) (files : List (ℕ × File)) → IsStrictlyIncreasing (keys_of files)
     → let new = with_size generation size old in HasCutBodies ino size old new

@@ -165,6 +165,7 @@ group_after generation counters entry = (
   },
 )
 
+-- quota, once each group has its counters
 abbrev pub quota_after : ℕ → (ℕ → Counters) → Quota → Quota
 quota_after generation counters quota = record quota { groups = map (group_after generation counters) quota.groups }
 

@@ -112,6 +112,7 @@ piece_in None = None
 piece_in (Some (Inode ino inode)) = None
 piece_in (Some (PieceOf ino piece)) = Some (ino, piece)
 
+-- the same, of an item as it stands
 abbrev pub name_told : Item → Option (ℕ × Piece)
 name_told item = piece_in (file_part item)
 

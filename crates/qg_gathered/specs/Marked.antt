@@ -35,6 +35,7 @@ marked_reference parent (SharedBlock other) = SharedBlock parent
 marked_reference parent (KeyedData root ino offset) = SharedData parent
 marked_reference parent (SharedData other) = SharedData parent
 
+-- what a node that is full or isn't owes, by what it owes where it isn't
 abbrev pub marked_owing : ℕ → Bool → OwedReference → OwedReference
 marked_owing parent false owing = owing
 marked_owing parent true owing = record { address = owing.address; reference = marked_reference parent owing.reference }
@@ -57,13 +58,15 @@ marked_link full node = record {
   children = node.linked.children;
 }
 
--- the same, where these are the addresses of full nodes
+-- what it owes, where these are the addresses of full nodes
 abbrev pub owed_where : List ℕ → NodeTold → List OwedReference
 owed_where full node = marked_owings (is_marked full node.linked.address) node
 
+-- what it is, where these are the addresses of full nodes
 abbrev pub thing_where : List ℕ → NodeTold → Thing
 thing_where full node = marked_thing (is_marked full node.linked.address) node
 
+-- where it lies and what it points to, where these are the addresses of full nodes
 abbrev pub link_where : List ℕ → NodeTold → Linked
 link_where full node = marked_link (is_marked full node.linked.address) node
 

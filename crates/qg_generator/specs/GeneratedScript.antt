@@ -52,6 +52,7 @@ pub record Drawn : Type 0 where
   pub command : Command
   pub behind : ℕ
 
+-- a `write`, by four draws
 unfoldable pub write_drawn : ℕ → Drawn
 write_drawn state = record {
   command =
@@ -60,6 +61,7 @@ write_drawn state = record {
   behind = after 4 state;
 }
 
+-- a `clone`, by seven draws
 unfoldable pub clone_drawn : ℕ → Drawn
 clone_drawn state = record {
   command =
@@ -69,18 +71,22 @@ clone_drawn state = record {
   behind = after 7 state;
 }
 
+-- a `truncate`, by three draws
 unfoldable pub truncate_drawn : ℕ → Drawn
 truncate_drawn state = record {
   command = Truncate (sub_drawn state) (ino_drawn (after 1 state)) (position_drawn (after 2 state));
   behind = after 3 state;
 }
 
+-- an `unlink`, by two draws
 unfoldable pub unlink_drawn : ℕ → Drawn
 unlink_drawn state = record { command = Unlink (sub_drawn state) (ino_drawn (after 1 state)); behind = after 2 state }
 
+-- a `snap` without a list, by one draw
 unfoldable pub snap_drawn : ℕ → Drawn
 snap_drawn state = record { command = Snap (sub_drawn state) []; behind = after 1 state }
 
+-- a `delete`, by one draw
 unfoldable pub delete_drawn : ℕ → Drawn
 delete_drawn state = record { command = Delete (256 + draw 256 state); behind = after 1 state }
 

@@ -53,6 +53,7 @@ unfoldable pub piece_text : Piece → List ℕ
 piece_text piece = decimal piece.position ++ then_number piece.len ++ then_number piece.extent
     ++ then_number piece.offset
 
+-- the text of a reply: its lines, each with a newline
 unfoldable pub reply_text : Answer → List ℕ
 reply_text Done = line (codes "ok")
 reply_text (Commit generation) = line (codes "ok commit" ++ then_number generation)

@@ -34,6 +34,7 @@ longest_script = 67108864
 abbrev pub then_word : List ℕ → List ℕ
 then_word word = 32 ∷ word
 
+-- a number in decimal behind a space
 abbrev pub then_number : ℕ → List ℕ
 then_number n = then_word (decimal n)
 
@@ -41,9 +42,11 @@ then_number n = then_word (decimal n)
 abbrev pub group_text : ℕ → List ℕ
 group_text group = decimal (group / 2 ^ 48) ++ codes "/" ++ decimal (group % 2 ^ 48)
 
+-- a group behind a space
 abbrev pub then_group : ℕ → List ℕ
 then_group group = then_word (group_text group)
 
+-- the words for the two kinds of limits
 abbrev pub which_text : Which → List ℕ
 which_text Rfer = codes "rfer"
 which_text Excl = codes "excl"
@@ -85,16 +88,19 @@ command_text Show = codes "show"
 command_text (Ls sub ino) = codes "ls" ++ then_number sub ++ then_number ino
 command_text (Owners address) = codes "owners" ++ then_number address
 
--- the numbers that a line may have: of a subvolume, a file, a group, and any other
+-- a subvolume's number that a line may have
 abbrev pub is_sub_word : ℕ → Bool
 is_sub_word sub = nat_lt sub (2 ^ 48)
 
+-- a file's number that a line may have
 abbrev pub is_ino_word : ℕ → Bool
 is_ino_word ino = nat_le 257 ino && nat_lt ino (2 ^ 48)
 
+-- any other number that a line may have: one of 64 bits
 abbrev pub is_word : ℕ → Bool
 is_word n = nat_lt n (2 ^ 64)
 
+-- a limit that a line may have; none takes it away
 abbrev pub is_limit_word : Option ℕ → Bool
 is_limit_word None = true
 is_limit_word (Some max) = is_word max

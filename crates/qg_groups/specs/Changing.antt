@@ -72,11 +72,12 @@ pub record CanJoin (quota : Quota) (member : ℕ) (into : List ℕ) : Type 0 whe
 
 -- ---- refusals
 
--- the groups of quota, and its relations; none while it is off
+-- the groups of quota; none while it is off
 abbrev pub groups_in : Option Quota → List ℕ
 groups_in None = []
 groups_in (Some quota) = keys_of quota.groups
 
+-- the relations of quota, each a member and its parent; none while it is off
 abbrev pub pairs_in : Option Quota → List (ℕ × ℕ)
 pairs_in None = []
 pairs_in (Some quota) = quota.pairs

@@ -18,6 +18,7 @@ unfoldable pub is_reached_outside : Layout → Hierarchy → ℕ → ℕ → Boo
 is_reached_outside layout hierarchy group address =
     list_any (λ sub. not (is_member hierarchy group sub) && reaches layout sub address) (keys_of layout.roots)
 
+-- the sum of the bytes of nodes and data extents
 abbrev pub bytes_of : List Element → ℕ
 bytes_of elements = sum_by (λ element. element.bytes) elements
 

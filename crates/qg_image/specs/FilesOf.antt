@@ -15,13 +15,15 @@ use Rattle.qg_image.specs.declared.part.FilePart.{FilePart}
 use Rattle.qg_image.specs.declared.part.FilePart.TheVariants.{Inode, PieceOf}
 use Rattle.qg_image.specs.ItemMeaning.{some_passes, file_part, file_part_stamps}
 
--- the largest size of a file, the least number of one, and the first number past those of files
+-- the largest size of a file
 abbrev pub largest_size : ℕ
 largest_size = 2 ^ 40
 
+-- the least number of a file
 abbrev pub least_inode : ℕ
 least_inode = 257
 
+-- the first number past those of files
 abbrev pub inodes_end : ℕ
 inodes_end = 2 ^ 48
 

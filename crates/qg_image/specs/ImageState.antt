@@ -53,19 +53,21 @@ level_in super image address = level_told (node_found super image address) where
   level_told (Err failure) = 0
   level_told (Ok node) = (header_of node).level
 
--- the items and the nodes of a tree, by what is expected of its root and the root's address
+-- the items of a tree, by what is expected of its root and the root's address
 unfoldable pub tree_items : Tree → Super → List ℕ → Expected → ℕ → List Item
 tree_items tree super image expected root =
     unwrap_or (items_under tree super (node_found super image) (level_in super image root) expected root) []
 
+-- the nodes of a tree, by the same
 unfoldable pub tree_nodes : Tree → Super → List ℕ → Expected → ℕ → List Node
 tree_nodes tree super image expected root =
     unwrap_or (nodes_under tree super (node_found super image) (level_in super image root) expected root) []
 
--- the items and the nodes of the root tree
+-- the items of the root tree
 abbrev pub root_items : Super → List ℕ → List Item
 root_items super image = tree_items Roots super image (root_expected None None) super.root
 
+-- the nodes of the root tree
 abbrev pub root_nodes : Super → List ℕ → List Node
 root_nodes super image = tree_nodes Roots super image (root_expected None None) super.root
 
@@ -77,10 +79,11 @@ roots_in super image = filter_map root_part (root_items super image)
 abbrev pub subvolume_roots : List (ℕ × RootItem) → List (ℕ × RootItem)
 subvolume_roots roots = filter (λ entry. is_subvolume_number entry.0) roots
 
--- the items and the nodes of a tree by its ROOT_ITEM
+-- the items of a tree by its ROOT_ITEM
 abbrev pub items_of_root : Tree → Super → List ℕ → RootItem → List Item
 items_of_root tree super image root = tree_items tree super image (root_told root) root.bytenr
 
+-- the nodes of a tree by its ROOT_ITEM
 abbrev pub nodes_of_root : Tree → Super → List ℕ → RootItem → List Node
 nodes_of_root tree super image root = tree_nodes tree super image (root_told root) root.bytenr
 
@@ -89,9 +92,11 @@ abbrev pub of_tree : {A : Type 0} → (RootItem → List A) → Option RootItem 
 of_tree list None = []
 of_tree list (Some root) = list root
 
+-- the ROOT_ITEM of the extent tree
 abbrev pub extent_root : Super → List ℕ → Option RootItem
 extent_root super image = value_at EXTENT_TREE (roots_in super image)
 
+-- the ROOT_ITEM of the quota tree, which is there while quota is on
 abbrev pub quota_root : Super → List ℕ → Option RootItem
 quota_root super image = value_at QUOTA_TREE (roots_in super image)
 
@@ -160,10 +165,11 @@ pair_told (Info group info) = None
 pair_told (Limits group limit) = None
 pair_told (Relation group other) = then_some (nat_lt (level_of_group group) (level_of_group other)) (group, other)
 
--- a limit is set where its flag is: 1 for referenced bytes, 2 for exclusive ones
+-- a limit on referenced bytes is set where flag 1 is
 abbrev pub max_rfer_told : QgroupLimit → Option ℕ
 max_rfer_told limit = then_some (limit.flags % 2 == 1) limit.max_rfer
 
+-- a limit on exclusive bytes is set where flag 2 is
 abbrev pub max_excl_told : QgroupLimit → Option ℕ
 max_excl_told limit = then_some (limit.flags / 2 % 2 == 1) limit.max_excl
 

@@ -6,6 +6,7 @@ use Rattle.qg_node.specs.declared.node.Node.TheVariants.{Leaf, Inner}
 use Rattle.qg_node.specs.Nodes.{own_keys, used_bytes}
 use Rattle.qg_super.specs.Places.{capacity}
 
+-- two keys are the same
 abbrev pub same_key : Key → Key → Bool
 same_key a b = (a.objectid == b.objectid) && (a.kind == b.kind) && (a.offset == b.offset)
 

@@ -8,6 +8,7 @@ use Rattle.qg_image.specs.declared.quota.Quota.{Quota}
 abbrev pub level_of_group : ℕ → ℕ
 level_of_group group = group / 2 ^ 48
 
+-- a group's id
 abbrev pub id_of_group : ℕ → ℕ
 id_of_group group = group % 2 ^ 48
 
@@ -16,6 +17,7 @@ pub record Hierarchy : Type 0 where
   pub groups : List ℕ
   pub pairs : List (ℕ × ℕ)
 
+-- those of quota that is on
 abbrev pub hierarchy_of : Quota → Hierarchy
 hierarchy_of quota = record { groups = keys_of quota.groups; pairs = quota.pairs }
 
@@ -35,6 +37,7 @@ unfoldable pub members : Hierarchy → ℕ → List ℕ
 members hierarchy group =
     filter (λ sub. (level_of_group sub == 0) && is_below hierarchy.pairs sub group) hierarchy.groups
 
+-- a subvolume's number is among the members of a group
 abbrev pub is_member : Hierarchy → ℕ → ℕ → Bool
 is_member hierarchy group sub = list_any (λ member. member == sub) (members hierarchy group)
 

@@ -17,24 +17,28 @@ use Rattle.qg_image.specs.Space.{free_slots}
 
 -- ---- what the root, extent and quota trees would name if a commit came now
 
+-- what the quota tree would name: that quota is on, two items for each group, and two for each relation
 abbrev pub quota_records : Option Quota → List Record
 quota_records None = []
 quota_records (Some quota) =
     Status ∷ flat_map (λ group. InfoOf group ∷ LimitOf group ∷ []) (keys_of quota.groups)
     ++ flat_map (λ pair. RelationOf pair.0 pair.1 ∷ RelationOf pair.1 pair.0 ∷ []) quota.pairs
 
+-- what the root tree would name: the extent tree, the subvolumes, and the quota tree while quota is on
 abbrev pub root_records : State → List Record
 root_records state = RootOf EXTENT_TREE ∷ map RootOf (keys_of state.subvolumes) ++ quota_root state.quota where
   quota_root : Option Quota → List Record
   quota_root None = []
   quota_root (Some quota) = RootOf QUOTA_TREE ∷ []
 
+-- what the extent tree would name: the nodes, the extents, and the references to them
 abbrev pub extent_records : Layout → List Record
 extent_records layout =
     map (λ entry. NodeOf entry.0 (header_of entry.1.node).level) layout.nodes
     ++ map (λ extent. ExtentOf extent.address extent.bytes) (layout_extents layout)
     ++ map (λ owing. ReferenceTo owing.address owing.reference) (owed layout)
 
+-- what all three would name
 unfoldable pub present_records : State → List Record
 present_records state = root_records state ++ extent_records (layout_of state) ++ quota_records state.quota
 
@@ -62,10 +66,11 @@ nodes_filled nodesize bytes = (bytes + (capacity nodesize - 1)) / capacity nodes
 abbrev pub file_copies : ℕ → ℕ → ℕ
 file_copies level pieces = 3 * (level + 2) * (pieces + 3)
 
--- the slots that a file command needs, and a structural one
+-- the slots that a file command needs
 abbrev pub file_need : State → ℕ → ℕ
 file_need state copies = 10 * copies + 8 * nodes_filled state.sizes.nodesize (weight state) + 40
 
+-- the slots that a structural command needs
 abbrev pub structural_need : State → ℕ → ℕ
 structural_need state copies = 10 * copies + 16 * nodes_filled state.sizes.nodesize (weight state) + 80
 

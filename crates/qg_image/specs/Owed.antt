@@ -79,6 +79,7 @@ pub data What : Type 0 where
 unfoldable pub layout_extents : Layout → List Element
 layout_extents layout = flat_map (λ entry. map extent_of (pieces_of entry.1.node)) layout.nodes
 
+-- what begins at an address: a node, else an extent that is named, else nothing
 abbrev pub what_at : Layout → ℕ → What
 what_at layout address = of_node (value_at address layout.nodes) where
   of_extent : Option Element → What
@@ -95,6 +96,7 @@ part_address (DataRecord address bytes extent) = address
 part_address (NodeRecord address level extent) = address
 part_address (Referenced address reference count) = address
 
+-- an item of the extent tree is a record, and tells no reference
 abbrev pub is_record : ExtentPart → Bool
 is_record (DataRecord address bytes extent) = true
 is_record (NodeRecord address level extent) = true
@@ -114,6 +116,7 @@ is_record_of (Block header full) refs (NodeRecord address level extent) =
     && (extent.generation == header.generation)
 is_record_of _ _ _ = false
 
+-- nothing begins there
 abbrev pub is_nothing : What → Bool
 is_nothing Nothing = true
 is_nothing _ = false

@@ -35,6 +35,7 @@ own_elements nodesize address None = []
 own_elements nodesize address (Some node) = record { address = address; bytes = nodesize } ∷ map extent_of
     (pieces_of node)
 
+-- the pointers of a node; none where there is no node
 abbrev pub pointers_at : Option Node → List Pointer
 pointers_at None = []
 pointers_at (Some node) = own_pointers node
@@ -65,6 +66,7 @@ abbrev pub reach_of : Layout → Option ℕ → List Element
 reach_of layout None = []
 reach_of layout (Some root) = reach_of_root layout root
 
+-- all that a subvolume reaches: the nodes from its root down, and the extents that their pieces name
 unfoldable pub reach : Layout → ℕ → List Element
 reach layout sub = reach_of layout (value_at sub layout.roots)
 

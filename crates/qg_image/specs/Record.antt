@@ -32,12 +32,13 @@ pub data Record : Type 0 where
   -- a relation under one of its two keys
   RelationOf : (group other : ℕ) → Record
 
--- what an item of the extent tree names, and one of the quota tree
+-- what an item of the extent tree names
 abbrev pub extent_record : ExtentPart → Record
 extent_record (DataRecord address bytes extent) = ExtentOf address bytes
 extent_record (NodeRecord address level extent) = NodeOf address level
 extent_record (Referenced address reference count) = ReferenceTo address reference
 
+-- what an item of the quota tree names
 abbrev pub quota_record : QuotaPart → Record
 quota_record (part.Status status) = Status
 quota_record (part.Info group info) = InfoOf group
@@ -50,6 +51,7 @@ record_named item = first_some
     (option_map (λ entry. RootOf entry.0) (root_part item) ∷ option_map extent_record (extent_part item)
     ∷ option_map quota_record (quota_part item) ∷ [])
 
+-- two references are the same
 abbrev pub same_reference : Reference → Reference → Bool
 same_reference (KeyedBlock root) (KeyedBlock root') = root == root'
 same_reference (SharedBlock parent) (SharedBlock parent') = parent == parent'
@@ -58,6 +60,7 @@ same_reference (KeyedData root ino offset) (KeyedData root' ino' offset') = (roo
 same_reference (SharedData parent) (SharedData parent') = parent == parent'
 same_reference _ _ = false
 
+-- two items name the same
 abbrev pub same_record : Record → Record → Bool
 same_record (RootOf tree) (RootOf tree') = tree == tree'
 same_record (ExtentOf address bytes) (ExtentOf address' bytes') = (address == address') && (bytes == bytes')
@@ -77,6 +80,7 @@ reference_body (SharedBlock parent) = 0
 reference_body (KeyedData root ino offset) = 28
 reference_body (SharedData parent) = 4
 
+-- the bytes of the body of an item that names this
 abbrev pub record_body : Record → ℕ
 record_body (RootOf tree) = 439
 record_body (ExtentOf address bytes) = 24

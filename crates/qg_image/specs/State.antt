@@ -59,6 +59,7 @@ pub record Layout : Type 0 where
   pub roots : List (ℕ × ℕ)
   pub nodes : List (ℕ × Placed)
 
+-- the layout of a state: the roots of its subvolumes, and its nodes
 abbrev pub layout_of : State → Layout
 layout_of state = record {
   nodesize = state.sizes.nodesize;
@@ -81,6 +82,7 @@ files_in_sub state sub = files_or_none (value_at sub state.subvolumes) where
   files_or_none None = []
   files_or_none (Some subvolume) = subvolume.files
 
+-- a file of a subvolume, by its number
 abbrev pub file_at : State → ℕ → ℕ → Option File
 file_at state sub ino = value_at ino (files_in_sub state sub)
 

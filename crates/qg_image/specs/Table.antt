@@ -8,9 +8,11 @@ abbrev pub value_at : {A : Type 0} → ℕ → List (ℕ × A) → Option A
 value_at n [] = None
 value_at n (entry ∷ entries) = if entry.0 == n then Some entry.1 else value_at n entries
 
+-- there is a value at a number
 abbrev pub has_key : {A : Type 0} → ℕ → List (ℕ × A) → Bool
 has_key n entries = is_some (value_at n entries)
 
+-- the numbers at which there are values
 abbrev pub keys_of : {A : Type 0} → List (ℕ × A) → List ℕ
 keys_of entries = map (λ entry. entry.0) entries
 

@@ -38,12 +38,15 @@ use Rattle.qg_image.specs.ImageState.{quota_parts, info_told, limit_told, max_rf
 
 -- ---- limits of the store
 
+-- the most subvolumes that live at once
 abbrev pub most_subvolumes : ℕ
 most_subvolumes = 4096
 
+-- the most groups
 abbrev pub most_groups : ℕ
 most_groups = 4096
 
+-- the most relations of groups
 abbrev pub most_relations : ℕ
 most_relations = 16384
 
@@ -86,6 +89,7 @@ root_failure tree super image (Some root) = tree_failure tree super image (root_
 
 -- ---- the quota tree
 
+-- an item of the quota tree tells the state of quota
 abbrev pub is_status_part : QuotaPart → Bool
 is_status_part (Status status) = true
 is_status_part (Info group info) = false
@@ -130,6 +134,7 @@ is_quota subvolumes parts =
     list_any is_status_part parts && list_all (fits_quota parts) parts
     && list_all (λ sub. has_key sub (filter_map info_told parts)) subvolumes
 
+-- an item of the quota tree tells a relation
 abbrev pub is_relation_part : QuotaPart → Bool
 is_relation_part (Status status) = false
 is_relation_part (Info group info) = false
@@ -165,6 +170,7 @@ subvolume_failure super image root = first_failure
 abbrev pub is_before : Element → Element → Bool
 is_before a b = nat_lt a.address b.address || ((a.address == b.address) && nat_lt a.bytes b.bytes)
 
+-- two extents are the same
 abbrev pub same_extent : Element → Element → Bool
 same_extent a b = (a.address == b.address) && (a.bytes == b.bytes)
 
@@ -214,6 +220,7 @@ group_failure layout hierarchy entry = first_failure
     ∷ counted entry.0 Excl entry.1.counters.excl (exclusive layout hierarchy entry.0)
     ∷ [])
 
+-- the first counter of an image that is not the direct count; there is none while quota is off
 unfoldable pub counts_failure : Layout → Option Quota → Option Failure
 counts_failure layout None = None
 counts_failure layout (Some quota) = first_failure (map (group_failure layout (hierarchy_of quota)) quota.groups)

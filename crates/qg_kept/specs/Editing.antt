@@ -43,6 +43,7 @@ range_refusal state sub off len = first_some
     (no_sub state sub ∷ no_align (off ∷ []) len ∷ no_far ((off + len) ∷ []) ∷ refuse (nat_lt longest_extent len) why.Far
     ∷ too_many_pending state ∷ [])
 
+-- a clone
 abbrev pub clone_refusal : State → ℕ → ℕ → ℕ → ℕ → ℕ → ℕ → ℕ → Option Refusal
 clone_refusal state sub ino off len to_sub to_ino to_off = first_some
     (no_sub state sub ∷ no_sub state to_sub ∷ no_file state sub ino ∷ no_align (off ∷ to_off ∷ []) len
@@ -50,20 +51,23 @@ clone_refusal state sub ino off len to_sub to_ino to_off = first_some
     ∷ refuse ((sub == to_sub) && (ino == to_ino) && share_a_byte off to_off len) why.Overlap ∷ too_many_pending state
     ∷ [])
 
+-- a truncate
 abbrev pub size_refusal : State → ℕ → ℕ → ℕ → Option Refusal
 size_refusal state sub ino size = first_some
     (no_sub state sub ∷ no_file state sub ino ∷ refuse (not (is_aligned size)) why.Align ∷ no_far (size ∷ [])
     ∷ too_many_pending state ∷ [])
 
+-- an unlink
 abbrev pub unlink_refusal : State → ℕ → ℕ → Option Refusal
 unlink_refusal state sub ino = first_some (no_sub state sub ∷ no_file state sub ino ∷ too_many_pending state ∷ [])
 
 -- ---- reservations
 
--- what a write into a subvolume and a clone into one reserve, in bytes: what is written, and a node
+-- what a write reserves, in bytes: what is written, and a node
 abbrev pub write_reserves : Kept → ℕ → ℕ
 write_reserves kept len = len + kept.superblock.nodesize
 
+-- what a clone reserves, in bytes: a node
 abbrev pub clone_reserves : Kept → ℕ
 clone_reserves kept = kept.superblock.nodesize
 

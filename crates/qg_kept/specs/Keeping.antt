@@ -33,10 +33,11 @@ use Rattle.qg_kept.specs.declared.kept.Kept.{Kept}
 abbrev pub book_weight : Kept → ℕ
 book_weight kept = weight_of kept.fs.refs.held kept.fs.refs.refs
 
--- what the root tree's items take, and what the quota tree's do
+-- what the root tree's items take
 abbrev pub root_weight : Kept → ℕ
 root_weight kept = root_tree_bytes (length kept.snapshots) (quota_of kept.quota)
 
+-- what the quota tree's items take
 abbrev pub quota_weight : Kept → ℕ
 quota_weight kept = quota_tree_bytes (quota_of kept.quota)
 

@@ -27,10 +27,11 @@ part_after from piece = then_some (nat_lt from (piece_end piece)) (record piece 
   offset = piece.offset + (max from piece.position - piece.position);
 })
 
--- what pieces have in front of a position, and from one on
+-- what pieces have in front of a position
 unfoldable pub before : ℕ → List Piece → List Piece
 before to pieces = filter_map (part_before to) pieces
 
+-- what pieces have from a position on
 unfoldable pub after : ℕ → List Piece → List Piece
 after from pieces = filter_map (part_after from) pieces
 
@@ -57,6 +58,7 @@ abbrev pub file_or_new : ℕ → Option File → File
 file_or_new generation None = record { size = 0; generation = generation; transid = generation; pieces = [] }
 file_or_new generation (Some file) = file
 
+-- the pieces of a file; none where it is not there
 abbrev pub pieces_or_none : Option File → List Piece
 pieces_or_none None = []
 pieces_or_none (Some file) = file.pieces
@@ -121,6 +123,7 @@ clone_change state sub ino off len to_sub to_ino to_off = record {
       (off + len) (pieces_or_none (file_at state sub ino));
 }
 
+-- a truncate to a smaller size cuts what lies past it; one to a greater size sets the size alone
 abbrev pub truncate_change : State → ℕ → ℕ → ℕ → File → FileChange
 truncate_change state sub ino size file = record {
   sub = sub;
@@ -129,6 +132,7 @@ truncate_change state sub ino size file = record {
   pieces = pieces_past size file.pieces;
 }
 
+-- an unlink takes the file away with all its pieces
 abbrev pub unlink_change : State → ℕ → ℕ → File → FileChange
 unlink_change state sub ino file = record {
   sub = sub;

@@ -23,6 +23,7 @@ new_group generation = record {
 
 -- ---- relations
 
+-- two relations are the same
 abbrev pub same_pair : ℕ × ℕ → ℕ × ℕ → Bool
 same_pair a b = (a.0 == b.0) && (a.1 == b.1)
 
@@ -33,17 +34,21 @@ with_pair pair (other ∷ others) =
     if nat_lt pair.0 other.0 || ((pair.0 == other.0) && nat_lt pair.1 other.1) then pair ∷ other ∷ others
     else (if same_pair pair other then other ∷ others else other ∷ with_pair pair others)
 
+-- there is this relation of a member to a parent
 abbrev pub has_pair : ℕ → ℕ → List (ℕ × ℕ) → Bool
 has_pair member parent pairs = list_any (same_pair (member, parent)) pairs
 
 -- ---- changes
 
+-- a group comes in, or gets other counters and limits
 abbrev pub with_group : ℕ → Group → Quota → Quota
 with_group number group quota = record quota { groups = with_value number group quota.groups }
 
+-- a member gets a parent
 abbrev pub assigned : ℕ → ℕ → Quota → Quota
 assigned member parent quota = record quota { pairs = with_pair (member, parent) quota.pairs }
 
+-- a member loses a parent
 abbrev pub unassigned : ℕ → ℕ → Quota → Quota
 unassigned member parent quota =
     record quota { pairs = filter (λ pair. not (same_pair pair (member, parent))) quota.pairs }
@@ -55,10 +60,12 @@ destroyed group quota = record {
   pairs = filter (λ pair. not (pair.0 == group)) quota.pairs;
 }
 
+-- one of a group's two limits is set, or taken away
 abbrev pub with_limit : Which → Option ℕ → Group → Group
 with_limit Rfer max group = record group { max_rfer = max }
 with_limit Excl max group = record group { max_excl = max }
 
+-- the limit of a group that is there is set, or taken away
 abbrev pub limited : ℕ → Which → Option ℕ → Quota → Quota
 limited number which max quota = changed (value_at number quota.groups) where
   changed : Option Group → Quota
@@ -85,6 +92,7 @@ quota_for generation subvolumes = record { groups = map (λ sub. (sub, new_group
 
 -- ---- counting
 
+-- both counters are the same
 abbrev pub same_counters : Counters → Counters → Bool
 same_counters a b = (a.rfer == b.rfer) && (a.excl == b.excl)
 

@@ -100,6 +100,7 @@ is_made_node old owner entry =
     is_free_slot old entry.0 && ((header_of entry.1.node).owner == owner)
     && ((header_of entry.1.node).generation == next_generation old) && not entry.1.full
 
+-- the nodes of the new state that the old one hadn't
 abbrev pub made_nodes : State → State → List (ℕ × Placed)
 made_nodes old new = filter (λ entry. not (has_key entry.0 old.layout)) new.layout
 

@@ -30,9 +30,11 @@ refuse test refusal = then_some test refusal
 
 -- ---- subvolumes and files
 
+-- the subvolume isn't there
 abbrev pub no_sub : State → ℕ → Option Refusal
 no_sub state sub = refuse (not (has_subvolume state sub)) why.NoSub
 
+-- the subvolume has no such file
 abbrev pub no_file : State → ℕ → ℕ → Option Refusal
 no_file state sub ino = refuse (is_none (file_at state sub ino)) why.NoFile
 
@@ -59,6 +61,7 @@ share_a_byte a b len = nat_lt a (b + len) && nat_lt b (a + len)
 abbrev pub most_pending : ℕ
 most_pending = 65536
 
+-- as many file commands are pending as may be
 abbrev pub too_many_pending : State → Option Refusal
 too_many_pending state = refuse (nat_le most_pending (length state.pending)) why.TooMany
 
@@ -69,6 +72,7 @@ groups_of state = groups_told state.quota where
   groups_told None = []
   groups_told (Some quota) = keys_of quota.groups
 
+-- the relations of groups; none while quota is off
 abbrev pub pairs_of : State → List (ℕ × ℕ)
 pairs_of state = pairs_told state.quota where
   pairs_told : Option Quota → List (ℕ × ℕ)
@@ -89,12 +93,15 @@ too_many_subvolumes state relations = refuse
 
 -- ---- quota
 
+-- quota is off
 abbrev pub no_quota : State → Option Refusal
 no_quota state = refuse (not (is_quota_on state)) why.NoQuota
 
+-- the group isn't there
 abbrev pub no_group : State → ℕ → Option Refusal
 no_group state group = refuse (not (list_any (λ kept. kept == group) (groups_of state))) why.NoGroup
 
+-- a group's level is not what the command asks for
 abbrev pub no_level : Bool → Option Refusal
 no_level test = refuse (not test) why.Level
 
@@ -130,16 +137,19 @@ root_level state sub = level_told (value_at sub state.subvolumes) where
   level_told None = 0
   level_told (Some subvolume) = level_of (node_at state.layout subvolume.root)
 
--- the nodes that a file command may copy, and the slots that it needs
+-- the nodes that a file command may copy
 abbrev pub change_copies : State → FileChange → ℕ
 change_copies state change = file_copies (root_level state change.sub) change.pieces
 
+-- the slots that a file command needs
 abbrev pub change_need : State → FileChange → ℕ
 change_need state change = file_need state (change_copies state change)
 
+-- fewer slots are free than are needed
 abbrev pub no_nodes : State → ℕ → Option Refusal
 no_nodes state need = refuse (nat_lt (free_slots state) need) (why.NoNodes (free_slots state) need)
 
+-- the same of a file command, where it changes anything
 abbrev pub no_nodes_for : State → Option FileChange → Option Refusal
 no_nodes_for state None = None
 no_nodes_for state (Some change) = no_nodes state (change_need state change)
@@ -162,9 +172,11 @@ structural_copies state _ = 18
 abbrev pub last_generation : ℕ
 last_generation = 2 ^ 63
 
+-- the committed generation is past that one
 abbrev pub no_generation : State → Option Refusal
 no_generation state = refuse (nat_lt last_generation state.generation) why.NoGeneration
 
+-- a file command is pending
 abbrev pub is_pending : State → Bool
 is_pending state = nat_lt 0 (length state.pending)
 
@@ -175,6 +187,7 @@ no_commit state structural =
 
 -- ---- each command
 
+-- the first reason, in the order of its row, for which a command is refused; none where it is done
 unfoldable pub refusal : State → Command → Option Refusal
 refusal state (command.Write sub ino off len) = first_some
     (no_sub state sub ∷ no_align (off ∷ []) len ∷ no_far ((off + len) ∷ []) ∷ refuse (nat_lt longest_extent len) why.Far

@@ -183,6 +183,7 @@ pub record DoesStructural (old : State) (given : Command) (reply : Answer) (comm
 
 -- ---- questions
 
+-- what `show` tells of a group
 abbrev pub row_of : ℕ × Group → Row
 row_of entry = record {
   group = entry.0;

@@ -17,6 +17,7 @@ use Rattle.qg_node.specs.declared.fault.ReadFault.{ReadFault}
 use Rattle.qg_node.specs.declared.fault.ReadFault.TheVariants.{Bad, NoMemory}
 use Rattle.qg_node.specs.Nodes.{is_ascending}
 
+-- what is read goes on where a rule is kept, and stops at the first one that isn't
 infixl 10 ◌>>=◌
 abbrev pub ◌>>=◌ : {A B : Type 0} → Result A NodeFault → (A → Result B NodeFault) → Result B NodeFault
 (Ok x) >>= f = f x

@@ -8,13 +8,15 @@ use Rattle.byteorder.specs.Endian.{little_bytes, little_number}
 abbrev pub IsBytes : List ℕ → Type 0
 IsBytes bytes = (i : ℕ) → slice_index bytes i < 256
 
--- a number in 8, 4 or 2 bytes
+-- a number in 8 bytes
 unfoldable pub u64_bytes : ℕ → List ℕ
 u64_bytes n = little_bytes 8 n
 
+-- a number in 4 bytes
 unfoldable pub u32_bytes : ℕ → List ℕ
 u32_bytes n = little_bytes 4 n
 
+-- a number in 2 bytes
 unfoldable pub u16_bytes : ℕ → List ℕ
 u16_bytes n = little_bytes 2 n
 
@@ -22,10 +24,11 @@ u16_bytes n = little_bytes 2 n
 abbrev pub zeros : ℕ → List ℕ
 zeros n = replicate n 0
 
--- the number in the 8 or 4 bytes from a place on
+-- the number in the 8 bytes from a place on
 unfoldable pub u64_at : ℕ → List ℕ → ℕ
 u64_at place bytes = little_number 8 (drop place bytes)
 
+-- the number in the 4 bytes from a place on
 unfoldable pub u32_at : ℕ → List ℕ → ℕ
 u32_at place bytes = little_number 4 (drop place bytes)
 

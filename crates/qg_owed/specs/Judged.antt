@@ -23,10 +23,11 @@ what_of (Some (Extent bytes)) = Data bytes
 what_of (Some (Node level generation full)) =
     Block (record { address = 0; generation = generation; owner = 0; level = level }) full
 
--- references with their counts
+-- a reference with its count
 abbrev pub count_told : Counted → Reference × ℕ
 count_told entry = (entry.reference, entry.count)
 
+-- references with their counts
 abbrev pub counts_told : List Counted → List (Reference × ℕ)
 counts_told entries = map count_told entries
 
@@ -46,6 +47,7 @@ owed_at owings address = map (λ owing. owing.reference) (filter (λ owing. owin
 abbrev pub parts_at : List ExtentPart → ℕ → List ExtentPart
 parts_at parts address = filter (λ part. part_address part == address) parts
 
+-- the parts that stand at an address are what is owed there
 unfoldable pub agree_at : List Owing → List Thing → List ExtentPart → ℕ → Bool
 agree_at owings things parts address =
     agree (what_of (kind_at things address)) (owed_at owings address) (parts_at parts address)

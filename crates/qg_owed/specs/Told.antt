@@ -19,6 +19,7 @@ owing_told owing = record { address = owing.address; reference = owing.reference
 abbrev pub owed_told : ℕ × Reference → OwedReference
 owed_told given = record { address = given.0; reference = given.1 }
 
+-- the references that a list tells
 abbrev pub owings_told : List Owing → List OwedReference
 owings_told owings = map owing_told owings
 

@@ -56,13 +56,14 @@ pub record GeneratesAll (state : State) (seed count : ℕ) (events : List Event)
   pub tells : TellsRun state seed count commits text
   pub made : MakesAll state.held commits events history
 
--- that text was put, or a front of it
+-- that text was put
 pub record PutsGenerated (state : State) (seed count : ℕ) (events : List Event) (history : Option (List Event))
     (old new : Option (List ℕ)) : Type 0 where
   pub text : List ℕ
   pub generates : GeneratesAll state seed count events history text
   pub put : new ≡ append_known old text
 
+-- a front of that text was put
 pub record PutsFrontOfGenerated (state : State) (seed count : ℕ) (events : List Event) (history : Option (List Event))
     (old new : Option (List ℕ)) : Type 0 where
   pub text : List ℕ

@@ -73,12 +73,13 @@ pub record MakeText (count : ℕ) (replies : List (List ℕ)) (text : List ℕ) 
   pub are : replies ≡ map reply_text answers ++ committed ∷ shown ∷ []
   pub told : text ≡ generated_text count answers shown
 
--- that text was put, or a front of it
+-- that text was put
 pub record IsTextPut (count : ℕ) (replies : List (List ℕ)) (old new : Option (List ℕ)) : Type 0 where
   pub text : List ℕ
   pub made : MakeText count replies text
   pub put : new ≡ append_known old text
 
+-- a front of that text was put
 pub record IsTextPutInPart (count : ℕ) (replies : List (List ℕ)) (old new : Option (List ℕ)) : Type 0 where
   pub text : List ℕ
   pub made : MakeText count replies text

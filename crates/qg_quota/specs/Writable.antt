@@ -24,6 +24,7 @@ pub record LimitsFit (most_rfer most_excl : Option ℕ) : Type 0 where
   pub max_rfer : IfSome most_rfer (λ most. most < 2 ^ 64)
   pub max_excl : IfSome most_excl (λ most. most < 2 ^ 64)
 
+-- all that is kept of a group fits its fields
 pub record GroupFits (entry : ℕ × Group) : Type 0 where
   pub counters : CountersFit entry
   pub limits : LimitsFit entry.1.max_rfer entry.1.max_excl

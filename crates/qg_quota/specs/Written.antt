@@ -52,10 +52,11 @@ both_ways pairs = fold (λ made pair. with_pair (pair.1, pair.0) made) (fold (λ
 
 -- ---- what the items say
 
--- what the items of a group say
+-- what the item of a group's counters says
 abbrev pub info_part : ℕ × Group → QuotaPart
 info_part entry = Info entry.0 (info_of entry.1.stamp entry.1.counters)
 
+-- what the item of a group's limits says
 abbrev pub limit_part : ℕ × Group → QuotaPart
 limit_part entry = Limits entry.0 (limit_of entry.1.max_rfer entry.1.max_excl)
 
@@ -78,16 +79,19 @@ item_under objectid kind offset body = record {
   body = body;
 }
 
--- the item of the state of quota, those of a group, and one of a relation, whose body is empty
+-- the item of the state of quota
 abbrev pub item_of_status : QgroupStatus → Item
 item_of_status status = item_under 0 QGROUP_STATUS 0 (status_text status)
 
+-- the item of a group's counters
 abbrev pub item_of_info : ℕ × Group → Item
 item_of_info entry = item_under 0 QGROUP_INFO entry.0 (info_text (info_of entry.1.stamp entry.1.counters))
 
+-- the item of a group's limits
 abbrev pub item_of_limit : ℕ × Group → Item
 item_of_limit entry = item_under 0 QGROUP_LIMIT entry.0 (limit_text (limit_of entry.1.max_rfer entry.1.max_excl))
 
+-- the item of a relation, in one of its two directions; its body is empty
 abbrev pub item_of_relation : ℕ × ℕ → Item
 item_of_relation pair = item_under pair.0 QGROUP_RELATION pair.1 []
 

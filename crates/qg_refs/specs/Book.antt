@@ -30,6 +30,7 @@ full_in (Some kept) = kept.full
 abbrev pub what_in : Option Kept → Option What
 what_in kept = option_map (λ (some : Kept). some.what) kept
 
+-- the references to what begins at an address, each with its count
 abbrev pub references_at : Book → ℕ → List Counted
 references_at book at = references_in (book at)
 

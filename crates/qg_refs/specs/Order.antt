@@ -12,6 +12,7 @@ rank_of (KeyedData root ino offset) = record { kind = 178; from = root; ino = in
 rank_of (SharedBlock parent) = record { kind = 182; from = parent; ino = 0; offset = 0 }
 rank_of (SharedData parent) = record { kind = 184; from = parent; ino = 0; offset = 0 }
 
+-- by the type first, then by the tree or the parent, then by the file, then by the offset
 abbrev pub is_lower : Rank → Rank → Bool
 is_lower a b =
     nat_lt a.kind b.kind

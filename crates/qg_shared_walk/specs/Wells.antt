@@ -21,11 +21,12 @@ use Rattle.qg_shared_walk.specs.declared.digest.Below.{Below}
 use Rattle.qg_shared_walk.specs.declared.digest.Digest.{Digest}
 use Rattle.qg_shared_walk.specs.Digests.{IsDigestOf, ends_by, fits}
 
--- the first failure from an address down, and below pointers
+-- the first failure from an address down
 abbrev pub all_failure : Super → List Event → ℕ → Expected → ℕ → Option Failure
 all_failure super events depth expected address = walk_failure (node_failure Files super)
     (node_found super (content events)) depth expected address
 
+-- the first failure below pointers
 abbrev pub below_failure : Super → List Event → ℕ → ℕ → Option Key → List Pointer → Option Failure
 below_failure super events depth level to pointers =
     pointers_failure
@@ -36,9 +37,11 @@ pub record Whole : Type 0 where
   pub parts : List FilePart
   pub nodes : List Node
 
+-- the same as a walk finds it
 abbrev pub found_of : List FilePart → List Node → Found FilePart (List Node)
 found_of parts nodes = record { parts = parts; nodes = nodes }
 
+-- a list of nodes is that one
 abbrev pub AreThese : List Node → List Node → Type 0
 AreThese all nodes = all ≡ nodes
 

@@ -29,6 +29,7 @@ first_back : (first : ℕ) → (sector_at first - data_begin) / sector ≡ first
 first_back first = ap (λ n. n / sector) (add-sub_cancel_left data_begin (first * sector))
     ∙ mul-div_cancel first (zero-lt-suc 4095)
 
+-- and what is kept is had back from what is seen
 pub kept-seen : (r : Inside) → kept (seen r) ≡ r
 kept-seen r =
     let of_first : ℕ → Inside = λ n. record {

@@ -15,10 +15,11 @@ use Rattle.qg_space.specs.Holding.{Holding, is_one_of}
 abbrev pub extents_of : List Run → List Element
 extents_of runs = map (λ run. run.extent) runs
 
--- the extents of those that the present state holds, and of those that the last commit holds
+-- the extents of those runs that the present state holds
 abbrev pub present_of : List Run → List Element
 present_of runs = extents_of (filter (λ run. run.present) runs)
 
+-- the extents of those runs that the last commit holds
 abbrev pub held_of : List Run → List Element
 held_of runs = extents_of (filter (λ run. run.held) runs)
 

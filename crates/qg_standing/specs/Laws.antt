@@ -73,12 +73,13 @@ IsToldAlike = (old new : FsTree) (before : Option (List Event)) (later : List Ev
     → Keeps old.land.blocks.draft.sizes before (Some later) (λ at. ⊤)
     → (q : ℕ) → nodes_of new (Some later) q ≡ nodes_of old before q
 
--- a sync changes nothing there, nor does a superblock that is written at its place and made sure of, where nodes and
--- slots are those of sizes that are served
+-- a sync changes nothing there
 abbrev pub SyncsKeepSlots : Type 0
 SyncsKeepSlots = (sizes : Sizes) (events : List Event)
     → Keeps sizes (Some events) (Some (Synced ∷ events)) (λ at. ⊤)
 
+-- nor does a superblock that is written at its place and made sure of, where nodes and slots are those of sizes that
+-- are served
 abbrev pub SuperblocksKeepSlots : Type 0
 SuperblocksKeepSlots = (sizes whole : Sizes) (super : Super) (place : ℕ) (events : List Event)
     → IsTrue (is_served whole) → sizes.nodesize ≡ whole.nodesize → sizes.slots ≡ whole.slots

@@ -4,10 +4,11 @@
 use Rattle.std.specs.Prelude.{ℕ, ◌+◌, ◌-◌, ◌*◌, ◌/◌, ◌%◌, Bool, ◌&&◌, ◌||◌, nat_le, nat_lt, ◌==◌}
 use Rattle.qg_super.specs.declared.sizes.Sizes.{Sizes}
 
--- the two superblocks, of 4096 bytes each
+-- where the first superblock lies; each has 4096 bytes
 abbrev pub first_place : ℕ
 first_place = 65536
 
+-- where the second superblock lies
 abbrev pub second_place : ℕ
 second_place = 67108864
 
@@ -15,17 +16,19 @@ second_place = 67108864
 abbrev pub sector : ℕ
 sector = 4096
 
--- where the node slots begin, and where the data area begins
+-- where the node slots begin
 abbrev pub slots_begin : ℕ
 slots_begin = 1048576
 
+-- where the data area begins
 abbrev pub data_begin : ℕ
 data_begin = 67174400
 
--- the address of a node slot, and of a data sector
+-- the address of a node slot
 abbrev pub slot_at : Sizes → ℕ → ℕ
 slot_at sizes k = slots_begin + k * sizes.nodesize
 
+-- the address of a data sector
 abbrev pub sector_at : ℕ → ℕ
 sector_at k = data_begin + k * sector
 

@@ -49,6 +49,7 @@ pub record IsLaying (sizes : Sizes) (generation : ℕ) (roots : List (ℕ × Roo
   pub laid : AreTrees sizes generation roots book quota slots trees
   pub ascending : IsStrictlySortedBy nat_cmp (keys_of draft.fresh)
 
+-- the same of what a commit is told
 abbrev pub IsLayingOf : Sizes → ℕ → Told → List ℕ → Draft → OtherTrees → Type 0
 IsLayingOf sizes generation told slots draft trees =
     IsLaying sizes generation told.roots.now told.book.now told.quota.now slots draft trees

@@ -236,6 +236,7 @@ pub record AreRewritten (old new : Ground) (left right : ℕ) : Type 0 where
   pub first : (node : Node) → fresh_at old.blocks.draft right ≡ Some node → IsRewritten old mid right node
   pub later : (node : Node) → fresh_at old.blocks.draft left ≡ Some node → IsRewritten mid new left node
 
+-- what becomes of two nodes that are joined: the left one takes all, or both share anew
 abbrev pub IsJoinedAs : ℕ → Node → Node → Node → Node → Joined → Type 0
 IsJoinedAs nodesize c d a b Whole = IsWhole nodesize c d a (emptied d) × (b ≡ cleared d)
 IsJoinedAs nodesize c d a b Parted = IsParted nodesize c d a b

@@ -10,11 +10,12 @@ use Rattle.qg_node.specs.Nodes.{own_items, own_pointers}
 abbrev pub least : Key
 least = record { objectid = 0; kind = 0; offset = 0 }
 
--- the items, and the pointers, of a node that may be told
+-- the items of a node that may be told
 abbrev pub items_of : Option Node → List Item
 items_of None = []
 items_of (Some node) = own_items node
 
+-- the pointers of a node that may be told
 abbrev pub pointers_of : Option Node → List Pointer
 pointers_of None = []
 pointers_of (Some node) = own_pointers node

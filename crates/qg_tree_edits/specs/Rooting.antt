@@ -23,6 +23,7 @@ lone_of [] = None
 lone_of (pointer ∷ []) = Some pointer.child
 lone_of (pointer ∷ other ∷ pointers) = None
 
+-- the child of an inner node that has one pointer alone
 abbrev pub lone_child : Node → Option ℕ
 lone_child (Leaf header items) = None
 lone_child (Inner header pointers) = lone_of pointers

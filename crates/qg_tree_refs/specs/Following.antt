@@ -32,20 +32,22 @@ references_to book at = length (references_at book at)
 abbrev pub placed_by : Book → Node → Placed
 placed_by book node = record { node = node; full = full_in (book (header_of node).address) }
 
--- the case of a copy by a subvolume, and of a node that one leaves
+-- the case of a copy by a subvolume
 abbrev pub copying_in : Book → ℕ → Node → Edits
 copying_in book tree node = case_of (references_to book (header_of node).address) (placed_by book node) tree
 
+-- the case of a node that a subvolume leaves
 abbrev pub leaving_in : Book → ℕ → Node → Leaving
 leaving_in book tree node = leaving_case (references_to book (header_of node).address - 1) (placed_by book node) tree
 
--- the node that becomes full
+-- the node that becomes full by a copy
 abbrev pub full_by_copy : Edits → ℕ → Option ℕ
 full_by_copy ShareOld at = Some at
 full_by_copy AddKeyed at = None
 full_by_copy TurnKeyed at = None
 full_by_copy TakeOver at = None
 
+-- the node that becomes full as one leaves it
 abbrev pub full_by_leaving : Leaving → ℕ → Option ℕ
 full_by_leaving Goes at = None
 full_by_leaving TurnsFull at = Some at
@@ -77,6 +79,7 @@ comes book address level = record {
   tree = book.tree;
 }
 
+-- what one telling does to references
 abbrev pub exchange_of : TreeRefs → Telling → Exchange
 exchange_of book (Copied node copy) = exchange_by_copy (book_of book.refs) book.tree node
 exchange_of book (Made address) = record { full = None; gains = []; losses = [] }

@@ -29,10 +29,11 @@ owings_bytes owings = sum_by (λ owing. reference_bytes owing.reference) owings
 abbrev pub node_bytes : ℕ
 node_bytes = extent_record_bytes + 25
 
--- what one takes that stands for a piece's name of an extent, whose body has 28 bytes; and with a new extent its record
+-- what one takes that stands for a piece's name of an extent, whose body has 28 bytes
 abbrev pub name_bytes : ℕ
 name_bytes = 25 + 28
 
+-- what the first one of a new extent takes, with the extent's record
 abbrev pub name_new_bytes : ℕ
 name_new_bytes = extent_record_bytes + name_bytes
 

@@ -93,6 +93,7 @@ pub record IsWeight (state : State) (held refs : List (ℕ × Kept)) : Type 0 wh
   pub records : records_bytes (extent_records (layout_of state)) ≡ records_bytes (records_in refs)
   pub whole : weight state ≡ weight_of held refs + records_bytes (other_records state)
 
+-- so it is where the one book counts what the layout owes, and the other is what the last commit recorded
 abbrev pub Weighs : Type 0
 Weighs = (state : State) (held refs : List (ℕ × Kept)) → CountsLayout (layout_of state) refs → IsRecorded state held
     → IsWeight state held refs

@@ -35,11 +35,12 @@ pub record IsWeighed (refs held : List (ℕ × Kept)) (bytes : ℕ) : Type 0 whe
 
 -- ---- one reference more
 
--- the record of what is known of what begins at an address
+-- the record of a node of a level, or of a data extent of so many bytes, that begins at an address
 abbrev pub record_of_level : ℕ → ℕ → Option ℕ → Record
 record_of_level at bytes None = ExtentOf at bytes
 record_of_level at bytes (Some level) = NodeOf at level
 
+-- the record of what is known of what begins at an address
 abbrev pub record_known : ℕ → What → Record
 record_known at what = record_of_level at what.bytes what.level
 
@@ -50,6 +51,7 @@ is_level_alike bytes (Some level) bytes' (Some level') = level == level'
 is_level_alike bytes None bytes' (Some level') = false
 is_level_alike bytes (Some level) bytes' None = false
 
+-- what is known of two is of one level, or of one length
 abbrev pub is_alike : What → What → Bool
 is_alike what other = is_level_alike what.bytes what.level other.bytes other.level
 
@@ -62,10 +64,11 @@ has_record (Some kept) what = is_alike what kept.what
 abbrev pub has_reference : Option Kept → Reference → Bool
 has_reference kept reference = nat_lt 0 (count_of (references_in kept) reference)
 
--- what the item of a record takes, and that of a reference: its header, and its body
+-- what the item of a record takes: its header, and its body
 abbrev pub extent_record_bytes : ℕ
 extent_record_bytes = 25 + 24
 
+-- what the item of a reference takes: its header, and its body
 abbrev pub reference_bytes : Reference → ℕ
 reference_bytes reference = 25 + reference_body reference
 
