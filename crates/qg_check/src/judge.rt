@@ -30,7 +30,9 @@ use std::alloc::{AllocError, Global};
 /// What was read of the trees of an image.
 #[derive(Drop)]
 pub struct Read {
+    /// What the root tree names.
     pub trees: Trees,
+    /// What the extent tree says.
     pub extents: ExtentTree,
     /// None while quota is off.
     pub quotas: Option<QuotaTree>,
@@ -41,8 +43,11 @@ pub struct Read {
 /// What was judged of the trees of an image, and keeps all rules.
 #[derive(Drop)]
 pub struct JudgedTrees {
+    /// What the root tree names.
     pub trees: Trees,
+    /// What the extent tree says.
     pub extents: ExtentTree,
+    /// Quota, and where the nodes of its tree lie.
     pub quotas: QuotaRead,
     /// The data extents that files name, ascending.
     pub runs: Sequence<Element>,
@@ -189,7 +194,9 @@ fn addresses_of(alloc: Global, nodes: &[Surveyed]) -> Result<Sequence<Address>, 
 /// Quota, and where the nodes of its tree lie.
 #[derive(Drop)]
 pub struct QuotaRead {
+    /// Quota; none while it is off.
     pub quota: Option<QuotaState>,
+    /// Where the nodes of its tree lie, in bytes.
     pub nodes: Sequence<Address>,
 }
 

@@ -37,6 +37,7 @@ const MOST_SUBVOLUMES: usize = 4096;
 /// The trees that a root tree names.
 #[derive(Debug, Drop)]
 pub struct Trees {
+    /// The ROOT_ITEM of the extent tree.
     pub extents: RootItem,
     /// None while quota is off.
     pub quotas: Option<RootItem>,
@@ -49,6 +50,7 @@ pub struct Trees {
 /// What the extent tree says.
 #[derive(Debug, Drop)]
 pub struct ExtentTree {
+    /// What its items say, ascending by key.
     pub parts: Sequence<ExtentPart>,
     /// Where its nodes lie, in bytes.
     pub nodes: Sequence<Address>,

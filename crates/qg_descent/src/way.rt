@@ -12,7 +12,9 @@ use qg_walk::expected_below;
 /// Where a way down a tree has come to: an address in bytes, and what is expected there.
 #[derive(Drop)]
 pub struct Way {
+    /// The address, in bytes.
     pub address: Address,
+    /// What the node there is expected to be.
     pub expected: Expected,
 }
 

@@ -18,6 +18,8 @@ pub enum Change {
 /// A change, and the key that leads to its leaf.
 #[derive(Debug, Drop)]
 pub struct Edit {
+    /// The key.
     pub key: Key,
+    /// What is done to the item under it, or to all items.
     pub change: Change,
 }

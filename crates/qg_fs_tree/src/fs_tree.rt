@@ -13,10 +13,13 @@ use qg_tree_refs::TreeRefs;
 /// and "backreferences"): the nodes and the space that all lie in, and the references that they owe.
 #[derive(Drop)]
 pub struct FsTree {
+    /// The tree at hand.
     pub tree: Tree,
     /// The trees of the other subvolumes, ascending by number.
     pub others: Vec<Tree>,
+    /// The nodes and the space that all trees lie in.
     pub land: Ground,
+    /// The references that all trees owe.
     pub refs: TreeRefs,
 }
 

@@ -16,7 +16,9 @@ use std::alloc::Global;
 /// The nodes of an image, and what is free of it (this project's own). Both are of one image.
 #[derive(Drop)]
 pub struct Ground {
+    /// The nodes by address: fresh ones, and some clean ones.
     pub blocks: Blocks,
+    /// What is free of slots and of sectors.
     pub space: Space,
 }
 

@@ -15,6 +15,7 @@ use std::alloc::Global;
 /// that the last commit recorded. Of their nodes only fresh ones are in memory, and some clean ones.
 #[derive(Drop)]
 pub struct Kept {
+    /// Where its lists take their memory.
     pub alloc: Global,
     /// The superblock of the last commit.
     pub superblock: Super,

@@ -39,7 +39,9 @@ const MOST_LINES: u64 = 100000;
 /// How many lines were done, and how many refused.
 #[derive(Clone, Copy, Debug, PartialEq, Eq)]
 pub struct Tally {
+    /// How many lines were done.
     pub done: u64,
+    /// How many lines were refused.
     pub refused: u64,
 }
 
