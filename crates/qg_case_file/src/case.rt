@@ -3,7 +3,7 @@ use qg_disk::Tear;
 use std::alloc::Global;
 
 /// A number that a line names, or the one that the part is run for (this project's own).
-#[derive(Clone, Copy, Debug, PartialEq, Eq)]
+#[derive(Clone, Copy, PartialEq, Eq)]
 pub enum Number {
     /// The number itself.
     Given(u64),
@@ -12,7 +12,7 @@ pub enum Number {
 }
 
 /// Bytes of a disk that are read as others from one call of a run on (this project's own).
-#[derive(Debug, Drop)]
+#[derive(Drop)]
 pub struct Flip {
     /// The first of these calls.
     pub call: Number,
@@ -24,7 +24,7 @@ pub struct Flip {
 
 /// Which calls of a run are to fail (this project's own). The first call that the run makes of an object has the number
 /// 1.
-#[derive(Debug, Drop)]
+#[derive(Drop)]
 pub struct Plan {
     /// Calls of the disk.
     pub disk: Vec<Number>,
@@ -39,7 +39,7 @@ pub struct Plan {
 }
 
 /// What is wanted of a run (this project's own).
-#[derive(Debug, Drop)]
+#[derive(Drop)]
 pub struct Wanted {
     /// The bytes that are put.
     pub put: Vec<u8>,
@@ -53,7 +53,7 @@ pub struct Wanted {
 }
 
 /// One call of the program (this project's own).
-#[derive(Debug, Drop)]
+#[derive(Drop)]
 pub struct Run {
     /// The words of the command line.
     pub words: Vec<String>,
@@ -66,7 +66,7 @@ pub struct Run {
 }
 
 /// The crashes behind each call of the last run, and what is wanted of the images that they leave (this project's own).
-#[derive(Debug, Drop)]
+#[derive(Drop)]
 pub struct Crashes {
     /// What they do to all that no sync had made sure of.
     pub tears: Vec<Tear>,
@@ -79,7 +79,7 @@ pub struct Crashes {
 }
 
 /// One thing that is done, or wanted between runs (this project's own). Places and lengths are in bytes.
-#[derive(Debug, Drop)]
+#[derive(Drop)]
 pub enum Step {
     /// An empty disk is taken.
     Empty,
@@ -106,7 +106,7 @@ pub enum Step {
 }
 
 /// Steps over one disk, one after the other (this project's own).
-#[derive(Debug, Drop)]
+#[derive(Drop)]
 pub struct Part {
     /// The first and the last number that it is run for.
     pub each: Option<(u64, u64)>,
@@ -117,7 +117,7 @@ pub struct Part {
 }
 
 /// The parts of a file (this project's own).
-#[derive(Debug, Drop)]
+#[derive(Drop)]
 pub struct Case {
     /// The file's name.
     pub name: String,

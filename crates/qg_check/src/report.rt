@@ -16,7 +16,7 @@ use std::alloc::Global;
 use thiserror::Error;
 
 /// What an image is (this project's own). Addresses and counters are in bytes.
-#[derive(Clone, Copy, Debug, PartialEq, Eq)]
+#[derive(Clone, Copy, PartialEq, Eq)]
 pub enum Report {
     /// It is sound, and this is the generation that counts.
     Sound(Generation),

@@ -35,7 +35,7 @@ use std::alloc::{AllocError, Global};
 const MOST_SUBVOLUMES: usize = 4096;
 
 /// The trees that a root tree names.
-#[derive(Debug, Drop)]
+#[derive(Drop)]
 pub struct Trees {
     /// The ROOT_ITEM of the extent tree.
     pub extents: RootItem,
@@ -48,7 +48,7 @@ pub struct Trees {
 }
 
 /// What the extent tree says.
-#[derive(Debug, Drop)]
+#[derive(Drop)]
 pub struct ExtentTree {
     /// What its items say, ascending by key.
     pub parts: Sequence<ExtentPart>,

@@ -7,7 +7,7 @@ use qg_reached::SetId;
 use std::alloc::{AllocError, Global};
 
 /// The bytes of a node or an extent, and the set of the subvolumes that reach it (this project's own).
-#[derive(Clone, Copy, Debug)]
+#[derive(Clone, Copy)]
 pub struct Portion {
     /// How many bytes it has.
     pub bytes: u64,

@@ -13,7 +13,7 @@ use qg_reached::{Reached, SetId};
 use std::alloc::{AllocError, Global};
 
 /// What is counted of a group, and how often the set that was looked at last has hit it (this project's own).
-#[derive(Clone, Copy, Debug)]
+#[derive(Clone, Copy)]
 pub(crate) struct Tally {
     /// What the sets up to here count.
     counters: Counters,

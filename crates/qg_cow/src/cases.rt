@@ -1,5 +1,5 @@
 /// What becomes of the references of a node that a subvolume copies in order to edit it (this project's own).
-#[derive(Clone, Copy, Debug, PartialEq, Eq)]
+#[derive(Clone, Copy, PartialEq, Eq)]
 pub enum Edits {
     /// Each child gets a shared reference with the old node as parent, which becomes full; the copy takes over the
     /// keyed ones.
@@ -13,7 +13,7 @@ pub enum Edits {
 }
 
 /// What becomes of a node that a subvolume no longer reaches (this project's own).
-#[derive(Clone, Copy, Debug, PartialEq, Eq)]
+#[derive(Clone, Copy, PartialEq, Eq)]
 pub enum Leaving {
     /// The node goes, and its children lose what it owed.
     Goes,

@@ -8,7 +8,7 @@ use std::marker::Model;
 /// Indices. A contract sees them in order.
 ///
 /// Two lie in the value itself, so that the common lists take no allocation.
-#[derive(Debug, Drop)]
+#[derive(Drop)]
 pub(crate) struct Places {
     list: SmallVec<usize, 2>,
 }

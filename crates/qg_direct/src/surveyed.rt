@@ -17,7 +17,7 @@ use std::alloc::{AllocError, Global};
 
 /// A node that subvolumes reach, and where the extents begin that it names (this project's own). Addresses are in
 /// bytes.
-#[derive(Debug, Drop)]
+#[derive(Drop)]
 pub struct Surveyed {
     /// What the rule `home` needs of it.
     pub linked: Linked,

@@ -5,7 +5,7 @@ use std::alloc::{AllocError, Global};
 use std::marker::Model;
 
 /// Bytes that a disk was to write (this project's own). A contract sees the list of them.
-#[derive(Debug, Drop)]
+#[derive(Drop)]
 pub struct Bytes {
     bytes: Vec<u8>,
 }
@@ -37,7 +37,7 @@ impl Bytes {
 }
 
 /// What was asked of a disk (this project's own). Places and lengths are in bytes.
-#[derive(Debug, Drop)]
+#[derive(Drop)]
 pub enum Request {
     /// To read so many bytes from a place on.
     Read { at: u64, count: u64 },
@@ -52,7 +52,7 @@ pub enum Request {
 /// A call that a disk in memory answered, by Ok or by `Failed` (this project's own). A write that failed
 /// left the first half of its bytes, rounded down; a cut that failed left nothing behind its length; any
 /// other call that failed did nothing.
-#[derive(Debug, Drop)]
+#[derive(Drop)]
 pub struct Call {
     /// What was asked.
     pub request: Request,

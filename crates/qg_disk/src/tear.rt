@@ -1,5 +1,5 @@
 /// What a crash leaves of what no sync had made sure of (this project's own).
-#[derive(Clone, Copy, Debug, PartialEq, Eq)]
+#[derive(Clone, Copy, PartialEq, Eq)]
 pub enum Tear {
     /// What was there before: no write is done, and no cut.
     Old,

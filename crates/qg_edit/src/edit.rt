@@ -3,7 +3,7 @@ use qg_node::Body;
 use qg_num::Key;
 
 /// What becomes of the items of the leaf that a key leads to.
-#[derive(Debug, Drop)]
+#[derive(Drop)]
 pub enum Change {
     /// An item with the key and this body comes in. None has the key.
     Insert(Body),
@@ -16,7 +16,7 @@ pub enum Change {
 }
 
 /// A change, and the key that leads to its leaf.
-#[derive(Debug, Drop)]
+#[derive(Drop)]
 pub struct Edit {
     /// The key.
     pub key: Key,

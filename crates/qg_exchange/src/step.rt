@@ -1,7 +1,7 @@
 use qg_num::Piece;
 
 /// One edit of a file's items, at one position (this project's own).
-#[derive(Clone, Copy, Debug, PartialEq, Eq)]
+#[derive(Clone, Copy, PartialEq, Eq)]
 pub enum Step {
     /// The piece at a position, in bytes, goes.
     Remove(u64),

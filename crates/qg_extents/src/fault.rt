@@ -2,7 +2,7 @@
 use qg_num::{Address, NoMemory as Refused};
 
 /// Why a book could not be read (this project's own).
-#[derive(Clone, Copy, Debug, PartialEq, Eq)]
+#[derive(Clone, Copy, PartialEq, Eq)]
 pub enum RefsFault {
     /// Memory was refused.
     NoMemory,

@@ -29,7 +29,7 @@ use std::alloc::Global;
 use std::sync::ledger::Ledger;
 
 /// Pieces of a file that come in the place of others (this project's own).
-#[derive(Debug, Drop)]
+#[derive(Drop)]
 pub struct Exchange {
     /// Those that go.
     pub gone: Pieces,

@@ -1,7 +1,7 @@
 use qg_items::InodeItem;
 
 /// An edit of a file's INODE_ITEM (this project's own).
-#[derive(Clone, Copy, Debug, PartialEq, Eq)]
+#[derive(Clone, Copy, PartialEq, Eq)]
 pub enum InodeEdit {
     /// It comes where none is.
     Insert(InodeItem),

@@ -9,7 +9,7 @@ use qg_rules::{INODES_END, LARGEST_SIZE, LEAST_INODE, is_aligned};
 
 /// An INODE_ITEM, and what pieces of its file are known to stand behind it; more may follow (this project's own). All
 /// but the file are in bytes.
-#[derive(Clone, Copy, Debug)]
+#[derive(Clone, Copy)]
 pub(crate) struct LastFile {
     /// The file.
     pub(crate) ino: Ino,

@@ -13,14 +13,14 @@ use qg_image::FilePart;
 /// What the rule `file` needs of a row of a subvolume's items, such as a leaf's (this project's own).
 ///
 /// Its size is the same however long the row is. Two rows that stand one behind the other make one.
-#[derive(Clone, Copy, Debug)]
+#[derive(Clone, Copy)]
 pub struct FileRow {
     // None where no sound files have these items in a row.
     ends: Option<Ends>,
 }
 
 // The ends of a row whose files within are sound.
-#[derive(Clone, Copy, Debug)]
+#[derive(Clone, Copy)]
 struct Ends {
     // The pieces before the first INODE_ITEM.
     before: Option<Run>,

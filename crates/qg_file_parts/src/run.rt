@@ -6,7 +6,7 @@ use qg_num::{Ino, Piece};
 use qg_rules::{LARGEST_SIZE, is_between};
 
 /// Pieces of one file that stand in a row and overlap nowhere (this project's own). All but the file are in bytes.
-#[derive(Clone, Copy, Debug)]
+#[derive(Clone, Copy)]
 pub(crate) struct Run {
     /// The file.
     pub(crate) ino: Ino,

@@ -10,7 +10,7 @@ use qg_num::{NoMemory, Piece, Pieces};
 use std::alloc::Global;
 
 /// The pieces that a range of bytes meets, whole, and what rests of them outside the range (this project's own).
-#[derive(Debug, Drop)]
+#[derive(Drop)]
 pub struct Split {
     /// The pieces that the range meets, ascending.
     pub gone: Pieces,

@@ -25,7 +25,7 @@ use qg_owed::{references_failure, sort_things};
 use std::alloc::Global;
 
 /// How the references of an image were judged (this project's own).
-#[derive(Debug, Drop)]
+#[derive(Drop)]
 pub enum Judged {
     /// A rule is broken.
     Breaks(Failure),

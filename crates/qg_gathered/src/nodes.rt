@@ -19,7 +19,7 @@ use std::alloc::Global;
 /// What the rules on all nodes together need of a node, told as if it weren't full (this project's own).
 ///
 /// Whether it is full stands in the extent tree. Where it is, the same is owed by shared references.
-#[derive(Debug, Drop)]
+#[derive(Drop)]
 pub struct NodeRead {
     /// Where it lies, its level and owner, and where its children lie.
     pub linked: Linked,
@@ -33,7 +33,7 @@ pub struct NodeRead {
 
 /// What the rules on all nodes together need of the nodes of subvolumes' trees, taken in as the trees are walked (this
 /// project's own).
-#[derive(Debug, Drop)]
+#[derive(Drop)]
 pub struct NodesRead {
     alloc: Global,
     pub(crate) nodes: Vec<NodeRead>,

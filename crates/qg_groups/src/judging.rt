@@ -11,7 +11,7 @@ use qg_num::{Counters, GroupId, GroupList, NoMemory, Sequence, Which};
 use std::alloc::Global;
 
 /// What a reservation into a subvolume is answered (btrfs-qgroup(8), "limits").
-#[derive(Debug, Drop)]
+#[derive(Drop)]
 pub enum Judged {
     /// A group would be over a limit of its.
     Over(GroupId, Which),

@@ -8,7 +8,7 @@ use qg_num::{Address, NoMemory, RootId, Sequence};
 use std::alloc::{AllocError, Global};
 
 /// What the rule `home` needs of a node (this project's own). Addresses are in bytes.
-#[derive(Debug, Drop)]
+#[derive(Drop)]
 pub struct Linked {
     /// Where it lies.
     pub address: Address,

@@ -2,7 +2,7 @@ use qg_num::{Generation, Key};
 
 /// What is expected of a node by the way that leads to it (on-disk format, "B-tree"). Where a field is none, nothing is
 /// told.
-#[derive(Clone, Copy, Debug)]
+#[derive(Clone, Copy)]
 pub struct Expected {
     /// Its level.
     pub level: Option<u8>,

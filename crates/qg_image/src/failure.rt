@@ -1,7 +1,7 @@
 use qg_num::{Address, GroupId, Rule, Which};
 
 /// Why an image is not sound (this project's own).
-#[derive(Clone, Copy, Debug, PartialEq, Eq)]
+#[derive(Clone, Copy, PartialEq, Eq)]
 pub enum Failure {
     /// A rule is broken, at an address in bytes.
     Broken {

@@ -1,7 +1,7 @@
 use qg_num::{Generation, Ino, Pieces, Sequence};
 
 /// A file (on-disk format, INODE_ITEM and EXTENT_DATA).
-#[derive(Debug, Drop)]
+#[derive(Drop)]
 pub struct File {
     /// Its size in bytes.
     pub size: u64,

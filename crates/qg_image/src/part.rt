@@ -3,7 +3,7 @@ use qg_items::{ExtentItem, InodeItem, QgroupInfo, QgroupLimit, QgroupStatus, Ref
 use qg_num::{Address, GroupId, Ino, Piece, RootId};
 
 /// An item of a subvolume's tree (on-disk format, INODE_ITEM and EXTENT_DATA).
-#[derive(Clone, Copy, Debug)]
+#[derive(Clone, Copy)]
 pub enum FilePart {
     /// A file.
     Inode { ino: Ino, inode: InodeItem },
@@ -15,7 +15,7 @@ pub enum FilePart {
 pub type RootPart = (RootId, RootItem);
 
 /// An item of the extent tree (on-disk format, EXTENT_ITEM and what follows it).
-#[derive(Clone, Copy, Debug)]
+#[derive(Clone, Copy)]
 pub enum ExtentPart {
     /// The record of a data extent, with its address and length in bytes.
     DataRecord {
@@ -38,7 +38,7 @@ pub enum ExtentPart {
 }
 
 /// An item of the quota tree (on-disk format, QGROUP_STATUS and what follows it).
-#[derive(Clone, Copy, Debug)]
+#[derive(Clone, Copy)]
 pub enum QuotaPart {
     /// The state of quota.
     Status { status: QgroupStatus },

@@ -1,7 +1,7 @@
 use qg_num::{Counters, Generation, GroupId, Sequence};
 
 /// A quota group (btrfs-qgroup(8)).
-#[derive(Clone, Copy, Debug)]
+#[derive(Clone, Copy)]
 pub struct Group {
     /// Its stored counters, in bytes.
     pub counters: Counters,
@@ -14,7 +14,7 @@ pub struct Group {
 }
 
 /// Quota while it is on (btrfs-quota(8)).
-#[derive(Debug, Drop)]
+#[derive(Drop)]
 pub struct Quota {
     /// The groups, ascending by number.
     pub groups: Sequence<(GroupId, Group)>,

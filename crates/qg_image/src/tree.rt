@@ -1,5 +1,5 @@
 /// Which of the trees of an image is meant (on-disk format, "B-tree").
-#[derive(Clone, Copy, Debug, PartialEq, Eq)]
+#[derive(Clone, Copy, PartialEq, Eq)]
 pub enum Tree {
     /// The root tree, tree 1.
     Roots,

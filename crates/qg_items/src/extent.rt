@@ -15,7 +15,7 @@ pub const EXTENT_DATA_REF_BYTES: usize = 28;
 pub const SHARED_DATA_REF_BYTES: usize = 4;
 
 /// A data extent or a node (on-disk format, EXTENT_ITEM and METADATA_ITEM).
-#[derive(Clone, Copy, Debug, PartialEq, Eq)]
+#[derive(Clone, Copy, PartialEq, Eq)]
 pub struct ExtentItem {
     /// The sum of the counts of its references.
     pub refs: u64,
@@ -26,7 +26,7 @@ pub struct ExtentItem {
 }
 
 /// A keyed reference to a data extent (on-disk format, EXTENT_DATA_REF).
-#[derive(Clone, Copy, Debug, PartialEq, Eq)]
+#[derive(Clone, Copy, PartialEq, Eq)]
 pub struct ExtentDataRef {
     /// The tree.
     pub root: RootId,
@@ -39,14 +39,14 @@ pub struct ExtentDataRef {
 }
 
 /// A shared reference to a data extent (on-disk format, SHARED_DATA_REF).
-#[derive(Clone, Copy, Debug, PartialEq, Eq)]
+#[derive(Clone, Copy, PartialEq, Eq)]
 pub struct SharedDataRef {
     /// How many pieces it stands for.
     pub count: u32,
 }
 
 /// A reference to a node or to a data extent (on-disk format, "backreferences").
-#[derive(Clone, Copy, Debug, PartialEq, Eq)]
+#[derive(Clone, Copy, PartialEq, Eq)]
 pub enum Reference {
     /// From a node that this tree owns, or from the tree's root.
     KeyedBlock { root: RootId },

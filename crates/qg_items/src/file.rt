@@ -15,7 +15,7 @@ pub const EXTENT_DATA_BYTES: usize = 53;
 const REGULAR: u8 = 1;
 
 /// A file (on-disk format, INODE_ITEM). Sizes are in bytes.
-#[derive(Clone, Copy, Debug, PartialEq, Eq)]
+#[derive(Clone, Copy, PartialEq, Eq)]
 pub struct InodeItem {
     /// The generation in which the file was made.
     pub generation: Generation,
@@ -28,7 +28,7 @@ pub struct InodeItem {
 }
 
 /// A piece of a file (on-disk format, EXTENT_DATA, a regular extent). All but the generation are in bytes.
-#[derive(Clone, Copy, Debug, PartialEq, Eq)]
+#[derive(Clone, Copy, PartialEq, Eq)]
 pub struct ExtentData {
     /// The generation in which the extent was written.
     pub generation: Generation,

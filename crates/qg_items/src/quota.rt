@@ -15,7 +15,7 @@ pub const QGROUP_INFO_BYTES: usize = 40;
 pub const QGROUP_LIMIT_BYTES: usize = 40;
 
 /// The state of quota (on-disk format, QGROUP_STATUS, version 1).
-#[derive(Clone, Copy, Debug, PartialEq, Eq)]
+#[derive(Clone, Copy, PartialEq, Eq)]
 pub struct QgroupStatus {
     /// The superblock's generation.
     pub generation: Generation,
@@ -26,7 +26,7 @@ pub struct QgroupStatus {
 }
 
 /// A group's counters, in bytes (on-disk format, QGROUP_INFO).
-#[derive(Clone, Copy, Debug, PartialEq, Eq)]
+#[derive(Clone, Copy, PartialEq, Eq)]
 pub struct QgroupInfo {
     /// The generation of the commit that last changed the counters.
     pub generation: Generation,
@@ -41,7 +41,7 @@ pub struct QgroupInfo {
 }
 
 /// A group's limits, in bytes (on-disk format, QGROUP_LIMIT).
-#[derive(Clone, Copy, Debug, PartialEq, Eq)]
+#[derive(Clone, Copy, PartialEq, Eq)]
 pub struct QgroupLimit {
     /// Which limits are set: MAX_RFER 1, MAX_EXCL 2.
     pub flags: u64,

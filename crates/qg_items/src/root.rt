@@ -9,7 +9,7 @@ use qg_num::{Address, Generation, is_zero, put_u32, put_u64, put_zeros, u32_at, 
 pub const ROOT_ITEM_BYTES: usize = 439;
 
 /// A tree (on-disk format, ROOT_ITEM).
-#[derive(Clone, Copy, Debug, PartialEq, Eq)]
+#[derive(Clone, Copy, PartialEq, Eq)]
 pub struct RootItem {
     /// The generation of the root node.
     pub generation: Generation,

@@ -13,7 +13,7 @@ use std::collections::BTreeMap;
 use std::marker::Model;
 
 /// The limits of a group, in bytes (btrfs-qgroup(8), "limits").
-#[derive(Clone, Copy, Debug)]
+#[derive(Clone, Copy)]
 pub(crate) struct Maxima {
     // On referenced bytes, and on exclusive bytes, if they are set.
     rfer: Option<u64>,

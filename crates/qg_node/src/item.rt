@@ -11,7 +11,7 @@ use std::marker::Model;
 /// An item's body. A contract sees its bytes.
 ///
 /// Up to 56 bytes lie in the value itself, so that the common bodies take no allocation.
-#[derive(Debug, Drop)]
+#[derive(Drop)]
 pub struct Body {
     bytes: SmallVec<u8, 56>,
 }
@@ -57,7 +57,7 @@ impl Body {
 }
 
 /// A key and what stands under it (on-disk format, "leaf node").
-#[derive(Debug, Drop)]
+#[derive(Drop)]
 pub struct Item {
     /// Its place in the order of keys.
     pub key: Key,

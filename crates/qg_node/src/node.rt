@@ -17,7 +17,7 @@ pub const ITEM_HEADER_BYTES: usize = 25;
 pub const POINTER_BYTES: usize = 33;
 
 /// What a node says of itself (on-disk format, "header").
-#[derive(Clone, Copy, Debug, PartialEq, Eq)]
+#[derive(Clone, Copy, PartialEq, Eq)]
 pub struct Header {
     /// Where it lies, in bytes.
     pub address: Address,
@@ -30,7 +30,7 @@ pub struct Header {
 }
 
 /// A node of a B-tree.
-#[derive(Debug, Drop)]
+#[derive(Drop)]
 pub enum Node {
     /// A node with items, of level 0.
     Leaf { header: Header, items: Items },

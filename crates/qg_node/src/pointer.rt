@@ -2,7 +2,7 @@
 use qg_num::{Address, Generation, Key, Sequence};
 
 /// Where a child lies (on-disk format, "internal node").
-#[derive(Clone, Copy, Debug, PartialEq, Eq)]
+#[derive(Clone, Copy, PartialEq, Eq)]
 pub struct Pointer {
     /// The child's first key.
     pub key: Key,

@@ -2,7 +2,7 @@
 use crate::{Address, Counters, Generation, GroupId, OwnerList, Pieces, Refusal, RootId, Rows};
 
 /// A quota group with its stored counters and its limits, all in bytes (`btrfs qgroup show`).
-#[derive(Clone, Copy, Debug, PartialEq, Eq)]
+#[derive(Clone, Copy, PartialEq, Eq)]
 pub struct Row {
     /// The group.
     pub group: GroupId,
@@ -15,7 +15,7 @@ pub struct Row {
 }
 
 /// What a command was answered (this project's own).
-#[derive(Debug, Drop)]
+#[derive(Drop)]
 pub enum Answer {
     /// The command was done.
     Done,

@@ -2,7 +2,7 @@
 use crate::{GroupId, GroupList, Ino, RootId, Which};
 
 /// A command of a script (this project's own). Positions, lengths and sizes are in bytes.
-#[derive(Debug, Drop)]
+#[derive(Drop)]
 pub enum Command {
     /// Writes `len` bytes of a file from `off` on, as one new extent.
     Write {

@@ -1,5 +1,5 @@
 /// A quota group's two counters, in bytes (btrfs-qgroup(8), "rfer" and "excl").
-#[derive(Clone, Copy, Debug, PartialEq, Eq)]
+#[derive(Clone, Copy, PartialEq, Eq)]
 pub struct Counters {
     /// The bytes that the group's members reach.
     pub rfer: u64,

@@ -5,7 +5,7 @@ use crate::{put_u64, u64_at};
 
 /// The key of an item or of a pointer (on-disk format, "Key"). Keys are ordered by object, then by type, then by
 /// offset.
-#[derive(Clone, Copy, Debug, PartialEq, Eq, PartialOrd, Ord)]
+#[derive(Clone, Copy, PartialEq, Eq, PartialOrd, Ord)]
 pub struct Key {
     /// The number of an object, as a file's or a tree's, or an address in bytes.
     pub objectid: u64,

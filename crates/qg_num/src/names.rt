@@ -34,7 +34,7 @@ impl Address {
 }
 
 /// The number of a tree (on-disk format, ROOT_ITEM).
-#[derive(Clone, Copy, Debug, PartialEq, Eq, PartialOrd, Ord)]
+#[derive(Clone, Copy, PartialEq, Eq, PartialOrd, Ord)]
 pub struct RootId {
     number: u64,
 }
@@ -64,7 +64,7 @@ impl RootId {
 }
 
 /// The number of a file in its subvolume (on-disk format, INODE_ITEM).
-#[derive(Clone, Copy, Debug, PartialEq, Eq, PartialOrd, Ord)]
+#[derive(Clone, Copy, PartialEq, Eq, PartialOrd, Ord)]
 pub struct Ino {
     number: u64,
 }
@@ -94,7 +94,7 @@ impl Ino {
 }
 
 /// The number of a commit (on-disk format, "generation").
-#[derive(Clone, Copy, Debug, PartialEq, Eq, PartialOrd, Ord)]
+#[derive(Clone, Copy, PartialEq, Eq, PartialOrd, Ord)]
 pub struct Generation {
     number: u64,
 }

@@ -1,7 +1,7 @@
 use crate::{Address, Generation};
 
 /// A run of a file's bytes and where it lies (on-disk format, EXTENT_DATA). All but the stamp are in bytes.
-#[derive(Clone, Copy, Debug, PartialEq, Eq)]
+#[derive(Clone, Copy, PartialEq, Eq)]
 pub struct Piece {
     /// Where the run begins in the file.
     pub position: u64,

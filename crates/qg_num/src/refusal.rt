@@ -1,7 +1,7 @@
 use crate::{GroupId, Which};
 
 /// Why a command is refused (this project's own). A refused command changes nothing.
-#[derive(Clone, Copy, Debug, PartialEq, Eq)]
+#[derive(Clone, Copy, PartialEq, Eq)]
 pub enum Refusal {
     /// There is no such subvolume.
     NoSub,

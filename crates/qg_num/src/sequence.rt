@@ -22,7 +22,7 @@ pub type Pieces = Sequence<Piece>;
 pub type Rows = Sequence<Row>;
 
 /// A growing list (this project's own). A contract sees its items in order, and not where they lie.
-#[derive(Debug, Drop)]
+#[derive(Drop)]
 pub struct Sequence<T> {
     items: Vec<T>,
 }

@@ -19,7 +19,7 @@ use qg_tree::Built;
 use std::alloc::Global;
 
 /// The root, extent and quota trees of a commit, laid out in free slots, and the superblock that leads to them.
-#[derive(Debug, Drop)]
+#[derive(Drop)]
 pub struct OtherTrees {
     /// The superblock.
     pub superblock: Super,

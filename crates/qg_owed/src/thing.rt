@@ -9,7 +9,7 @@ use qg_node::Header;
 use qg_num::{Address, Generation, NoMemory};
 
 /// What there is at an address, as far as its record tells it (on-disk format, EXTENT_ITEM and METADATA_ITEM).
-#[derive(Clone, Copy, Debug)]
+#[derive(Clone, Copy)]
 pub enum Kind {
     /// A node.
     Node {
@@ -28,7 +28,7 @@ pub enum Kind {
 }
 
 /// What begins at an address.
-#[derive(Clone, Copy, Debug)]
+#[derive(Clone, Copy)]
 pub struct Thing {
     /// The address, in bytes.
     pub address: Address,

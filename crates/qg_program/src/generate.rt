@@ -37,7 +37,7 @@ use std::sync::ledger::{Blank, Ledger};
 const MOST_LINES: u64 = 100000;
 
 /// How many lines were done, and how many refused.
-#[derive(Clone, Copy, Debug, PartialEq, Eq)]
+#[derive(Clone, Copy, PartialEq, Eq)]
 pub struct Tally {
     /// How many lines were done.
     pub done: u64,

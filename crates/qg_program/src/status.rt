@@ -7,7 +7,7 @@ use qg_num::NoMemory;
 use qg_script::LineFault;
 
 /// How a call of the program ended (this project's own).
-#[derive(Clone, Copy, Debug, PartialEq, Eq)]
+#[derive(Clone, Copy, PartialEq, Eq)]
 pub enum Status {
     /// What was asked for was done, and all its bytes were put.
     Done,

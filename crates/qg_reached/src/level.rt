@@ -13,7 +13,7 @@ use qg_num::{Address, RootId, Sequence};
 use std::alloc::{AllocError, Global};
 
 /// By which ways nodes are reached: from where, and as whose root (this project's own).
-#[derive(Debug, Drop)]
+#[derive(Drop)]
 pub(crate) struct Ways {
     // Of each node the indices of those that point to it.
     above: Vec<Sequence<usize>>,

@@ -12,7 +12,7 @@ use qg_num::{Address, NoMemory, RootId, Sequence};
 use std::alloc::{AllocError, Global};
 
 /// For each node the number of the set of those subvolumes that reach it, and these sets (this project's own).
-#[derive(Debug, Drop)]
+#[derive(Drop)]
 pub struct Reached {
     pub(crate) numbers: Vec<SetId>,
     pub(crate) sets: Sets,

@@ -9,7 +9,7 @@ use std::alloc::{AllocError, Global};
 use std::marker::Model;
 
 /// The number of a set of subvolumes (this project's own).
-#[derive(Clone, Copy, Debug, PartialEq, Eq)]
+#[derive(Clone, Copy, PartialEq, Eq)]
 pub struct SetId {
     number: usize,
 }
@@ -44,7 +44,7 @@ impl SetId {
 }
 
 /// Sets of subvolumes, each told once where that is cheap (this project's own).
-#[derive(Debug, Drop)]
+#[derive(Drop)]
 pub(crate) struct Sets {
     // Of each set the words of its members.
     rows: Vec<Sequence<u64>>,

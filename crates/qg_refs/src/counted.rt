@@ -2,7 +2,7 @@ use qg_items::Reference;
 use qg_num::RootId;
 
 /// A reference with its count (on-disk format, "backreferences").
-#[derive(Clone, Copy, Debug, PartialEq, Eq)]
+#[derive(Clone, Copy, PartialEq, Eq)]
 pub struct Counted {
     /// What it is from.
     pub reference: Reference,

@@ -6,7 +6,7 @@ use std::alloc::AllocError;
 
 /// What a record tells of a node or a data extent beside its references (on-disk format, EXTENT_ITEM and
 /// METADATA_ITEM).
-#[derive(Clone, Copy, Debug, PartialEq, Eq)]
+#[derive(Clone, Copy, PartialEq, Eq)]
 pub struct What {
     /// Its length in bytes.
     pub bytes: u64,
@@ -17,7 +17,7 @@ pub struct What {
 }
 
 /// All that a book keeps of a node or a data extent (this project's own).
-#[derive(Debug, Drop)]
+#[derive(Drop)]
 pub struct Kept {
     /// What is known of it.
     pub what: What,

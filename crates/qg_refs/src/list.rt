@@ -15,7 +15,7 @@ use std::marker::Model;
 /// ascending, each once and none with the count 0, and asks for the count of one.
 ///
 /// Two lie in the value itself, so that what one or two subvolumes reach takes no allocation.
-#[derive(Debug, Drop)]
+#[derive(Drop)]
 pub struct RefList {
     counts: SmallVec<Counted, 2>,
 }

@@ -11,7 +11,7 @@ use std::alloc::{AllocError, Global};
 use std::marker::Model;
 
 /// An INODE_ITEM, and the pieces that stand right behind it.
-#[derive(Debug, Drop)]
+#[derive(Drop)]
 pub struct FileItems {
     /// The file.
     pub ino: Ino,
@@ -24,7 +24,7 @@ pub struct FileItems {
 /// What the items of a subvolume say, in their order (this project's own). A contract sees the list of it.
 ///
 /// Pieces lie in the lists that files keep, so that none is copied when the files are read.
-#[derive(Debug, Drop)]
+#[derive(Drop)]
 pub struct FileParts {
     alloc: Global,
     files: Vec<FileItems>,

@@ -2,7 +2,7 @@
 ghost use Rattle.std.specs.Prelude.{◌≡◌};
 
 /// A line of a script, without its newline, as the feed that holds it lends it (this project's own).
-#[derive(Debug, Drop)]
+#[derive(Drop)]
 pub struct Line<'a> {
     bytes: &'a [u8],
 }

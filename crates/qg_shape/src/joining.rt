@@ -13,7 +13,7 @@ use qg_node::{HEADER_BYTES, Node};
 use qg_num::{NoMemory, Sequence};
 
 /// What became of two neighbours.
-#[derive(Clone, Copy, Debug, PartialEq, Eq)]
+#[derive(Clone, Copy, PartialEq, Eq)]
 pub enum Joined {
     /// The left one has all of both, and the right one nothing.
     Whole,

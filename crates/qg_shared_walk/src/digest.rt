@@ -11,7 +11,7 @@ use qg_num::{Generation, Key};
 use qg_walk::{is_root_shaped, takes_a_quarter};
 
 /// What is kept of the items below a node (this project's own).
-#[derive(Clone, Copy, Debug)]
+#[derive(Clone, Copy)]
 pub(crate) struct Below {
     /// The greatest of their keys; none where there are no items.
     pub(crate) last: Option<Key>,
@@ -20,7 +20,7 @@ pub(crate) struct Below {
 }
 
 /// What is kept of a node below which all is well, in place of reading it once more (this project's own).
-#[derive(Clone, Copy, Debug)]
+#[derive(Clone, Copy)]
 pub(crate) struct Digest {
     pub(crate) level: u8,
     pub(crate) generation: Generation,

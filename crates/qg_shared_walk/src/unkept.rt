@@ -4,7 +4,7 @@ use qg_num::NoMemory;
 use qg_walk::NodeList;
 
 /// Keeps nothing of the nodes that it is lent (this project's own).
-#[derive(Clone, Copy, Debug)]
+#[derive(Clone, Copy)]
 pub(crate) struct Unkept {}
 
 impl NodeList for Unkept {

@@ -8,7 +8,7 @@ use qg_super::{DATA_BEGIN, SECTOR};
 use std::marker::Model;
 
 /// A run of whole sectors, and what holds it. A contract sees its extent in bytes.
-#[derive(Clone, Copy, Debug)]
+#[derive(Clone, Copy)]
 pub(crate) struct Run {
     // The number of its first sector in the data area, and how many sectors it has.
     first: u32,

@@ -10,7 +10,7 @@ use qg_super::{SLOTS_BEGIN, Sizes};
 use std::alloc::{AllocError, Global};
 
 /// A node slot, by what holds it.
-#[derive(Clone, Copy, Debug)]
+#[derive(Clone, Copy)]
 pub(crate) struct Slot {
     /// Whether the present state holds it.
     pub present: bool,

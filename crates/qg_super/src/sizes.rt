@@ -2,7 +2,7 @@ use crate::places::{DATA_BEGIN, SECTOR, SLOTS_BEGIN};
 use qg_num::Address;
 
 /// How large an image is (this project's own).
-#[derive(Clone, Copy, Debug, PartialEq, Eq)]
+#[derive(Clone, Copy, PartialEq, Eq)]
 pub struct Sizes {
     /// The bytes of a node: 4096 or 16384.
     pub nodesize: u64,

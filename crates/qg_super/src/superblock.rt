@@ -2,7 +2,7 @@ use crate::sizes::Sizes;
 use qg_num::{Address, Generation};
 
 /// A superblock's fields that are not constant (on-disk format, "superblock").
-#[derive(Clone, Copy, Debug, PartialEq, Eq)]
+#[derive(Clone, Copy, PartialEq, Eq)]
 pub struct Super {
     /// The generation of the commit, from 1 to 2^64 - 2.
     pub generation: Generation,

@@ -12,7 +12,7 @@ use qg_num::{Address, Generation, NoMemory, RootId, Sequence};
 use std::alloc::Global;
 
 /// A tree that was built.
-#[derive(Debug, Drop)]
+#[derive(Drop)]
 pub struct Built {
     /// Its nodes, in the order of the slots that they lie in.
     pub nodes: Sequence<Node>,

@@ -1,6 +1,6 @@
 // What a walk finds.
 /// What a walk found of a tree.
-#[derive(Debug, Drop)]
+#[derive(Drop)]
 pub struct Walked<L, N> {
     /// What its items say, from left to right.
     pub parts: L,

@@ -8,7 +8,7 @@ use crate::decimal_of;
 use qg_super::Sizes;
 
 /// What the words of a command line ask for (this project's own).
-#[derive(Clone, Copy, Debug, PartialEq, Eq)]
+#[derive(Clone, Copy, PartialEq, Eq)]
 pub enum Form {
     /// `mkfs NODESIZE SLOTS SECTORS`: a fresh image of these sizes.
     Mkfs(Sizes),

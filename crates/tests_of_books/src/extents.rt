@@ -78,12 +78,12 @@ fn items_of_a_piece_and_its_clone(rt: HostRuntime) -> Result<(), Fail> {
             ],
         ),
     ];
-    assert_eq!(rt; items.len(), 3);
+    assert!(rt; items.len() == 3);
     for (item, (kind, offset, body)) in items.as_slice().iter().zip(wanted.iter()) {
-        assert_eq!(rt; item.key.objectid, EXTENT);
-        assert_eq!(rt; item.key.kind, *kind);
-        assert_eq!(rt; item.key.offset, *offset);
-        assert_eq!(rt; item.body.as_slice(), *body);
+        assert!(rt; item.key.objectid == EXTENT);
+        assert!(rt; item.key.kind == *kind);
+        assert!(rt; item.key.offset == *offset);
+        assert!(rt; item.body.as_slice() == *body);
     }
     Ok(())
 }
@@ -101,12 +101,12 @@ fn items_of_a_fresh_image(rt: HostRuntime) -> Result<(), Fail> {
         1, 0, 0, 0, 0, 0, 0, 0, 1, 0, 0, 0, 0, 0, 0, 0, 2, 0, 0, 0, 0, 0, 0, 0,
     ];
     let wanted: [(u8, u64, &[u8]); 2] = [(169, 0, &record), (176, 5, &[])];
-    assert_eq!(rt; items.len(), 2);
+    assert!(rt; items.len() == 2);
     for (item, (kind, offset, body)) in items.as_slice().iter().zip(wanted.iter()) {
-        assert_eq!(rt; item.key.objectid, 1081344);
-        assert_eq!(rt; item.key.kind, *kind);
-        assert_eq!(rt; item.key.offset, *offset);
-        assert_eq!(rt; item.body.as_slice(), *body);
+        assert!(rt; item.key.objectid == 1081344);
+        assert!(rt; item.key.kind == *kind);
+        assert!(rt; item.key.offset == *offset);
+        assert!(rt; item.body.as_slice() == *body);
     }
     Ok(())
 }
@@ -144,14 +144,14 @@ fn a_record_with_two_references_is_read(rt: HostRuntime) -> Result<(), Fail> {
         let parts = [record_of(refs), referenced(257, 8192), referenced(257, 0)];
         match Extents::read(rt.alloc(), 4096, &parts) {
             Ok(extents) => {
-                assert_eq!(rt; refs, 2);
-                assert_eq!(rt; extents.known(at), Some(extent()));
-                assert_eq!(rt; extents.count_one(at, &first), 1);
-                assert_eq!(rt; extents.count_one(at, &second), 1);
+                assert!(rt; refs == 2);
+                assert!(rt; extents.known(at) == Some(extent()));
+                assert!(rt; extents.count_one(at, &first) == 1);
+                assert!(rt; extents.count_one(at, &second) == 1);
             }
             Err(fault) => {
                 assert!(rt; refs != 2);
-                assert_eq!(rt; fault, RefsFault::Broken(at));
+                assert!(rt; fault == RefsFault::Broken(at));
             }
         }
     }
@@ -205,7 +205,7 @@ fn answers<D: Disk, L: Ledger>(
 #[test]
 fn the_last_reference_takes_the_mark(rt: HostRuntime) -> Result<(), Fail> {
     let [first, second] = through_the_trait::<Brand>(rt.alloc(), Blank::new(1))?;
-    assert_eq!(rt; first, (Some(extent()), 1, true, 1));
-    assert_eq!(rt; second, (None, 0, false, 0));
+    assert!(rt; first == (Some(extent()), 1, true, 1));
+    assert!(rt; second == (None, 0, false, 0));
     Ok(())
 }

@@ -197,7 +197,7 @@ fn a_tree_is_judged_by_its_nodes(rt: HostRuntime) -> Result<(), Fail> {
             rule,
             address: Address::new(address),
         });
-        assert_eq!(rt; judged(rt.alloc(), nodes, flags, reference)?, wanted);
+        assert!(rt; judged(rt.alloc(), nodes, flags, reference)? == wanted);
     }
     Ok(())
 }
@@ -263,7 +263,7 @@ fn a_leaf_is_shared(rt: HostRuntime) -> Result<(), Fail> {
             rule,
             address: Address::new(address),
         });
-        assert_eq!(rt; judged_of_two(rt.alloc(), nodes, refs, tree)?, wanted);
+        assert!(rt; judged_of_two(rt.alloc(), nodes, refs, tree)? == wanted);
     }
     Ok(())
 }
@@ -290,6 +290,6 @@ fn two_nodes_at_one_address_are_answered(rt: HostRuntime) -> Result<(), Fail> {
         rule: Rule::Refs,
         address: Address::new(LEAF),
     };
-    assert_eq!(rt; judged(rt.alloc(), nodes, 2, from_file(5))?, Some(wanted));
+    assert!(rt; judged(rt.alloc(), nodes, 2, from_file(5))? == Some(wanted));
     Ok(())
 }

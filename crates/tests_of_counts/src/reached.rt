@@ -56,7 +56,7 @@ fn each_node_has_the_set_of_those_who_reach_it(rt: HostRuntime) -> Result<(), Fa
     for (place, members) in expected.iter().enumerate() {
         let set = reached.set_of(place);
         for (subvolume, member) in members.iter().enumerate() {
-            assert_eq!(rt; reached.has(set, subvolume), *member);
+            assert!(rt; reached.has(set, subvolume) == *member);
         }
     }
     let told = reached.members(rt.alloc(), reached.set_of(2), 3)?;
@@ -71,7 +71,7 @@ fn subvolumes_that_share_a_tree_have_one_set(rt: HostRuntime) -> Result<(), Fail
     let told = reached.members(rt.alloc(), reached.set_of(4), 3)?;
     assert!(rt; told.as_slice() == [0, 1, 2].as_slice());
     assert!(rt; reached.set_of(2) == reached.set_of(4) && reached.set_of(0) == reached.set_of(3));
-    assert_eq!(rt; reached.count(), 2);
+    assert!(rt; reached.count() == 2);
     Ok(())
 }
 
@@ -84,6 +84,6 @@ fn an_extent_has_the_union_of_its_leaves(rt: HostRuntime) -> Result<(), Fail> {
     let count = reached.count();
     assert!(rt; reached.members(rt.alloc(), set, 3)?.as_slice() == [0, 1, 2].as_slice());
     assert!(rt; reached.union(rt.alloc(), &leaves)? == set);
-    assert_eq!(rt; reached.count(), count);
+    assert!(rt; reached.count() == count);
     Ok(())
 }

@@ -24,16 +24,16 @@ fn numbers_and_their_bytes(rt: HostRuntime) {
     for (number, wanted) in table {
         let mut bytes = [0xee; 10];
         put_u64(&mut bytes, 1, number);
-        assert_eq!(rt; bytes, wanted, "of {number}");
-        assert_eq!(rt; u64_at(&wanted, 1), number);
+        assert!(rt; bytes == wanted, "of {number}");
+        assert!(rt; u64_at(&wanted, 1) == number);
     }
 
     let mut bytes = [0xee; 8];
     put_zeros(&mut bytes, 0, 1);
     put_u32(&mut bytes, 1, 0xe3069283);
     put_bytes(&mut bytes, 5, &[2, 1, 9]);
-    assert_eq!(rt; bytes, [0x00, 0x83, 0x92, 0x06, 0xe3, 0x02, 0x01, 0x09]);
-    assert_eq!(rt; u32_at(&bytes, 1), 0xe3069283);
+    assert!(rt; bytes == [0x00, 0x83, 0x92, 0x06, 0xe3, 0x02, 0x01, 0x09]);
+    assert!(rt; u32_at(&bytes, 1) == 0xe3069283);
 
     let ranges = [
         (0, 1, true),
@@ -43,6 +43,6 @@ fn numbers_and_their_bytes(rt: HostRuntime) {
         (8, 8, true),
     ];
     for (from, to, wanted) in ranges {
-        assert_eq!(rt; is_zero(&bytes, from, to), wanted, "from {from} to {to}");
+        assert!(rt; is_zero(&bytes, from, to) == wanted, "from {from} to {to}");
     }
 }

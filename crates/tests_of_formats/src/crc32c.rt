@@ -17,13 +17,13 @@ fn known_checksums(rt: HostRuntime) {
         31u8, 30, 29, 28, 27, 26, 25, 24, 23, 22, 21, 20, 19, 18, 17, 16, 15, 14, 13, 12, 11, 10,
         9, 8, 7, 6, 5, 4, 3, 2, 1, 0,
     ];
-    assert_eq!(rt; crc32c(b""), 0);
-    assert_eq!(rt; crc32c(b"123456789"), 0xE306_9283);
-    assert_eq!(rt; crc32c(&[0u8; 32]), 0x8A91_36AA);
-    assert_eq!(rt; crc32c(&[255u8; 32]), 0x62A8_AB43);
-    assert_eq!(rt; crc32c(&ascending), 0x46DD_794E);
-    assert_eq!(rt; crc32c(&descending), 0x113F_DB5C);
-    assert_eq!(rt; crc32c(&READ_COMMAND), 0xD996_3A56);
+    assert!(rt; crc32c(b"") == 0);
+    assert!(rt; crc32c(b"123456789") == 0xE306_9283);
+    assert!(rt; crc32c(&[0u8; 32]) == 0x8A91_36AA);
+    assert!(rt; crc32c(&[255u8; 32]) == 0x62A8_AB43);
+    assert!(rt; crc32c(&ascending) == 0x46DD_794E);
+    assert!(rt; crc32c(&descending) == 0x113F_DB5C);
+    assert!(rt; crc32c(&READ_COMMAND) == 0xD996_3A56);
 }
 
 /// The text's checksum is from a bitwise program of another language.
@@ -33,7 +33,7 @@ fn pieces_of_any_size_give_one_checksum(rt: HostRuntime) -> Result<(), Fail> {
     for place in 0..10_000u32 {
         text.push((place * place / 7 % 256) as u8)?;
     }
-    assert_eq!(rt; crc32c(&text), 0x787E_A13D);
+    assert!(rt; crc32c(&text) == 0x787E_A13D);
     for size in [
         1, 7, 8, 9, 31, 32, 33, 127, 128, 129, 159, 160, 161, 4_096, 9_999, 10_000,
     ] {
@@ -41,7 +41,7 @@ fn pieces_of_any_size_give_one_checksum(rt: HostRuntime) -> Result<(), Fail> {
         for piece in text.chunks(size) {
             running.update(piece);
         }
-        assert_eq!(rt; running.finish(), 0x787E_A13D, "in pieces of {size}");
+        assert!(rt; running.finish() == 0x787E_A13D, "in pieces of {size}");
     }
     Ok(())
 }

@@ -78,8 +78,8 @@ fn take_steps<D: Disk>(rt: &impl Abort, disk: &mut D, rows: &[Row]) {
         } else {
             Ok(())
         };
-        assert_eq!(rt; take_step(rt, disk, &row.step), want, "row {number}");
-        assert_eq!(rt; disk.len(), row.len, "row {number}");
+        assert!(rt; take_step(rt, disk, &row.step) == want, "row {number}");
+        assert!(rt; disk.len() == row.len, "row {number}");
     }
 }
 
@@ -119,7 +119,7 @@ fn fails_where_it_is_told_and_records_all(rt: HostRuntime) -> Result<(), Fail> {
     disk.fail_at(vec![in rt.alloc(); 2, 4, 5, 7, 9, 10]?);
     disk.stop_after(13);
     take_steps(&rt, &mut disk, &rows);
-    assert_eq!(rt; disk.calls().len(), rows.len());
+    assert!(rt; disk.calls().len() == rows.len());
     for (call, row) in disk.calls().iter().zip(&rows) {
         assert!(rt; is_recorded(call, row));
     }
@@ -179,7 +179,7 @@ fn a_crash_tears_what_no_sync_made_sure_of(rt: HostRuntime) -> Result<(), Fail> 
     ];
     for (k, tear, want) in &left {
         let mut crashed = disk.crash(rt.alloc(), *k, *tear)?;
-        assert_eq!(rt; crashed.len(), want.len() as u64);
+        assert!(rt; crashed.len() == (want.len() as u64));
         read_back(&rt, &mut crashed, 0, want)?;
     }
     Ok(())
@@ -209,7 +209,7 @@ fn a_file_gives_back_what_was_written(rt: HostRuntime) -> Result<(), Fail> {
         ],
     );
     let left = fs::read(&rt, path)?;
-    assert_eq!(rt; left.as_slice(), b"abXY".as_slice());
+    assert!(rt; left.as_slice() == b"abXY".as_slice());
     fs::remove_file(&rt, path)?;
     Ok(())
 }

@@ -32,8 +32,8 @@ fn source_in_memory_fails_at_the_calls_that_are_named(rt: HostRuntime) -> Result
     for (room, want) in calls {
         let mut buf = [0u8; 8];
         match take_into(&mut source, &mut buf, room) {
-            Ok(count) => assert_eq!(rt; Some(&buf[..count]), want),
-            Err(fault) => assert_eq!(rt; (fault, want), (EdgeFault::Failed, None)),
+            Ok(count) => assert!(rt; Some(&buf[..count]) == want),
+            Err(fault) => assert!(rt; (fault, want) == (EdgeFault::Failed, None)),
         }
     }
     Ok(())
@@ -51,13 +51,13 @@ fn sink_in_memory_keeps_half_at_the_calls_that_are_named(rt: HostRuntime) -> Res
     ];
     sink.fail_at(vec![in rt.alloc(); 5, 1, 3]?);
     for (piece, want, held) in calls {
-        assert_eq!(rt; sink.put(piece), want);
-        assert_eq!(rt; sink.bytes(), held);
+        assert!(rt; sink.put(piece) == want);
+        assert!(rt; sink.bytes() == held);
     }
     sink.fail_at(vec![in rt.alloc(); 1, 7]?);
-    assert_eq!(rt; sink.put(b"lm"), Ok(()));
-    assert_eq!(rt; sink.put(b"no"), Err(EdgeFault::Failed));
-    assert_eq!(rt; sink.bytes(), b"acdefglmn".as_slice());
+    assert!(rt; sink.put(b"lm") == Ok(()));
+    assert!(rt; sink.put(b"no") == Err(EdgeFault::Failed));
+    assert!(rt; sink.bytes() == b"acdefglmn".as_slice());
     Ok(())
 }
 
@@ -67,10 +67,10 @@ fn sure_ones_never_fail(rt: HostRuntime) -> Result<(), Fail> {
     let mut source = SureSource::new(b"0123456789".to_vec(rt.alloc())?);
     for want in [8, 2, 0] {
         let mut buf = [0u8; 8];
-        assert_eq!(rt; source.take(&mut buf), Ok(want));
-        assert_eq!(rt; sink.put(&buf[..want]), Ok(()));
+        assert!(rt; source.take(&mut buf) == Ok(want));
+        assert!(rt; sink.put(&buf[..want]) == Ok(()));
     }
-    assert_eq!(rt; sink.bytes(), b"0123456789".as_slice());
+    assert!(rt; sink.bytes() == b"0123456789".as_slice());
     Ok(())
 }
 
@@ -156,8 +156,8 @@ fn source_over_a_reader_reads_on_after_a_fault(rt: HostRuntime) {
     for want in calls {
         let mut buf = [0u8; 8];
         match take_into(&mut source, &mut buf, 8) {
-            Ok(count) => assert_eq!(rt; Some(&buf[..count]), want),
-            Err(fault) => assert_eq!(rt; (fault, want), (EdgeFault::Failed, None)),
+            Ok(count) => assert!(rt; Some(&buf[..count]) == want),
+            Err(fault) => assert!(rt; (fault, want) == (EdgeFault::Failed, None)),
         }
     }
 }
@@ -198,8 +198,8 @@ fn sink_over_a_writer_writes_to_the_end_or_fails(rt: HostRuntime) -> Result<(), 
             flush,
         };
         let outcome = StdSink::new(&mut writer).put(b"abcd");
-        assert_eq!(rt; outcome, want);
-        assert_eq!(rt; writer.held.as_slice(), held);
+        assert!(rt; outcome == want);
+        assert!(rt; writer.held.as_slice() == held);
     }
     Ok(())
 }
@@ -219,9 +219,9 @@ fn what_is_put_into_a_file_is_taken_from_it(rt: HostRuntime) -> Result<(), Fail>
         counts.push(count)?;
     }
     fs::remove_file(&rt, name)?;
-    assert_eq!(rt; puts, [Ok(()), Ok(()), Ok(())]);
-    assert_eq!(rt; taken.as_slice(), b"what is put".as_slice());
-    assert_eq!(rt; counts.as_slice(), [8, 3, 0, 0].as_slice());
+    assert!(rt; puts == [Ok(()), Ok(()), Ok(())]);
+    assert!(rt; taken.as_slice() == b"what is put".as_slice());
+    assert!(rt; counts.as_slice() == [8, 3, 0, 0].as_slice());
     Ok(())
 }
 
@@ -231,13 +231,13 @@ fn what_is_put_into_a_pipe_is_taken_from_it(rt: HostRuntime) -> Result<(), Fail>
     let mut source = StdSource::new(reader);
     let mut sink = StdSink::new(writer);
     let mut buf = [0u8; 8];
-    assert_eq!(rt; sink.put(b"through"), Ok(()));
-    assert_eq!(rt; take_into(&mut source, &mut buf, 8)?, 7);
-    assert_eq!(rt; buf[..7], b"through"[..]);
-    assert_eq!(rt; sink.put(b"a pipe"), Ok(()));
+    assert!(rt; sink.put(b"through") == Ok(()));
+    assert!(rt; take_into(&mut source, &mut buf, 8)? == 7);
+    assert!(rt; buf[..7] == b"through"[..]);
+    assert!(rt; sink.put(b"a pipe") == Ok(()));
     drop(sink);
-    assert_eq!(rt; take_into(&mut source, &mut buf, 4)?, 4);
-    assert_eq!(rt; take_into(&mut source, &mut buf, 8)?, 2);
-    assert_eq!(rt; take_into(&mut source, &mut buf, 8)?, 0);
+    assert!(rt; take_into(&mut source, &mut buf, 4)? == 4);
+    assert!(rt; take_into(&mut source, &mut buf, 8)? == 2);
+    assert!(rt; take_into(&mut source, &mut buf, 8)? == 0);
     Ok(())
 }

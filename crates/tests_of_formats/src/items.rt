@@ -22,8 +22,8 @@ fn the_first_piece(rt: HostRuntime) {
     };
     let mut bytes = [0xee; EXTENT_DATA_BYTES];
     write_extent_data(&piece, &mut bytes);
-    assert_eq!(rt; bytes, FIRST_PIECE);
-    assert_eq!(rt; read_extent_data(&FIRST_PIECE), Some(piece));
+    assert!(rt; bytes == FIRST_PIECE);
+    assert!(rt; read_extent_data(&FIRST_PIECE) == Some(piece));
 }
 
 #[test]
@@ -41,8 +41,8 @@ fn inodes_and_trees(rt: HostRuntime) {
     wanted[25] = 0x10;
     let mut bytes = [0xee; INODE_ITEM_BYTES];
     write_inode(&inode, &mut bytes);
-    assert_eq!(rt; bytes, wanted);
-    assert_eq!(rt; read_inode(&wanted), Some(inode));
+    assert!(rt; bytes == wanted);
+    assert!(rt; read_inode(&wanted) == Some(inode));
 
     let root = RootItem {
         generation: Generation::new(7),
@@ -59,8 +59,8 @@ fn inodes_and_trees(rt: HostRuntime) {
     wanted[238] = 2;
     let mut bytes = [0xee; ROOT_ITEM_BYTES];
     write_root(&root, &mut bytes);
-    assert_eq!(rt; bytes, wanted);
-    assert_eq!(rt; read_root(&wanted), Some(root));
+    assert!(rt; bytes == wanted);
+    assert!(rt; read_root(&wanted) == Some(root));
 }
 
 #[test]
@@ -75,8 +75,8 @@ fn extents_and_references(rt: HostRuntime) {
     ];
     let mut bytes = [0xee; EXTENT_ITEM_BYTES];
     write_extent(&extent, &mut bytes);
-    assert_eq!(rt; bytes, wanted);
-    assert_eq!(rt; read_extent(&wanted), Some(extent));
+    assert!(rt; bytes == wanted);
+    assert!(rt; read_extent(&wanted) == Some(extent));
 
     // At position 0, a piece that begins 4096 bytes into its extent.
     let reference = ExtentDataRef {
@@ -91,15 +91,15 @@ fn extents_and_references(rt: HostRuntime) {
     ];
     let mut bytes = [0xee; EXTENT_DATA_REF_BYTES];
     write_data_ref(&reference, &mut bytes);
-    assert_eq!(rt; bytes, wanted);
-    assert_eq!(rt; read_data_ref(&wanted), Some(reference));
+    assert!(rt; bytes == wanted);
+    assert!(rt; read_data_ref(&wanted) == Some(reference));
 
     let reference = SharedDataRef { count: 0x04030201 };
     let wanted = [1, 2, 3, 4];
     let mut bytes = [0xee; SHARED_DATA_REF_BYTES];
     write_shared_data_ref(&reference, &mut bytes);
-    assert_eq!(rt; bytes, wanted);
-    assert_eq!(rt; read_shared_data_ref(&wanted), Some(reference));
+    assert!(rt; bytes == wanted);
+    assert!(rt; read_shared_data_ref(&wanted) == Some(reference));
 }
 
 #[test]
@@ -115,8 +115,8 @@ fn quota(rt: HostRuntime) {
     ];
     let mut bytes = [0xee; QGROUP_STATUS_BYTES];
     write_status(&status, &mut bytes);
-    assert_eq!(rt; bytes, wanted);
-    assert_eq!(rt; read_status(&wanted), Some(status));
+    assert!(rt; bytes == wanted);
+    assert!(rt; read_status(&wanted) == Some(status));
 
     let info = QgroupInfo {
         generation: Generation::new(3),
@@ -131,8 +131,8 @@ fn quota(rt: HostRuntime) {
     ];
     let mut bytes = [0xee; QGROUP_INFO_BYTES];
     write_info(&info, &mut bytes);
-    assert_eq!(rt; bytes, wanted);
-    assert_eq!(rt; read_info(&wanted), Some(info));
+    assert!(rt; bytes == wanted);
+    assert!(rt; read_info(&wanted) == Some(info));
 
     let limit = QgroupLimit {
         flags: 3,
@@ -145,8 +145,8 @@ fn quota(rt: HostRuntime) {
     ];
     let mut bytes = [0xee; QGROUP_LIMIT_BYTES];
     write_limit(&limit, &mut bytes);
-    assert_eq!(rt; bytes, wanted);
-    assert_eq!(rt; read_limit(&wanted), Some(limit));
+    assert!(rt; bytes == wanted);
+    assert!(rt; read_limit(&wanted) == Some(limit));
 }
 
 // The bytes with a bit changed at a place, if there is such a place.
@@ -176,7 +176,7 @@ fn each_constant_byte_is_looked_at(rt: HostRuntime) {
             (read_limit(&limit).is_none(), matches!(place, 24..40)),
         ];
         for (is_none, wanted) in table {
-            assert_eq!(rt; is_none, wanted, "at {place}");
+            assert!(rt; is_none == wanted, "at {place}");
         }
     }
 }
@@ -201,7 +201,7 @@ fn each_length_is_looked_at(rt: HostRuntime) {
             (40, read_limit(&zeros[..length]).is_some()),
         ];
         for (wanted, is_read) in table {
-            assert_eq!(rt; is_read, length == wanted, "of {length} bytes");
+            assert!(rt; is_read == (length == wanted), "of {length} bytes");
         }
     }
 }

@@ -107,7 +107,7 @@ fn is_spelled(rt: &impl Abort, alloc: Global, node: &Node, pieces: &[Piece]) -> 
     write_node(node, &mut bytes);
     assert!(rt; bytes == wanted);
     let read = read_node(alloc, &wanted, Address::new(PLACE))?;
-    assert_eq!(rt; read.header(), node.header());
+    assert!(rt; read.header() == node.header());
     assert!(rt; read.has_text(4096));
     let mut again = [0xee; 4096];
     write_node(&read, &mut again);

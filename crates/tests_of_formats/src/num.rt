@@ -35,8 +35,8 @@ fn keys_have_their_bytes_and_their_order(rt: HostRuntime) {
     for (key, wanted) in table {
         let mut bytes = [0xee; 17];
         key.write(&mut bytes);
-        assert_eq!(rt; bytes, wanted);
-        assert_eq!(rt; Key::read(&wanted), key);
+        assert!(rt; bytes == wanted);
+        assert!(rt; Key::read(&wanted) == key);
     }
 
     let ascending = [
@@ -98,21 +98,21 @@ fn groups_counts_and_lists(rt: HostRuntime) -> Result<(), Fail> {
     ];
     for (level, id, wanted) in table {
         let group = GroupId::new(level, id);
-        assert_eq!(rt; group.map(|group| group.number()), wanted, "{level}/{id}");
+        assert!(rt; group.map(|group| group.number()) == wanted, "{level}/{id}");
     }
     let group = GroupId::from_number(281474976710661);
-    assert_eq!(rt; (group.level(), group.id()), (1, 5));
+    assert!(rt; (group.level(), group.id()) == (1, 5));
 
     count_by_two_ledgers();
 
     let mut owners = OwnerList::new(rt.alloc());
     assert!(rt; owners.is_empty());
     owners.push(RootId::new(5))?;
-    assert_eq!(rt; owners.len(), 1);
-    assert_eq!(rt; owners.as_slice().first().copied(), Some(RootId::new(5)));
+    assert!(rt; owners.len() == 1);
+    assert!(rt; owners.as_slice().first().copied() == Some(RootId::new(5)));
     let mut others = OwnerList::new(owners.allocator());
     others.push(RootId::new(256))?;
-    assert_eq!(rt; others.as_slice().first().copied(), Some(RootId::new(256)));
+    assert!(rt; others.as_slice().first().copied() == Some(RootId::new(256)));
     Ok(())
 }
 
@@ -134,8 +134,8 @@ fn a_list_is_edited_in_place(rt: HostRuntime) -> Result<(), Fail> {
     owners.set(1, RootId::new(300));
     *owners.item_mut(0) = RootId::new(258);
     assert!(rt; has_owners(&owners, &[258, 300]));
-    assert_eq!(rt; owners.replace(1, RootId::new(259)), RootId::new(300));
-    assert_eq!(rt; owners.remove(0), RootId::new(258));
+    assert!(rt; owners.replace(1, RootId::new(259)) == RootId::new(300));
+    assert!(rt; owners.remove(0) == RootId::new(258));
     assert!(rt; has_owners(&owners, &[259]));
     owners.remove_range(0, 1);
     assert!(rt; owners.is_empty());

@@ -52,22 +52,22 @@ fn a_superblock_and_its_texts(rt: HostRuntime) {
     assert!(rt; superblock.is_super());
     let sizes = superblock.sizes();
     assert!(rt; sizes.is_served());
-    assert_eq!(rt; sizes.total_bytes(), 71368704);
+    assert!(rt; sizes.total_bytes() == 71368704);
     let mut text = [0xee; SUPER_BYTES];
     write_super(&superblock, FIRST_PLACE, &mut text);
-    assert_eq!(rt; text, first);
+    assert!(rt; text == first);
     write_super(&superblock, SECOND_PLACE, &mut text);
-    assert_eq!(rt; text, second);
+    assert!(rt; text == second);
 
-    assert_eq!(rt; read_super(&first, FIRST_PLACE), Some(superblock));
-    assert_eq!(rt; read_super(&second, SECOND_PLACE), Some(superblock));
-    assert_eq!(rt; read_super(&first, SECOND_PLACE), None);
-    assert_eq!(rt; read_super(&second, FIRST_PLACE), None);
+    assert!(rt; read_super(&first, FIRST_PLACE) == Some(superblock));
+    assert!(rt; read_super(&second, SECOND_PLACE) == Some(superblock));
+    assert!(rt; read_super(&first, SECOND_PLACE) == None);
+    assert!(rt; read_super(&second, FIRST_PLACE) == None);
     let (short, _) = first.split_at(4095);
-    assert_eq!(rt; read_super(short, FIRST_PLACE), None);
+    assert!(rt; read_super(short, FIRST_PLACE) == None);
     let mut long = [0; 4097];
     put_bytes(&mut long, 0, &first);
-    assert_eq!(rt; read_super(&long, FIRST_PLACE), None);
+    assert!(rt; read_super(&long, FIRST_PLACE) == None);
 }
 
 // With its checksum made anew, a changed text is a superblock's only where the changed byte is of the generation or the
@@ -79,13 +79,12 @@ fn each_byte_is_looked_at(rt: HostRuntime) {
     for place in 0..SUPER_BYTES {
         let mut text = whole;
         text[place] ^= 0x80;
-        assert_eq!(rt; read_super(&text, FIRST_PLACE), None, "at {place}");
+        assert!(rt; read_super(&text, FIRST_PLACE) == None, "at {place}");
         if place >= 4 {
             seal(&mut text);
             let is_other = place >= 72 && place < 88 || place == 2048;
-            assert_eq!(rt;
-                read_super(&text, FIRST_PLACE).is_some(),
-                is_other,
+            assert!(rt;
+                read_super(&text, FIRST_PLACE).is_some() == is_other,
                 "at {place}"
             );
         }
@@ -130,7 +129,7 @@ fn each_range_has_two_ends(rt: HostRuntime) {
             ..small()
         };
         let read = read_super(&text, FIRST_PLACE);
-        assert_eq!(rt; read, wanted.then_some(superblock), "of {superblock:?}");
+        assert!(rt; read == wanted.then_some(superblock), "of {superblock:?}");
     }
 }
 
@@ -154,7 +153,7 @@ fn the_greater_generation_is_chosen(rt: HostRuntime) {
         (Some(older), Some(other), Some(older)),
     ];
     for (first, second, wanted) in table {
-        assert_eq!(rt; choose(first, second), wanted);
+        assert!(rt; choose(first, second) == wanted);
     }
     assert!(rt; older.is_same(&small()));
     assert!(rt; !older.is_same(&newer));

@@ -27,17 +27,17 @@ fn a_limit_is_met_and_not_passed(rt: HostRuntime) -> Result<(), Fail> {
     let mut limits = Limits::new(rt.alloc());
     limits.set(low, Which::Excl, Some(100))?;
     limits.set(high, Which::Rfer, Some(250))?;
-    assert_eq!(rt; limits.max(low, Which::Excl), Some(100));
-    assert_eq!(rt; limits.max(low, Which::Rfer), None);
-    assert_eq!(rt; limits.over(&path, 40), None);
-    assert_eq!(rt; limits.over(&path, 51), Some((low, Which::Excl)));
+    assert!(rt; limits.max(low, Which::Excl) == Some(100));
+    assert!(rt; limits.max(low, Which::Rfer) == None);
+    assert!(rt; limits.over(&path, 40) == None);
+    assert!(rt; limits.over(&path, 51) == Some((low, Which::Excl)));
     assert!(rt; hold_one(&mut limits, low, 1)?);
-    assert_eq!(rt; limits.held(low), 1);
-    assert_eq!(rt; limits.over(&path, 40), Some((low, Which::Excl)));
+    assert!(rt; limits.held(low) == 1);
+    assert!(rt; limits.over(&path, 40) == Some((low, Which::Excl)));
     limits.release_all();
-    assert_eq!(rt; limits.over(&path, 40), None);
+    assert!(rt; limits.over(&path, 40) == None);
     limits.set(low, Which::Excl, None)?;
-    assert_eq!(rt; limits.over(&path, 50), None);
-    assert_eq!(rt; limits.over(&path, 51), Some((high, Which::Rfer)));
+    assert!(rt; limits.over(&path, 50) == None);
+    assert!(rt; limits.over(&path, 51) == Some((high, Which::Rfer)));
     Ok(())
 }

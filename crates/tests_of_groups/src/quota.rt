@@ -151,7 +151,7 @@ fn a_relation_without_its_twin(rt: HostRuntime) -> Result<(), Fail> {
     items.push(item(rt.alloc(), 5, 246, PARENT, &[])?)?;
     match read(rt.alloc(), &items) {
         Ok(_) => assert!(rt; false),
-        Err(fault) => assert_eq!(rt; fault, QuotaFault::Rule(Rule::Quota)),
+        Err(fault) => assert!(rt; fault == QuotaFault::Rule(Rule::Quota)),
     }
     Ok(())
 }

@@ -70,7 +70,7 @@ fn five_lines_come_before_those_that_are_drawn(rt: HostRuntime) {
     ];
     let mut generator = Generator::new(rt.alloc(), 1, 2);
     for line in lines {
-        assert_eq!(rt; next_numbers(&mut generator), line);
+        assert!(rt; next_numbers(&mut generator) == line);
     }
 }
 
@@ -89,9 +89,6 @@ fn folded(alloc: Global, seed: u64, count: u64, lines: u64) -> u64 {
 // The script folds the numbers of its lines in the same way, and those of none behind the second run.
 #[test]
 fn a_long_run_is_the_same_everywhere(rt: HostRuntime) {
-    assert_eq!(rt; folded(rt.alloc(), 7, 20000, 20005), 14465021671468631317);
-    assert_eq!(rt;
-        folded(rt.alloc(), 18446744073709551615, 3, 9),
-        13404878265181785517
-    );
+    assert!(rt; folded(rt.alloc(), 7, 20000, 20005) == 14465021671468631317);
+    assert!(rt; folded(rt.alloc(), 18446744073709551615, 3, 9) == 13404878265181785517);
 }

@@ -50,8 +50,8 @@ fn one_piece(alloc: Global) -> Result<Pieces, NoMemory> {
 fn each_replies(rt: &impl Abort, alloc: Global, replies: &[(Answer, &[u8])]) {
     let mut text = Text::new(alloc);
     for (answer, bytes) in replies {
-        assert_eq!(rt; write_reply(answer, &mut text), Ok(()));
-        assert_eq!(rt; text.as_slice(), *bytes);
+        assert!(rt; write_reply(answer, &mut text) == Ok(()));
+        assert!(rt; text.as_slice() == *bytes);
         text.clear();
     }
 }
@@ -133,8 +133,8 @@ fn each_refusal_has_its_line(rt: HostRuntime) {
     ];
     let mut text = Text::new(rt.alloc());
     for (refusal, bytes) in refusals {
-        assert_eq!(rt; write_reply(&Answer::Refused(refusal), &mut text), Ok(()));
-        assert_eq!(rt; text.as_slice(), bytes);
+        assert!(rt; write_reply(&Answer::Refused(refusal), &mut text) == Ok(()));
+        assert!(rt; text.as_slice() == bytes);
         text.clear();
     }
 }
@@ -148,7 +148,7 @@ fn a_text_grows(rt: HostRuntime) {
         write_broken(Rule::Csum, Address::new(131072), &mut text),
         write_differs(group, Which::Rfer, 0, 16384, &mut text),
     ];
-    assert_eq!(rt; calls, [Ok(()), Ok(()), Ok(())]);
+    assert!(rt; calls == [Ok(()), Ok(()), Ok(())]);
     let want: &[u8] = b"no line\nbroken csum 131072\ndiffers 1/7 rfer 0 16384\n";
-    assert_eq!(rt; text.as_slice(), want);
+    assert!(rt; text.as_slice() == want);
 }

@@ -26,7 +26,7 @@ fn decimals_have_one_form(rt: HostRuntime) -> Result<(), Fail> {
         ("1e3", None),
     ];
     for (text, number) in rows {
-        assert_eq!(rt; decimal_of(text), number, "{text}");
+        assert!(rt; decimal_of(text) == number, "{text}");
     }
     Ok(())
 }
@@ -51,7 +51,7 @@ fn words_have_one_form(rt: HostRuntime) -> Result<(), Fail> {
     ];
     for (word, form) in steps {
         words.push(word.to_string(alloc)?)?;
-        assert_eq!(rt; read_words(&words), form, "{word}");
+        assert!(rt; read_words(&words) == form, "{word}");
     }
     Ok(())
 }
@@ -66,7 +66,7 @@ fn one_word_asks_for_a_run(rt: HostRuntime) -> Result<(), Fail> {
         ("", None),
     ] {
         let words = vec![in alloc; word.to_string(alloc)?]?;
-        assert_eq!(rt; read_words(&words), form, "{word}");
+        assert!(rt; read_words(&words) == form, "{word}");
     }
     Ok(())
 }

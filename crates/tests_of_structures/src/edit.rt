@@ -124,15 +124,15 @@ fn a_leaf_is_cut_where_it_overflows(rt: HostRuntime) -> Result<(), Fail> {
     // 47 items fill a leaf, as 47 · 85 = 3995. 12 are a quarter of it: 4 · 1020 is 3995 at least, 4 · 935 is not.
     let one = Body::from_slice(alloc, &[0; 60])?;
     let front = (Some((36, 0, 70)), Some((12, 72, 94)));
-    assert_eq!(rt; edited(&rt, alloc, 47, 94, Change::Insert(one))?, front);
+    assert!(rt; edited(&rt, alloc, 47, 94, Change::Insert(one))? == front);
     // Behind 6 in the middle: 24 items each.
     let one = Body::from_slice(alloc, &[0; 60])?;
     let halves = (Some((24, 0, 44)), Some((24, 46, 92)));
-    assert_eq!(rt; edited(&rt, alloc, 47, 7, Change::Insert(one))?, halves);
+    assert!(rt; edited(&rt, alloc, 47, 7, Change::Insert(one))? == halves);
     // Of 4959 bytes the first 18 items take 2494, the first 17 take 2409.
     let long = Body::from_slice(alloc, &[0; 1024])?;
     let halves = (Some((18, 0, 34)), Some((29, 36, 92)));
-    assert_eq!(rt; edited(&rt, alloc, 47, 20, Change::Replace(long))?, halves);
+    assert!(rt; edited(&rt, alloc, 47, 20, Change::Replace(long))? == halves);
     Ok(())
 }
 
@@ -140,21 +140,12 @@ fn a_leaf_is_cut_where_it_overflows(rt: HostRuntime) -> Result<(), Fail> {
 fn a_leaf_that_has_room_is_not_cut(rt: HostRuntime) -> Result<(), Fail> {
     let alloc = rt.alloc();
     let one = Body::from_slice(alloc, &[0; 60])?;
-    assert_eq!(rt;
-        edited(&rt, alloc, 46, 7, Change::Insert(one))?,
-        (Some((47, 0, 90)), None)
-    );
+    assert!(rt; edited(&rt, alloc, 46, 7, Change::Insert(one))? == (Some((47, 0, 90)), None));
     let none = Body::from_slice(alloc, &[])?;
-    assert_eq!(rt;
-        edited(&rt, alloc, 47, 92, Change::Replace(none))?,
-        (Some((47, 0, 92)), None)
-    );
-    assert_eq!(rt;
-        edited(&rt, alloc, 47, 92, Change::Remove)?,
-        (Some((46, 0, 90)), None)
-    );
-    assert_eq!(rt; edited(&rt, alloc, 1, 0, Change::Remove)?, (None, None));
-    assert_eq!(rt; edited(&rt, alloc, 47, 1, Change::Clear)?, (None, None));
+    assert!(rt; edited(&rt, alloc, 47, 92, Change::Replace(none))? == (Some((47, 0, 92)), None));
+    assert!(rt; edited(&rt, alloc, 47, 92, Change::Remove)? == (Some((46, 0, 90)), None));
+    assert!(rt; edited(&rt, alloc, 1, 0, Change::Remove)? == (None, None));
+    assert!(rt; edited(&rt, alloc, 47, 1, Change::Clear)? == (None, None));
     Ok(())
 }
 
@@ -182,15 +173,12 @@ fn a_pointer_makes_room_for_two(rt: HostRuntime) -> Result<(), Fail> {
     // 121 pointers fill a node, as 121 · 33 = 3993. 31 are a quarter of it: 4 · 1023 is 3995 at least, 4 · 990 is not.
     let last = [pointer_of(240), pointer_of(241)];
     let front = (Some((91, 0, 180)), Some((31, 182, 241)));
-    assert_eq!(rt; spliced(&rt, alloc, 121, 120, &last)?, front);
+    assert!(rt; spliced(&rt, alloc, 121, 120, &last)? == front);
     // In the middle: 61 pointers each.
     let two = [pointer_of(120), pointer_of(121)];
     let halves = (Some((61, 0, 120)), Some((61, 121, 240)));
-    assert_eq!(rt; spliced(&rt, alloc, 121, 60, &two)?, halves);
-    assert_eq!(rt;
-        spliced(&rt, alloc, 120, 119, &[pointer_of(239)])?,
-        (Some((120, 0, 239)), None)
-    );
+    assert!(rt; spliced(&rt, alloc, 121, 60, &two)? == halves);
+    assert!(rt; spliced(&rt, alloc, 120, 119, &[pointer_of(239)])? == (Some((120, 0, 239)), None));
     Ok(())
 }
 
@@ -206,7 +194,7 @@ fn merged(
     assert!(rt; left.has_text(4096));
     assert!(rt; right.has_text(4096));
     assert!(rt; is_thin(&left, 4096));
-    assert_eq!(rt; left.level(), right.level());
+    assert!(rt; left.level() == right.level());
     let joined = merge(&mut left, &mut right, 4096)?;
     Ok((joined, span(&left), span(&right)))
 }
@@ -216,8 +204,8 @@ fn neighbours_are_merged(rt: HostRuntime) -> Result<(), Fail> {
     let alloc = rt.alloc();
     // 47 items fill a leaf, 48 are shared by halves.
     let whole = (Joined::Whole, Some((47, 0, 92)), None);
-    assert_eq!(rt; merged(&rt, alloc, 11, 36)?, whole);
+    assert!(rt; merged(&rt, alloc, 11, 36)? == whole);
     let parted = (Joined::Parted, Some((24, 0, 46)), Some((24, 48, 94)));
-    assert_eq!(rt; merged(&rt, alloc, 11, 37)?, parted);
+    assert!(rt; merged(&rt, alloc, 11, 37)? == parted);
     Ok(())
 }

@@ -172,17 +172,17 @@ fn cuts_late_behind_the_newest_and_else_in_the_middle(rt: HostRuntime) -> Result
     let alloc = rt.alloc();
     // Items of 85 bytes, in 3995 and in 16283.
     let body = [0; 60];
-    assert_eq!(rt; cut_leaf(alloc, 4096, 48, &body, 47)?, Some((36, 12)));
-    assert_eq!(rt; cut_leaf(alloc, 4096, 48, &body, 3)?, Some((24, 24)));
-    assert_eq!(rt; cut_leaf(alloc, 16384, 192, &body, 191)?, Some((144, 48)));
-    assert_eq!(rt; cut_leaf(alloc, 16384, 192, &body, 0)?, Some((96, 96)));
+    assert!(rt; cut_leaf(alloc, 4096, 48, &body, 47)? == Some((36, 12)));
+    assert!(rt; cut_leaf(alloc, 4096, 48, &body, 3)? == Some((24, 24)));
+    assert!(rt; cut_leaf(alloc, 16384, 192, &body, 191)? == Some((144, 48)));
+    assert!(rt; cut_leaf(alloc, 16384, 192, &body, 0)? == Some((96, 96)));
     // Items of 1049 bytes.
     let long = [0; 1024];
-    assert_eq!(rt; cut_leaf(alloc, 4096, 4, &long, 3)?, Some((3, 1)));
-    assert_eq!(rt; cut_leaf(alloc, 4096, 4, &long, 0)?, Some((2, 2)));
+    assert!(rt; cut_leaf(alloc, 4096, 4, &long, 3)? == Some((3, 1)));
+    assert!(rt; cut_leaf(alloc, 4096, 4, &long, 0)? == Some((2, 2)));
     // Pointers of 33 bytes.
-    assert_eq!(rt; cut_inner(alloc, 4096, 122, 121)?, Some((91, 31)));
-    assert_eq!(rt; cut_inner(alloc, 4096, 122, 60)?, Some((61, 61)));
+    assert!(rt; cut_inner(alloc, 4096, 122, 121)? == Some((91, 31)));
+    assert!(rt; cut_inner(alloc, 4096, 122, 60)? == Some((61, 61)));
     Ok(())
 }
 
@@ -238,15 +238,15 @@ fn joins_where_both_fit_and_else_shares(rt: HostRuntime) -> Result<(), Fail> {
     let alloc = rt.alloc();
     let body = [0; 60];
     // 47 items of 85 bytes are 3995.
-    assert_eq!(rt; join_leaves(alloc, 4096, 11, 36, &body)?, whole(47));
-    assert_eq!(rt; join_leaves(alloc, 4096, 0, 47, &body)?, whole(47));
-    assert_eq!(rt; join_leaves(alloc, 4096, 11, 37, &body)?, parted(24, 24));
-    assert_eq!(rt; join_leaves(alloc, 4096, 47, 11, &body)?, parted(29, 29));
+    assert!(rt; join_leaves(alloc, 4096, 11, 36, &body)? == whole(47));
+    assert!(rt; join_leaves(alloc, 4096, 0, 47, &body)? == whole(47));
+    assert!(rt; join_leaves(alloc, 4096, 11, 37, &body)? == parted(24, 24));
+    assert!(rt; join_leaves(alloc, 4096, 47, 11, &body)? == parted(29, 29));
     // 3995 and 12750 bytes are too many for 16283.
-    assert_eq!(rt; join_leaves(alloc, 16384, 47, 150, &body)?, parted(98, 99));
+    assert!(rt; join_leaves(alloc, 16384, 47, 150, &body)? == parted(98, 99));
     // 121 pointers of 33 bytes are 3993.
-    assert_eq!(rt; join_inners(alloc, 4096, 30, 91)?, whole(121));
-    assert_eq!(rt; join_inners(alloc, 4096, 30, 92)?, parted(61, 61));
+    assert!(rt; join_inners(alloc, 4096, 30, 91)? == whole(121));
+    assert!(rt; join_inners(alloc, 4096, 30, 92)? == parted(61, 61));
     Ok(())
 }
 
@@ -263,15 +263,15 @@ fn filling(alloc: Global, nodesize: u32, count: u32, body: &[u8]) -> Result<(boo
 fn a_node_is_thin_below_a_quarter_and_overfull_past_all(rt: HostRuntime) -> Result<(), Fail> {
     let alloc = rt.alloc();
     // 998, 999, 3995 and 3996 bytes of 3995.
-    assert_eq!(rt; filling(alloc, 4096, 1, &[0; 973])?, (true, false));
-    assert_eq!(rt; filling(alloc, 4096, 1, &[0; 974])?, (false, false));
-    assert_eq!(rt; filling(alloc, 4096, 47, &[0; 60])?, (false, false));
-    assert_eq!(rt; filling(alloc, 4096, 4, &[0; 974])?, (false, true));
+    assert!(rt; filling(alloc, 4096, 1, &[0; 973])? == (true, false));
+    assert!(rt; filling(alloc, 4096, 1, &[0; 974])? == (false, false));
+    assert!(rt; filling(alloc, 4096, 47, &[0; 60])? == (false, false));
+    assert!(rt; filling(alloc, 4096, 4, &[0; 974])? == (false, true));
     // 4070, 4071, 16283 and 16284 bytes of 16283.
-    assert_eq!(rt; filling(alloc, 16384, 5, &[0; 789])?, (true, false));
-    assert_eq!(rt; filling(alloc, 16384, 23, &[0; 152])?, (false, false));
-    assert_eq!(rt; filling(alloc, 16384, 19, &[0; 832])?, (false, false));
-    assert_eq!(rt; filling(alloc, 16384, 23, &[0; 683])?, (false, true));
+    assert!(rt; filling(alloc, 16384, 5, &[0; 789])? == (true, false));
+    assert!(rt; filling(alloc, 16384, 23, &[0; 152])? == (false, false));
+    assert!(rt; filling(alloc, 16384, 19, &[0; 832])? == (false, false));
+    assert!(rt; filling(alloc, 16384, 23, &[0; 683])? == (false, true));
     Ok(())
 }
 
@@ -296,16 +296,16 @@ fn led(objectid: u64) -> usize {
 #[test]
 fn finds_keys(rt: HostRuntime) -> Result<(), Fail> {
     let alloc = rt.alloc();
-    assert_eq!(rt; found(alloc, 10)?, Ok(0));
-    assert_eq!(rt; found(alloc, 30)?, Ok(2));
-    assert_eq!(rt; found(alloc, 9)?, Err(0));
-    assert_eq!(rt; found(alloc, 21)?, Err(2));
-    assert_eq!(rt; found(alloc, 31)?, Err(3));
-    assert_eq!(rt; led(9), 0);
-    assert_eq!(rt; led(10), 0);
-    assert_eq!(rt; led(19), 0);
-    assert_eq!(rt; led(20), 1);
-    assert_eq!(rt; led(99), 2);
+    assert!(rt; found(alloc, 10)? == Ok(0));
+    assert!(rt; found(alloc, 30)? == Ok(2));
+    assert!(rt; found(alloc, 9)? == Err(0));
+    assert!(rt; found(alloc, 21)? == Err(2));
+    assert!(rt; found(alloc, 31)? == Err(3));
+    assert!(rt; led(9) == 0);
+    assert!(rt; led(10) == 0);
+    assert!(rt; led(19) == 0);
+    assert!(rt; led(20) == 1);
+    assert!(rt; led(99) == 2);
     Ok(())
 }
 
@@ -336,12 +336,12 @@ fn items_are_put_changed_and_taken(rt: HostRuntime) -> Result<(), Fail> {
     let alloc = rt.alloc();
     let mut node = leaf(alloc, 7, 3, &[])?;
     let taken = remove_item(&mut node, 1);
-    assert_eq!(rt; taken.key, key_of(8));
-    assert_eq!(rt; first_key(&node), Some(key_of(7)));
-    assert_eq!(rt; pointer_to(&node).child, Address::new(HERE));
-    assert_eq!(rt; item_at(&node, 0), Some((7, 0)));
-    assert_eq!(rt; item_at(&node, 1), Some((9, 0)));
-    assert_eq!(rt; item_at(&node, 2), None);
+    assert!(rt; taken.key == key_of(8));
+    assert!(rt; first_key(&node) == Some(key_of(7)));
+    assert!(rt; pointer_to(&node).child == Address::new(HERE));
+    assert!(rt; item_at(&node, 0) == Some((7, 0)));
+    assert!(rt; item_at(&node, 1) == Some((9, 0)));
+    assert!(rt; item_at(&node, 2) == None);
     Ok(())
 }
 
@@ -350,9 +350,9 @@ fn an_item_goes_where_it_is_put(rt: HostRuntime) -> Result<(), Fail> {
     let alloc = rt.alloc();
     let mut node = leaf(alloc, 7, 2, &[])?;
     insert_item(&mut node, 1, item_of(alloc, 70, &[1])?)?;
-    assert_eq!(rt; item_at(&node, 0), Some((7, 0)));
-    assert_eq!(rt; item_at(&node, 1), Some((70, 1)));
-    assert_eq!(rt; item_at(&node, 2), Some((8, 0)));
+    assert!(rt; item_at(&node, 0) == Some((7, 0)));
+    assert!(rt; item_at(&node, 1) == Some((70, 1)));
+    assert!(rt; item_at(&node, 2) == Some((8, 0)));
     Ok(())
 }
 
@@ -361,8 +361,8 @@ fn a_body_is_replaced_under_its_key(rt: HostRuntime) -> Result<(), Fail> {
     let alloc = rt.alloc();
     let mut node = leaf(alloc, 7, 2, &[])?;
     replace_body(&mut node, 1, Body::from_slice(alloc, &[1, 2])?);
-    assert_eq!(rt; item_at(&node, 0), Some((7, 0)));
-    assert_eq!(rt; item_at(&node, 1), Some((8, 2)));
+    assert!(rt; item_at(&node, 0) == Some((7, 0)));
+    assert!(rt; item_at(&node, 1) == Some((8, 2)));
     Ok(())
 }
 
@@ -371,9 +371,9 @@ fn a_pointer_goes_behind_another(rt: HostRuntime) -> Result<(), Fail> {
     let alloc = rt.alloc();
     let mut node = inner(alloc, 7, 2)?;
     insert_pointer(&mut node, 0, pointer_of(70))?;
-    assert_eq!(rt; pointer_at(&node, 0), Some(7));
-    assert_eq!(rt; pointer_at(&node, 1), Some(70));
-    assert_eq!(rt; pointer_at(&node, 2), Some(8));
+    assert!(rt; pointer_at(&node, 0) == Some(7));
+    assert!(rt; pointer_at(&node, 1) == Some(70));
+    assert!(rt; pointer_at(&node, 2) == Some(8));
     Ok(())
 }
 
@@ -382,9 +382,9 @@ fn pointers_are_changed_and_taken(rt: HostRuntime) -> Result<(), Fail> {
     let alloc = rt.alloc();
     let mut node = inner(alloc, 7, 3)?;
     set_pointer(&mut node, 2, pointer_of(70));
-    assert_eq!(rt; pointer_at(&node, 2), Some(70));
+    assert!(rt; pointer_at(&node, 2) == Some(70));
     let mut other = inner(alloc, 7, 3)?;
-    assert_eq!(rt; remove_pointer(&mut other, 0).key, key_of(7));
-    assert_eq!(rt; pointer_at(&other, 0), Some(8));
+    assert!(rt; remove_pointer(&mut other, 0).key == key_of(7));
+    assert!(rt; pointer_at(&other, 0) == Some(8));
     Ok(())
 }

@@ -52,37 +52,37 @@ fn give_slot(space: &mut Space, at: u64) -> bool {
 #[test]
 fn a_place_taken_again_has_its_new_length(rt: HostRuntime) -> Result<(), Fail> {
     let mut space = fresh(rt.alloc())?;
-    assert_eq!(rt; take(&mut space, 3)?, Some(sector(0)));
+    assert!(rt; take(&mut space, 3)? == Some(sector(0)));
     assert!(rt; give(&mut space, 0, 3));
-    assert_eq!(rt; take(&mut space, 2)?, Some(sector(0)));
+    assert!(rt; take(&mut space, 2)? == Some(sector(0)));
     assert!(rt; !space.has_run(sector(0), 3));
-    assert_eq!(rt; space.taken_bytes(), 8192);
+    assert!(rt; space.taken_bytes() == 8192);
     space.committed();
     assert!(rt; space.has_run(sector(0), 2));
     assert!(rt; give(&mut space, 0, 2));
-    assert_eq!(rt; space.taken_bytes(), 0);
+    assert!(rt; space.taken_bytes() == 0);
     // The last commit holds two sectors.
-    assert_eq!(rt; space.first_run(1), Some(sector(2)));
+    assert!(rt; space.first_run(1) == Some(sector(2)));
     Ok(())
 }
 
 #[test]
 fn slots_are_free_when_nothing_holds_them(rt: HostRuntime) -> Result<(), Fail> {
     let mut space = fresh(rt.alloc())?;
-    assert_eq!(rt; space.take_slot()?, Some(Address::new(1048576)));
-    assert_eq!(rt; space.take_slot()?, Some(Address::new(1052672)));
-    assert_eq!(rt; space.free_slots(), 62);
+    assert!(rt; space.take_slot()? == Some(Address::new(1048576)));
+    assert!(rt; space.take_slot()? == Some(Address::new(1052672)));
+    assert!(rt; space.free_slots() == 62);
     assert!(rt; give_slot(&mut space, 1048576));
-    assert_eq!(rt; space.free_slots(), 63);
-    assert_eq!(rt; space.take_slot()?, Some(Address::new(1048576)));
+    assert!(rt; space.free_slots() == 63);
+    assert!(rt; space.take_slot()? == Some(Address::new(1048576)));
     space.committed();
     assert!(rt; give_slot(&mut space, 1048576));
     assert!(rt; !give_slot(&mut space, 1048576));
-    assert_eq!(rt; space.free_slots(), 62);
-    assert_eq!(rt; space.taken_slots(), 1);
-    assert_eq!(rt; space.take_slot()?, Some(Address::new(1056768)));
+    assert!(rt; space.free_slots() == 62);
+    assert!(rt; space.taken_slots() == 1);
+    assert!(rt; space.take_slot()? == Some(Address::new(1056768)));
     space.committed();
-    assert_eq!(rt; space.free_slots(), 62);
-    assert_eq!(rt; space.take_slot()?, Some(Address::new(1048576)));
+    assert!(rt; space.free_slots() == 62);
+    assert!(rt; space.take_slot()? == Some(Address::new(1048576)));
     Ok(())
 }
