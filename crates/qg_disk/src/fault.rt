@@ -5,7 +5,7 @@ ghost use Rattle.qg_disk.specs.declared.fault.DiskFault.TheVariants.{NoMemory};
 use std::alloc::{AllocError, AllocFailed};
 
 /// Why a call of a disk was not done (this project's own).
-#[derive(Clone, Copy, PartialEq, Eq)]
+#[derive(Clone, Copy, Debug, PartialEq, Eq)]
 pub enum DiskFault {
     /// The device failed. The disk counts these.
     Failed,

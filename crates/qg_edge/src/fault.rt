@@ -5,7 +5,7 @@ ghost use Rattle.qg_edge.specs.declared.fault.EdgeFault.TheVariants.{NoMemory};
 use std::alloc::{AllocError, AllocFailed};
 
 /// Why a source or a sink could not do what it was asked (this project's own).
-#[derive(Clone, Copy, PartialEq, Eq)]
+#[derive(Clone, Copy, Debug, PartialEq, Eq)]
 pub enum EdgeFault {
     /// The object failed, and its count of faults rose.
     Failed,

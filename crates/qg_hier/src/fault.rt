@@ -6,7 +6,7 @@ use qg_num::NoMemory;
 use std::alloc::{AllocError, AllocFailed};
 
 /// Why a call on quota groups could not be done (btrfs-qgroup(8)). Nothing has changed then.
-#[derive(Clone, Copy, PartialEq, Eq)]
+#[derive(Clone, Copy, Debug, PartialEq, Eq)]
 pub enum HierFault {
     /// A group isn't there.
     NoGroup,

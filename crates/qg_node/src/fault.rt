@@ -5,7 +5,7 @@ ghost use Rattle.qg_node.specs.declared.fault.ReadFault.TheVariants.{NoMemory};
 use std::alloc::{AllocError, AllocFailed};
 
 /// The first rule that bytes break as a node, in the order in which the rules are looked at (this project's own).
-#[derive(Clone, Copy, PartialEq, Eq)]
+#[derive(Clone, Copy, Debug, PartialEq, Eq)]
 pub enum NodeFault {
     /// The checksum field is not the checksum followed by zeros.
     Csum,
@@ -24,7 +24,7 @@ pub enum NodeFault {
 }
 
 /// Why no node was read.
-#[derive(Clone, Copy, PartialEq, Eq)]
+#[derive(Clone, Copy, Debug, PartialEq, Eq)]
 pub enum ReadFault {
     /// The bytes are no node: the first rule that they break.
     Bad(NodeFault),

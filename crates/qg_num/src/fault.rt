@@ -7,7 +7,7 @@ use crate::{Address, Rule};
 use std::alloc::{AllocError, AllocFailed};
 
 /// Memory was refused (this project's own).
-#[derive(Clone, Copy, PartialEq, Eq)]
+#[derive(Clone, Copy, Debug, PartialEq, Eq)]
 pub struct NoMemory;
 
 impl From<AllocError> for NoMemory {
@@ -23,7 +23,7 @@ impl<T: Drop> From<AllocFailed<T>> for NoMemory {
 }
 
 /// Why a call on the nodes of an image could not be done (this project's own).
-#[derive(Clone, Copy, PartialEq, Eq)]
+#[derive(Clone, Copy, Debug, PartialEq, Eq)]
 pub enum BlockFault {
     /// Memory was refused.
     NoMemory,

@@ -5,7 +5,7 @@ use qg_num::{NoMemory, Rule};
 use std::alloc::AllocError;
 
 /// Why quota items are refused (this project's own).
-#[derive(Clone, Copy, PartialEq, Eq)]
+#[derive(Clone, Copy, Debug, PartialEq, Eq)]
 pub enum QuotaFault {
     /// They break a rule.
     Rule(Rule),

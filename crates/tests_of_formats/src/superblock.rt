@@ -129,7 +129,10 @@ fn each_range_has_two_ends(rt: HostRuntime) {
             ..small()
         };
         let read = read_super(&text, FIRST_PLACE);
-        assert!(rt; read == wanted.then_some(superblock), "of {superblock:?}");
+        assert!(rt;
+            read == wanted.then_some(superblock),
+            "of generation {generation} with {slots} slots"
+        );
     }
 }
 
