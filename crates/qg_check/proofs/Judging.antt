@@ -31,11 +31,11 @@ use Rattle.qg_owed.proofs.Layouts.{some_or_none}
 use Rattle.qg_extents.specs.Laws.{AreFew}
 use Rattle.qg_extents.specs.Told.{IsTold, records_failure}
 use Rattle.qg_extents.proofs.Agreeing.{owed-sound}
-use Rattle.qg_gathered.specs.declared.nodes.NodesRead.{NodesRead}
-use Rattle.qg_gathered.specs.Gathered.{AreGathered}
-use Rattle.qg_gathered.specs.Told.{AreOfNodes}
-use Rattle.qg_gathered.proofs.Runs.{at_is, at_none}
-use Rattle.qg_gathered.proofs.Verdicts.{extents_apart, named_there, no_extent}
+use Rattle.qg_shared_walk.specs.Types.{NodesRead}
+use Rattle.qg_shared_walk.specs.Gathered.{AreGathered}
+use Rattle.qg_shared_walk.specs.Told.{AreOfNodes}
+use Rattle.qg_shared_walk.proofs.Runs.{at_is, at_none}
+use Rattle.qg_shared_walk.proofs.Verdicts.{extents_apart, named_there, no_extent}
 use Rattle.qg_check.specs.declared.judge.Read.{Read}
 use Rattle.qg_check.specs.IsImage.{IsBookOf}
 use Rattle.qg_check.specs.Trees.{AreRead}

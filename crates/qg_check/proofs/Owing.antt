@@ -39,12 +39,12 @@ use Rattle.qg_reach.proofs.Reached.{address_of}
 use Rattle.qg_home.proofs.Reaching.{entry_of_value}
 use Rattle.qg_owed.proofs.Layouts.{if_something, some_or_none, something_if}
 use Rattle.qg_extents.specs.Laws.{IsOwing}
-use Rattle.qg_gathered.specs.declared.nodes.NodesRead.{NodesRead}
-use Rattle.qg_gathered.specs.Gathered.{AreGathered, root_at}
-use Rattle.qg_gathered.proofs.Apart.{tree_under}
-use Rattle.qg_gathered.proofs.Found.{found_is}
-use Rattle.qg_gathered.proofs.Verdicts.{branch, by_address, listed, roots_are}
-use Rattle.qg_gathered.proofs.Laid.{entry_of}
+use Rattle.qg_shared_walk.specs.Types.{NodesRead}
+use Rattle.qg_shared_walk.specs.Gathered.{AreGathered, root_at}
+use Rattle.qg_shared_walk.proofs.Apart.{tree_under}
+use Rattle.qg_shared_walk.proofs.Found.{found_is}
+use Rattle.qg_shared_walk.proofs.Verdicts.{branch, by_address, listed, roots_are}
+use Rattle.qg_shared_walk.proofs.Laid.{entry_of}
 use Rattle.qg_check.proofs.Found.{LieWhereFound-image}
 use Rattle.qg_check.proofs.Parents.{led-below}
 use Rattle.qg_check.proofs.Pieces.{contains_given, one_given}

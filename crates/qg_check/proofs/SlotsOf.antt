@@ -10,9 +10,9 @@ use Rattle.qg_super.specs.Places.{is_slot}
 use Rattle.qg_image.proofs.Contained.{none_contained, contains_cases}
 use Rattle.qg_reach.specs.Sets.{HaveSame}
 use Rattle.qg_walk.specs.Held.{AreAddressesOf, AreInSlots}
-use Rattle.qg_gathered.specs.declared.nodes.NodesRead.{NodesRead}
-use Rattle.qg_gathered.specs.Told.{AreOfNodes}
-use Rattle.qg_gathered.proofs.Sorted.{lie_as_told, number_read}
+use Rattle.qg_shared_walk.specs.Types.{NodesRead}
+use Rattle.qg_shared_walk.specs.Told.{AreOfNodes}
+use Rattle.qg_shared_walk.proofs.Sorted.{lie_as_told, number_read}
 
 -- what all pass, each passes
 passes : {A : Type 0} (p : A → Bool) (xs : List A) (x : A) → list_all p xs ≡ true → Contains xs x → p x ≡ true

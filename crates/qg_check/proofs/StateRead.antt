@@ -19,8 +19,8 @@ use Rattle.qg_extents.specs.Table.{book_of}
 use Rattle.qg_extents.specs.Told.{IsTold}
 use Rattle.qg_reach.specs.Sets.{HaveSame}
 use Rattle.qg_reach.proofs.Members.{contains_flat_map, contains_map, one_flat_mapped, one_mapped, same_on}
-use Rattle.qg_gathered.proofs.Verdicts.{nodes_of_all}
-use Rattle.qg_gathered.proofs.Sorted.{lie_as_told}
+use Rattle.qg_shared_walk.proofs.Verdicts.{nodes_of_all}
+use Rattle.qg_shared_walk.proofs.Sorted.{lie_as_told}
 use Rattle.qg_check.specs.declared.image.Image.{Image}
 use Rattle.qg_check.specs.IsImage.{IsBookOf, IsSubvolumeOf, StandsFor}
 use Rattle.qg_groups.specs.Tracked.{quota_of}

@@ -34,8 +34,8 @@ use Rattle.qg_image.specs.Walk.{is_item_of, node_found, root_told, tree_failure}
 use Rattle.qg_walk.proofs.Failures.{kept-none, neither}
 use Rattle.qg_reach.specs.Sets.{HaveSame}
 use Rattle.qg_reach.proofs.Members.{contains_flat_map, one_flat_mapped}
-use Rattle.qg_gathered.specs.declared.nodes.NodesRead.{NodesRead}
-use Rattle.qg_gathered.proofs.Apart.{tree_branch, tree_under}
+use Rattle.qg_shared_walk.specs.Types.{NodesRead}
+use Rattle.qg_shared_walk.proofs.Apart.{tree_branch, tree_under}
 use Rattle.qg_check.specs.IsImage.{IsSubvolumeOf}
 use Rattle.qg_check.specs.Trees.{AreFileTrees}
 use Rattle.qg_check.proofs.Found.{items_below-is}

@@ -32,9 +32,9 @@ use Rattle.qg_reach.proofs.SlotRule.{slots_few}
 use Rattle.qg_reach.proofs.SpaceRule.{bytes_fit}
 use Rattle.qg_direct.specs.declared.surveyed.Surveyed.{Surveyed}
 use Rattle.qg_direct.specs.Surveyed.{AreSurveyed}
-use Rattle.qg_gathered.specs.declared.nodes.NodesRead.{NodesRead}
-use Rattle.qg_gathered.specs.Gathered.{AreGathered, root_at}
-use Rattle.qg_gathered.specs.Told.{AreOfNodes}
+use Rattle.qg_shared_walk.specs.Types.{NodesRead}
+use Rattle.qg_shared_walk.specs.Gathered.{AreGathered, root_at}
+use Rattle.qg_shared_walk.specs.Told.{AreOfNodes}
 use Rattle.qg_groups.specs.declared.state.QuotaState.{QuotaState}
 use Rattle.qg_groups.specs.Tracked.{quota_of}
 use Rattle.qg_check.specs.declared.judge.Read.{Read}

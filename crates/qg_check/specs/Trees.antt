@@ -16,9 +16,9 @@ use Rattle.qg_image.specs.ImageState.{quota_told}
 use Rattle.qg_image.specs.Walk.{are_by}
 use Rattle.qg_image.specs.Verdict.{are_roots, most_subvolumes, subvolume_failure}
 use Rattle.qg_extents.specs.Laws.{AreFew}
-use Rattle.qg_gathered.specs.declared.nodes.NodesRead.{NodesRead}
-use Rattle.qg_gathered.specs.Found.{AreFound}
-use Rattle.qg_gathered.specs.Told.{AreOfNodes}
+use Rattle.qg_shared_walk.specs.Types.{NodesRead}
+use Rattle.qg_shared_walk.specs.GatheredFound.{AreFound}
+use Rattle.qg_shared_walk.specs.Told.{AreOfNodes}
 use Rattle.qg_check.specs.declared.judge.Read.{Read}
 use Rattle.qg_check.specs.declared.trees.Trees.{Trees}
 use Rattle.qg_check.specs.declared.trees.ExtentTree.{ExtentTree}

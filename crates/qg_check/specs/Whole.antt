@@ -9,7 +9,7 @@ use Rattle.qg_image.specs.Table.{keys_of}
 use Rattle.qg_image.specs.ImageState.{super_in, super_of}
 use Rattle.qg_image.specs.Verdict.{together_failure, verdict}
 use Rattle.qg_walk.specs.Held.{AreInSlots}
-use Rattle.qg_gathered.specs.Told.{AreOfNodes}
+use Rattle.qg_shared_walk.specs.Told.{AreOfNodes}
 use Rattle.qg_groups.specs.Tracked.{quota_of, HoldsAll, IsTracked}
 use Rattle.qg_check.specs.Editable.{AreGroupsOf, AreSubvolumes}
 use Rattle.qg_check.specs.Stale.{stale_place}

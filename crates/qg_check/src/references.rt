@@ -16,14 +16,14 @@ ghost use Rattle.qg_extents.specs.Table.{IsTable, book_of};
 ghost use Rattle.qg_extents.specs.Told.{IsFault, IsTold, records_failure};
 ghost use Rattle.qg_reach.specs.Sets.{HaveSame};
 ghost use Rattle.qg_direct.specs.Surveyed.{AreSurveyed};
-ghost use Rattle.qg_gathered.specs.Gathered.{AreGathered, root_at};
+ghost use Rattle.qg_shared_walk.specs.Gathered.{AreGathered, root_at};
 ghost use Rattle.qg_check.specs.Counts.{CountFits};
 
 use qg_direct::Surveyed;
 use qg_extents::{Extents, RefsFault};
-use qg_gathered::{Judged, NodesRead, judge_references};
 use qg_image::{Element, ExtentPart};
 use qg_num::{Address, RootId, Rule};
+use qg_shared_walk::gathered::{Judged, NodesRead, judge_references};
 use qg_walk::OpenFault;
 use std::alloc::Global;
 

@@ -28,7 +28,7 @@ use Rattle.qg_extents.specs.Fresh.{fresh_table}
 use Rattle.qg_extents.specs.Written.{items_of_book}
 use Rattle.qg_other_trees.specs.declared.laying.OtherTrees.{OtherTrees}
 use Rattle.qg_other_trees.specs.Trees.{nodes_of_trees, quota_nodes_laid, root_item_laid}
-use Rattle.qg_check.specs.Editable.{AreGroups, AreSubvolumes}
+use Rattle.qg_other_trees.specs.Editable.{AreGroups, AreSubvolumes}
 use Rattle.qg_other_trees.proofs.Enough.{filled_quota, filled_roots}
 use Rattle.qg_other_trees.proofs.One.{one_named, one_told}
 use Rattle.qg_other_trees.proofs.QuotaTree.{HasQuotaTree, quota_there, root_if}

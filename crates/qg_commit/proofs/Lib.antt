@@ -1,3 +1,10 @@
+pub use Rattle.qg_other_trees.proofs.CheckFound
+pub use Rattle.qg_other_trees.proofs.Owing
+pub use Rattle.qg_other_trees.proofs.QuotaTree
+pub use Rattle.qg_other_trees.proofs.Slots
+pub use Rattle.qg_other_trees.proofs.Sound
+pub use Rattle.qg_other_trees.proofs.Verdicts
+pub use Rattle.qg_other_trees.proofs.Weight
 pub mod Ranges
 pub mod Written
 pub mod Moments

@@ -15,7 +15,7 @@ use Rattle.qg_image.specs.State.{State}
 use Rattle.qg_image.specs.ImageState.{super_in, super_of}
 use Rattle.qg_image.specs.StateOf.{StateOf}
 use Rattle.qg_walk.specs.declared.fault.OpenFault.{OpenFault}
-use Rattle.qg_check.specs.Stale.{stale_place}
+use Rattle.qg_other_trees.specs.Stale.{stale_place}
 use Rattle.qg_crashes.specs.Committing.{IsFront, begin_of}
 use Rattle.qg_crashes.specs.Repairing.{Repairing}
 use Rattle.qg_crashes.specs.States.{with_place}

@@ -7,8 +7,8 @@ use Rattle.qg_disk.specs.declared.fault.DiskFault.TheVariants.{Failed, NoMemory}
 use Rattle.qg_disk.specs.Disk.{Syncs, Writes}
 use Rattle.qg_super.specs.declared.superblock.Super.{Super}
 use Rattle.qg_super.specs.SuperText.{super_text}
-use Rattle.qg_check.specs.declared.image.Image.{Image}
-use Rattle.qg_check.specs.IsImage.{IsImage}
+use Rattle.qg_other_trees.specs.Types.{Image}
+use Rattle.qg_other_trees.specs.IsImage.{IsImage}
 use Rattle.qg_commit.specs.Opening.{IsLookedAt, IsWriting}
 use Rattle.qg_commit.specs.Opened.{IsOpening}
 

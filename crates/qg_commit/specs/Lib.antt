@@ -1,3 +1,11 @@
+pub use Rattle.qg_other_trees.specs.Editable
+pub use Rattle.qg_other_trees.specs.Holds
+pub use Rattle.qg_other_trees.specs.IsImage
+pub use Rattle.qg_other_trees.specs.Report
+pub use Rattle.qg_other_trees.specs.Sound
+pub use Rattle.qg_other_trees.specs.Stale
+pub use Rattle.qg_other_trees.specs.Telling
+pub use Rattle.qg_other_trees.specs.Trees
 pub mod Fresh
 pub mod Calls
 pub mod Mkfs
@@ -6,3 +14,4 @@ pub mod Opening
 pub mod Opened
 pub mod CallEvents
 pub mod Examples
+pub mod Types

@@ -12,7 +12,7 @@ use Rattle.qg_image.specs.Verdict.{IsSound}
 use Rattle.qg_walk.specs.declared.fault.OpenFault.{OpenFault}
 use Rattle.qg_crashes.specs.Committing.{begin_of}
 use Rattle.qg_crashes.specs.Outcomes.{Rests, Survives}
-use Rattle.qg_check.specs.Stale.{stale_place}
+use Rattle.qg_other_trees.specs.Stale.{stale_place}
 use Rattle.qg_commit.specs.Opening.{IsLookedAt, IsWriting, with_repair}
 
 -- the place that does not hold the superblock that counts, if there is one

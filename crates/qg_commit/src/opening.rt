@@ -6,12 +6,12 @@ ghost use Rattle.qg_super.specs.Places.{total_bytes};
 ghost use Rattle.qg_super.specs.SuperText.{is_super, sizes_of};
 ghost use Rattle.qg_image.specs.Verdict.{verdict};
 ghost use Rattle.qg_walk.specs.Fault.{TellsFailure};
-ghost use Rattle.qg_check.specs.IsImage.{IsEditable, IsImage};
+ghost use Rattle.qg_other_trees.specs.IsImage.{IsEditable, IsImage};
 ghost use Rattle.qg_commit.specs.Opened.{IsOpening, OutlivesCrashes};
 ghost use Rattle.qg_commit.specs.Opening.{IsUntouched, IsWriting, with_repair};
 
-use qg_check::{Image, read_image};
 use qg_disk::{Disk, DiskFault};
+use qg_other_trees::check::{Image, read_image};
 use qg_super::{FIRST_PLACE, SECOND_PLACE, SUPER_BYTES, Super, write_super};
 use qg_walk::OpenFault;
 use std::alloc::Global;

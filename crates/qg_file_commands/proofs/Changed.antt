@@ -11,12 +11,12 @@ use Rattle.qg_image.specs.Verdict.{longest_extent}
 use Rattle.qg_machine.specs.FileChange.{file_change, pieces_meeting, pieces_or_none}
 use Rattle.qg_extents.specs.Table.{IsTable}
 use Rattle.qg_home.proofs.Reaching.{entry_of_value}
-use Rattle.qg_file_edits.specs.Changes.{files_cloned_from}
-use Rattle.qg_file_edits.specs.Files.{pieces_of}
-use Rattle.qg_file_edits.proofs.Files.{file-found}
-use Rattle.qg_fs_laws.specs.Keeping.{TellsChanges}
-use Rattle.qg_fs_laws.proofs.Others.{changes-told}
-use Rattle.qg_fs_laws.specs.Committing.{AreShort, AreShortPieces, IsShort}
+use Rattle.qg_kept.specs.Changes.{files_cloned_from}
+use Rattle.qg_kept.specs.Files.{pieces_of}
+use Rattle.qg_kept.proofs.Files.{file-found}
+use Rattle.qg_kept.specs.FsLawsKeeping.{TellsChanges}
+use Rattle.qg_kept.proofs.Others.{changes-told}
+use Rattle.qg_kept.specs.FsLawsCommitting.{AreShort, AreShortPieces, IsShort}
 use Rattle.qg_kept.specs.declared.kept.Kept.{Kept}
 use Rattle.qg_kept.specs.Keeping.{IsKept, IsKeptOf}
 use Rattle.qg_file_commands.proofs.Stepped.{change_to, tree-kept}

@@ -13,9 +13,9 @@ use Rattle.qg_machine.specs.Refusals.{over_limit}
 use Rattle.qg_space.specs.Holding.{free_slots}
 use Rattle.qg_extents.specs.Table.{IsTable}
 use Rattle.qg_groups.specs.declared.state.QuotaState.{QuotaState}
-use Rattle.qg_fs_tree.specs.declared.fs_tree.FsTree.{FsTree}
-use Rattle.qg_file_edits.specs.Changes.{files_cloned_from}
-use Rattle.qg_file_edits.specs.Files.{LeavesFiles, LeavesHeld, pieces_of}
+use Rattle.qg_kept.specs.Types.{FsTree}
+use Rattle.qg_kept.specs.Changes.{files_cloned_from}
+use Rattle.qg_kept.specs.Files.{LeavesFiles, LeavesHeld, pieces_of}
 use Rattle.qg_kept.specs.declared.kept.Kept.{Kept}
 use Rattle.qg_kept.specs.Answering.{Answered}
 use Rattle.qg_kept.specs.Editing.{clone_refusal, clone_reserves, slots_refusal}
@@ -24,7 +24,7 @@ use Rattle.qg_file_commands.proofs.Known.{sub-known}
 use Rattle.qg_file_commands.proofs.Refused.{early-clone, late-clone, limit-clone}
 use Rattle.qg_file_commands.proofs.Changed.{clone-here, hand-short, short-files, short-pieces}
 use Rattle.qg_file_commands.proofs.Leaves.{follows-edit}
-use Rattle.qg_fs_laws.proofs.Short.{short-left}
+use Rattle.qg_kept.proofs.Short.{short-left}
 use Rattle.qg_file_commands.proofs.Stepped.{Follows, IsLate, Reserves, change_to, does_edit, does_nothing, edited}
 use Rattle.qg_file_commands.proofs.Stepped.{late-refusal, reserves-so}
 

@@ -10,12 +10,12 @@ use Rattle.qg_super.specs.SuperText.{sizes_of}
 use Rattle.qg_image.specs.Table.{keys_of}
 use Rattle.qg_image.specs.State.{Accepted}
 use Rattle.qg_descent.specs.Tree.{Root}
-use Rattle.qg_fs_tree.specs.declared.fs_tree.FsTree.{FsTree}
-use Rattle.qg_fs_tree.specs.Standing.{AreNumbered, CanTurn, trees_of}
-use Rattle.qg_file_edits.specs.Files.{LeavesHeld, StaysOwn}
+use Rattle.qg_kept.specs.Types.{FsTree}
+use Rattle.qg_kept.specs.Standing.{AreNumbered, CanTurn, trees_of}
+use Rattle.qg_kept.specs.Files.{LeavesHeld, StaysOwn}
 use Rattle.qg_blocks.specs.Told.{IsBacked}
 use Rattle.qg_groups.specs.Tracked.{quota_of}
-use Rattle.qg_check.specs.Editable.{AreGroupsOf}
+use Rattle.qg_kept.specs.Editable.{AreGroupsOf}
 use Rattle.qg_kept.specs.declared.kept.Kept.{Kept}
 use Rattle.qg_kept.specs.Keeping.{AreSubvolumesBy, HoldsPending, IsFitted, IsKept, most_reserved}
 use Rattle.qg_file_commands.proofs.ReservedBy.{bounded-more, later-more}

@@ -9,16 +9,16 @@ use Rattle.qg_image.specs.Need.{file_copies, nodes_filled}
 use Rattle.qg_image.specs.State.{Accepted, State}
 use Rattle.qg_space.specs.Holding.{free_slots}
 use Rattle.qg_extents.specs.Table.{IsTable}
-use Rattle.qg_tree_refs.specs.Heavier.{BookGetsHeavier, edit_bytes, name_new_bytes}
-use Rattle.qg_tree_refs.specs.Need.{GetsHeavierBy}
-use Rattle.qg_tree_refs.proofs.Covered.{leaves-need}
-use Rattle.qg_tree_refs.proofs.Sums.{held-heavier}
-use Rattle.qg_fs_tree.specs.declared.fs_tree.FsTree.{FsTree}
-use Rattle.qg_file_edits.specs.Files.{LeavesFiles, LeavesHeld}
-use Rattle.qg_fs_laws.specs.Keeping.{FollowsCommand, mine_after, state_after}
-use Rattle.qg_fs_laws.specs.Keeping as step
-use Rattle.qg_fs_laws.proofs.Followed.{follows}
-use Rattle.qg_fs_laws.specs.Committing.{AreShort}
+use Rattle.qg_kept.specs.Heavier.{BookGetsHeavier, edit_bytes, name_new_bytes}
+use Rattle.qg_kept.specs.Need.{GetsHeavierBy}
+use Rattle.qg_kept.proofs.Covered.{leaves-need}
+use Rattle.qg_kept.proofs.TreeRefsSums.{held-heavier}
+use Rattle.qg_kept.specs.Types.{FsTree}
+use Rattle.qg_kept.specs.Files.{LeavesFiles, LeavesHeld}
+use Rattle.qg_kept.specs.FsLawsKeeping.{FollowsCommand, mine_after, state_after}
+use Rattle.qg_kept.specs.FsLawsKeeping as step
+use Rattle.qg_kept.proofs.Followed.{follows}
+use Rattle.qg_kept.specs.FsLawsCommitting.{AreShort}
 use Rattle.qg_kept.specs.declared.kept.Kept.{Kept}
 use Rattle.qg_kept.specs.Keeping.{IsKept, IsKeptOf, book_weight, commit_need, filled_by, need_of, quota_weight}
 use Rattle.qg_kept.specs.Keeping.{root_weight}

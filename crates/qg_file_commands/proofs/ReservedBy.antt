@@ -30,9 +30,9 @@ use Rattle.qg_groups.specs.Tracked.{HasGroup, HoldsAll, HoldsAtMost, IsTracked, 
 use Rattle.qg_groups.proofs.Agreed.{ok-then}
 use Rattle.qg_groups.proofs.Paths.{path-ascends, room-held}
 use Rattle.qg_groups.proofs.Reserved.{bound-more, has-group, refusal-off, refusal-told}
-use Rattle.qg_check.specs.Editable.{AreGroups, AreGroupsOf}
+use Rattle.qg_kept.specs.Editable.{AreGroups, AreGroupsOf}
 use Rattle.qg_extents.specs.Table.{IsTable}
-use Rattle.qg_fs_tree.proofs.Lists.{from-mapped}
+use Rattle.qg_kept.proofs.Lists.{from-mapped}
 use Rattle.qg_kept.specs.declared.kept.Kept.{Kept}
 use Rattle.qg_kept.specs.Keeping.{IsFitted, IsKeptWith, most_reserved}
 use Rattle.qg_kept.proofs.Looked.{hand-among, tree-listed}

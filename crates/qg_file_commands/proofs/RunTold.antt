@@ -10,7 +10,7 @@ use Rattle.qg_image.specs.Space as present
 use Rattle.qg_space.specs.Holding.{Holding, first_run, is_free_run}
 use Rattle.qg_space.proofs.Firsts.{is_free_run-first}
 use Rattle.qg_extents.specs.Table.{IsTable}
-use Rattle.qg_fs_laws.proofs.Free.{space-told}
+use Rattle.qg_kept.proofs.Free.{space-told}
 use Rattle.qg_kept.specs.declared.kept.Kept.{Kept}
 use Rattle.qg_kept.specs.Keeping.{IsKept, IsKeptOf}
 use Rattle.qg_file_commands.proofs.Stepped.{tree-kept}

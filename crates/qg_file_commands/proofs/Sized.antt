@@ -10,9 +10,9 @@ use Rattle.qg_image.specs.State.{State}
 use Rattle.qg_machine.specs.FileChange.{pieces_past}
 use Rattle.qg_space.specs.Holding.{free_slots}
 use Rattle.qg_extents.specs.Table.{IsTable}
-use Rattle.qg_fs_tree.specs.declared.fs_tree.FsTree.{FsTree}
-use Rattle.qg_file_edits.specs.Changes.{files_cut}
-use Rattle.qg_file_edits.specs.Files.{LeavesFiles, LeavesHeld}
+use Rattle.qg_kept.specs.Types.{FsTree}
+use Rattle.qg_kept.specs.Changes.{files_cut}
+use Rattle.qg_kept.specs.Files.{LeavesFiles, LeavesHeld}
 use Rattle.qg_kept.specs.declared.kept.Kept.{Kept}
 use Rattle.qg_kept.specs.Answering.{Answered}
 use Rattle.qg_kept.specs.Editing.{size_refusal, slots_refusal}
@@ -20,7 +20,7 @@ use Rattle.qg_kept.specs.Keeping.{IsKept, IsKeptOf, need_of}
 use Rattle.qg_file_commands.proofs.Refused.{early-size, late-size}
 use Rattle.qg_file_commands.proofs.Changed.{changes-here, hand-short}
 use Rattle.qg_file_commands.proofs.Leaves.{follows-edit}
-use Rattle.qg_fs_laws.proofs.Short.{short-left}
+use Rattle.qg_kept.proofs.Short.{short-left}
 use Rattle.qg_file_commands.proofs.Stepped.{Follows, IsLate, change_to, does_edit, does_nothing, edited}
 use Rattle.qg_file_commands.proofs.Stepped.{late-refusal, reserves-nothing}
 

@@ -37,18 +37,18 @@ use Rattle.qg_extents.specs.Table.{IsTable}
 use Rattle.qg_refs.specs.declared.kept.Kept.{Kept as Reference}
 use Rattle.qg_weighed.specs.Laws.{IsRecorded, is_among}
 use Rattle.qg_weighed.specs.Weight.{records_in}
-use Rattle.qg_fs_tree.specs.declared.fs_tree.FsTree.{FsTree}
-use Rattle.qg_fs_tree.proofs.Lists.{has-mapped}
-use Rattle.qg_fs_layout.specs.Laying.{nodes_in}
-use Rattle.qg_check.specs.Editable.{AreGroups, AreGroupsOf}
-use Rattle.qg_other_trees.specs.Trees.{quota_tree_bytes, root_tree_bytes}
-use Rattle.qg_fs_laws.specs.Keeping.{FollowsCommand, NamesOthers, mine_after, other_names, other_weight, state_after}
-use Rattle.qg_fs_laws.specs.Keeping as step
-use Rattle.qg_fs_laws.proofs.Free.{space-told}
-use Rattle.qg_fs_laws.proofs.Kept.{level-told}
-use Rattle.qg_fs_laws.proofs.OtherWeight.{others-weigh}
-use Rattle.qg_fs_laws.proofs.Others.{weight-told}
-use Rattle.qg_fs_laws.specs.Committing.{AreShort, IsShort}
+use Rattle.qg_kept.specs.Types.{FsTree}
+use Rattle.qg_kept.proofs.Lists.{has-mapped}
+use Rattle.qg_kept.specs.Laying.{nodes_in}
+use Rattle.qg_kept.specs.Editable.{AreGroups, AreGroupsOf}
+use Rattle.qg_kept.specs.Trees.{quota_tree_bytes, root_tree_bytes}
+use Rattle.qg_kept.specs.FsLawsKeeping.{FollowsCommand, NamesOthers, mine_after, other_names, other_weight, state_after}
+use Rattle.qg_kept.specs.FsLawsKeeping as step
+use Rattle.qg_kept.proofs.Free.{space-told}
+use Rattle.qg_kept.proofs.Kept.{level-told}
+use Rattle.qg_kept.proofs.OtherWeight.{others-weigh}
+use Rattle.qg_kept.proofs.Others.{weight-told}
+use Rattle.qg_kept.specs.FsLawsCommitting.{AreShort, IsShort}
 use Rattle.qg_kept.specs.declared.kept.Kept.{Kept}
 use Rattle.qg_kept.specs.Answering.{Answered}
 use Rattle.qg_kept.specs.Editing.{slots_refusal}

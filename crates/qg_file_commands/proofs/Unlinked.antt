@@ -9,8 +9,8 @@ use Rattle.qg_image.specs.Table.{value_at, without_key}
 use Rattle.qg_image.specs.State.{State}
 use Rattle.qg_space.specs.Holding.{free_slots}
 use Rattle.qg_extents.specs.Table.{IsTable}
-use Rattle.qg_fs_tree.specs.declared.fs_tree.FsTree.{FsTree}
-use Rattle.qg_file_edits.specs.Files.{LeavesFiles, LeavesHeld}
+use Rattle.qg_kept.specs.Types.{FsTree}
+use Rattle.qg_kept.specs.Files.{LeavesFiles, LeavesHeld}
 use Rattle.qg_kept.specs.declared.kept.Kept.{Kept}
 use Rattle.qg_kept.specs.Answering.{Answered}
 use Rattle.qg_kept.specs.Editing.{slots_refusal, unlink_refusal}
@@ -18,7 +18,7 @@ use Rattle.qg_kept.specs.Keeping.{IsKept, IsKeptOf, need_of}
 use Rattle.qg_file_commands.proofs.Refused.{early-unlink, late-unlink}
 use Rattle.qg_file_commands.proofs.Changed.{changes-here, hand-short}
 use Rattle.qg_file_commands.proofs.Leaves.{follows-edit}
-use Rattle.qg_fs_laws.proofs.Short.{short-left}
+use Rattle.qg_kept.proofs.Short.{short-left}
 use Rattle.qg_file_commands.proofs.Stepped.{Follows, IsLate, change_to, does_edit, does_nothing, edited}
 use Rattle.qg_file_commands.proofs.Stepped.{late-refusal, reserves-nothing}
 

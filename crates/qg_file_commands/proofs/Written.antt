@@ -16,9 +16,9 @@ use Rattle.qg_machine.specs.Refusals.{over_limit}
 use Rattle.qg_space.specs.Holding.{free_slots}
 use Rattle.qg_extents.specs.Table.{IsTable}
 use Rattle.qg_groups.specs.declared.state.QuotaState.{QuotaState}
-use Rattle.qg_fs_tree.specs.declared.fs_tree.FsTree.{FsTree}
-use Rattle.qg_file_edits.specs.Changes.{files_written}
-use Rattle.qg_file_edits.specs.Files.{LeavesFiles, LeavesHeld, pieces_of}
+use Rattle.qg_kept.specs.Types.{FsTree}
+use Rattle.qg_kept.specs.Changes.{files_written}
+use Rattle.qg_kept.specs.Files.{LeavesFiles, LeavesHeld, pieces_of}
 use Rattle.qg_kept.specs.declared.kept.Kept.{Kept}
 use Rattle.qg_kept.specs.Answering.{Answered}
 use Rattle.qg_kept.specs.Editing.{range_refusal, slots_refusal, write_reserves}
@@ -26,7 +26,7 @@ use Rattle.qg_kept.specs.Keeping.{IsKept, IsKeptOf, need_of}
 use Rattle.qg_file_commands.proofs.Refused.{early-write, late-write, limit-write, runless-write}
 use Rattle.qg_file_commands.proofs.Changed.{changes-here, hand-short}
 use Rattle.qg_file_commands.proofs.Leaves.{follows-edit}
-use Rattle.qg_fs_laws.proofs.Short.{short-left}
+use Rattle.qg_kept.proofs.Short.{short-left}
 use Rattle.qg_file_commands.proofs.Stepped.{Follows, IsLate, Reserves, change_to, does_edit, does_nothing, edited}
 use Rattle.qg_file_commands.proofs.Stepped.{late-refusal, reserves-so}
 

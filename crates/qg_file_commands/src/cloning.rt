@@ -8,7 +8,7 @@ ghost use Rattle.qg_image.specs.Table.{value_at};
 ghost use Rattle.qg_image.specs.State.{State, Subvolume};
 ghost use Rattle.qg_blocks.specs.Told.{BreaksNone};
 ghost use Rattle.qg_file_items.specs.Pieces.{pieces_met};
-ghost use Rattle.qg_file_edits.specs.Files.{pieces_of};
+ghost use Rattle.qg_kept.specs.Files.{pieces_of};
 ghost use Rattle.qg_machine.specs.Refusals.{over_limit};
 ghost use Rattle.qg_kept.specs.Answering.{Answered, is_unchanging};
 ghost use Rattle.qg_kept.specs.Editing.{clone_refusal};
@@ -127,7 +127,7 @@ fn clone_pieces<D: Disk, L: Ledger>(
     if let Some(why) = no_nodes(kept, pieces)? {
         return Ok(Answer::Refused(why));
     }
-    qg_file_edits::clone_into(
+    qg_kept::file_edits::clone_into(
         &mut kept.fs,
         kept.alloc,
         disk,

@@ -8,15 +8,15 @@ ghost use Rattle.qg_contents.specs.Written.{inode_of};
 ghost use Rattle.qg_blocks.specs.Told.{BreaksNone};
 ghost use Rattle.qg_files.specs.Apart.{AreApart};
 ghost use Rattle.qg_file_items.specs.Pieces.{pieces_met};
-ghost use Rattle.qg_file_edits.specs.Files.{Finds, HoldsFiles, pieces_of};
+ghost use Rattle.qg_kept.specs.Files.{Finds, HoldsFiles, pieces_of};
 ghost use Rattle.qg_kept.specs.Editing.{HasReadNodes};
 ghost use Rattle.qg_kept.specs.Keeping.{IsKept};
 
 use qg_disk::Disk;
-use qg_file_edits::Found;
 use qg_inodes::{inode_of, pieces_meeting};
 use qg_items::InodeItem;
 use qg_kept::Kept;
+use qg_kept::file_edits::Found;
 use qg_num::{BlockFault, Ino, Pieces, Steps};
 use std::sync::ledger::Ledger;
 

@@ -15,7 +15,7 @@ ghost use Rattle.qg_kept.specs.Keeping.{IsKept, IsKeptOf, SameButClean};
 use crate::finding::{inode_in, pieces_in};
 use crate::ranges::MOST_PENDING;
 use qg_disk::Disk;
-use qg_file_edits::Found;
+use qg_kept::file_edits::Found;
 use qg_kept::{Kept, count_pending, no_nodes, turn_to};
 use qg_num::{Answer, BlockFault, Ino, Refusal, RootId, Steps};
 use qg_rules::LARGEST_SIZE;
@@ -59,7 +59,7 @@ pub fn truncate<D: Disk, L: Ledger>(
         inode: Some(inode),
         met,
     };
-    qg_file_edits::truncate(&mut kept.fs, kept.alloc, disk, ino, size, found, reads)?;
+    qg_kept::file_edits::truncate(&mut kept.fs, kept.alloc, disk, ino, size, found, reads)?;
     count_pending(kept);
     Ok(Answer::Done)
 }

@@ -48,7 +48,7 @@ pub fn unlink<D: Disk, L: Ledger>(
     if let Some(why) = no_nodes(kept, met.len() as u64)? {
         return Ok(Answer::Refused(why));
     }
-    qg_file_edits::unlink(&mut kept.fs, kept.alloc, disk, ino, met, reads)?;
+    qg_kept::file_edits::unlink(&mut kept.fs, kept.alloc, disk, ino, met, reads)?;
     count_pending(kept);
     Ok(Answer::Done)
 }

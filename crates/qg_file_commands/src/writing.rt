@@ -65,7 +65,7 @@ pub fn write<D: Disk, L: Ledger>(
     if let Some(why) = no_nodes(kept, found.met.len() as u64)? {
         return Ok(Answer::Refused(why));
     }
-    qg_file_edits::write(
+    qg_kept::file_edits::write(
         &mut kept.fs,
         kept.alloc,
         disk,

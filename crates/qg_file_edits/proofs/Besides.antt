@@ -10,8 +10,8 @@ use Rattle.qg_num.specs.declared.piece.Piece.{Piece}
 use Rattle.qg_node.specs.declared.item.Item.{Item}
 use Rattle.qg_descent.specs.Tree.{Root}
 use Rattle.qg_exchange.specs.Named.{names_of}
-use Rattle.qg_fs_tree.specs.declared.fs_tree.FsTree.{FsTree}
-use Rattle.qg_fs_tree.specs.Standing.{IsSubvolume, Stands, names_elsewhere}
+use Rattle.qg_fs_layout.specs.Types.{FsTree}
+use Rattle.qg_fs_layout.specs.Standing.{IsSubvolume, Stands, names_elsewhere}
 use Rattle.qg_fs_layout.proofs.Moved.{moves-then}
 use Rattle.qg_file_edits.specs.Naming.{AreFewNames, AreNamed, AreOfNamed, KeepsNodes, StandsMoved}
 use Rattle.qg_file_edits.proofs.Extents.{IsOfNamed, named-more}

@@ -9,7 +9,7 @@ use Rattle.qg_num.specs.declared.piece.Piece.{Piece}
 use Rattle.qg_image.specs.declared.file.File.{File}
 use Rattle.qg_image.specs.FilesOf.{pieces_bytes}
 use Rattle.qg_contents.specs.Written.{item_of_piece}
-use Rattle.qg_fs_tree.specs.Standing.{name_told, names_times}
+use Rattle.qg_fs_layout.specs.Standing.{name_told, names_times}
 use Rattle.qg_rules.specs.Writable.{AreWritableFiles, IsFileBy, IsWritableFile}
 use Rattle.qg_rules.proofs.Pieces.{file_small}
 use Rattle.qg_exchange.specs.Exchange.{IsExchange}

@@ -8,8 +8,8 @@ use Rattle.qg_num.specs.declared.fault.BlockFault.TheVariants.{Disk, NoMemory}
 use Rattle.qg_num.specs.declared.piece.Piece.{Piece}
 use Rattle.qg_node.specs.declared.item.Item.{Item}
 use Rattle.qg_blocks.specs.Told.{BreaksNone}
-use Rattle.qg_fs_tree.specs.declared.fs_tree.FsTree.{FsTree}
-use Rattle.qg_fs_tree.specs.Standing.{IsMisfitAt}
+use Rattle.qg_fs_layout.specs.Types.{FsTree}
+use Rattle.qg_fs_layout.specs.Standing.{IsMisfitAt}
 use Rattle.qg_file_edits.specs.Editing.{AreMade}
 use Rattle.qg_file_edits.specs.Naming.{AreNamed}
 

@@ -8,9 +8,9 @@ use Rattle.qg_num.specs.declared.fault.BlockFault.{BlockFault}
 use Rattle.qg_ground.specs.declared.ground.Ground.{Ground}
 use Rattle.qg_ground.specs.Calls.{LeavesBe}
 use Rattle.qg_descent.specs.Tree.{Root}
-use Rattle.qg_tree_edits.specs.Rooting.{Grows}
-use Rattle.qg_fs_tree.specs.declared.fs_tree.FsTree.{FsTree}
-use Rattle.qg_fs_tree.specs.Standing.{IsSubvolume, KeepsTree, items_in, name_told, names_elsewhere}
+use Rattle.qg_fs_layout.specs.Rooting.{Grows}
+use Rattle.qg_fs_layout.specs.Types.{FsTree}
+use Rattle.qg_fs_layout.specs.Standing.{IsSubvolume, KeepsTree, items_in, name_told, names_elsewhere}
 use Rattle.qg_file_edits.specs.Files.{LeavesHeld, StaysOwn}
 use Rattle.qg_file_edits.specs.Naming.{KeepsNodes}
 

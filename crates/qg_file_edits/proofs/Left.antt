@@ -18,12 +18,12 @@ use Rattle.qg_space.specs.Holding.{free_slots}
 use Rattle.qg_ground.specs.Land.{IsDrafted}
 use Rattle.qg_extents.specs.Table.{IsTable}
 use Rattle.qg_exchange.specs.Named.{named}
-use Rattle.qg_tree_refs.specs.Heavier.{edit_bytes, name_new_bytes}
-use Rattle.qg_tree_refs.proofs.Sums.{BookGetsHeavier-most}
-use Rattle.qg_fs_tree.specs.declared.fs_tree.FsTree.{FsTree}
-use Rattle.qg_fs_tree.specs.Standing.{IsSubvolume, Stands, made_slots, names_elsewhere, own_slots}
-use Rattle.qg_fs_tree.proofs.Made.{made-free}
-use Rattle.qg_fs_tree.proofs.Own.{leaf-own, made-own, taken-made}
+use Rattle.qg_fs_layout.specs.Heavier.{edit_bytes, name_new_bytes}
+use Rattle.qg_fs_layout.proofs.Sums.{BookGetsHeavier-most}
+use Rattle.qg_fs_layout.specs.Types.{FsTree}
+use Rattle.qg_fs_layout.specs.Standing.{IsSubvolume, Stands, made_slots, names_elsewhere, own_slots}
+use Rattle.qg_fs_layout.proofs.Made.{made-free}
+use Rattle.qg_fs_layout.proofs.Own.{leaf-own, made-own, taken-made}
 use Rattle.qg_file_edits.specs.Editing.{AreMade, IsEditedBy}
 use Rattle.qg_file_edits.specs.Files.{HoldsFiles, LeavesFiles}
 use Rattle.qg_file_edits.specs.declared.exchange.Exchange.{Exchange}

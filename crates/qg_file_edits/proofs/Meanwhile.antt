@@ -15,9 +15,9 @@ use Rattle.qg_items.specs.declared.extent.Reference.{Reference}
 use Rattle.qg_image.specs.IsShaped.{same_key}
 use Rattle.qg_contents.specs.Written.{item_of_piece}
 use Rattle.qg_edit.specs.Edits.{with_item, without_key}
-use Rattle.qg_tree_refs.proofs.Times.{times-nil}
-use Rattle.qg_fs_tree.specs.Standing.{name_told, names_times}
-use Rattle.qg_fs_tree.proofs.Owned.{names-fewer}
+use Rattle.qg_fs_layout.proofs.Times.{times-nil}
+use Rattle.qg_fs_layout.specs.Standing.{name_told, names_times}
+use Rattle.qg_fs_layout.proofs.Owned.{names-fewer}
 use Rattle.qg_file_items.specs.Bodies.{piece_at}
 use Rattle.qg_file_items.proofs.Pieces.{at-here, at-later}
 use Rattle.qg_exchange.specs.declared.step.Step.{Step}

@@ -20,15 +20,15 @@ use Rattle.qg_blocks.specs.Told.{BreaksNone}
 use Rattle.qg_refs.specs.Book.{full_in}
 use Rattle.qg_extents.specs.Table.{book_of}
 use Rattle.qg_descent.specs.Tree.{Root}
-use Rattle.qg_tree_refs.specs.Exchange.{times}
-use Rattle.qg_tree_refs.proofs.Times.{times-append}
-use Rattle.qg_tree_refs.specs.declared.tree_refs.TreeRefs.{TreeRefs}
-use Rattle.qg_tree_refs.specs.Heavier.{BookGetsHeavier, name_bytes, name_new_bytes}
-use Rattle.qg_tree_refs.proofs.Sums.{BookGetsHeavier-most, BookGetsHeavier-same, BookGetsHeavier-then}
-use Rattle.qg_fs_tree.specs.declared.fs_tree.FsTree.{FsTree}
-use Rattle.qg_fs_tree.specs.Standing.{IsKnownExtent, IsSubvolume, KeepsTree, Stands, extents_named, name_of, name_told}
-use Rattle.qg_fs_tree.specs.Standing.{names_elsewhere, names_times}
-use Rattle.qg_fs_tree.proofs.Ordered.{stands-ordered}
+use Rattle.qg_fs_layout.specs.Exchange.{times}
+use Rattle.qg_fs_layout.proofs.Times.{times-append}
+use Rattle.qg_fs_layout.specs.Types.{TreeRefs}
+use Rattle.qg_fs_layout.specs.Heavier.{BookGetsHeavier, name_bytes, name_new_bytes}
+use Rattle.qg_fs_layout.proofs.Sums.{BookGetsHeavier-most, BookGetsHeavier-same, BookGetsHeavier-then}
+use Rattle.qg_fs_layout.specs.Types.{FsTree}
+use Rattle.qg_fs_layout.specs.Standing.{IsKnownExtent, IsSubvolume, KeepsTree, Stands, extents_named, name_of, name_told}
+use Rattle.qg_fs_layout.specs.Standing.{names_elsewhere, names_times}
+use Rattle.qg_fs_layout.proofs.Ordered.{stands-ordered}
 use Rattle.qg_fs_layout.proofs.Moved.{moves-itself, moves-then, names-move}
 use Rattle.qg_exchange.specs.Named.{names_of}
 use Rattle.qg_file_edits.specs.Naming.{AreCovered, AreFewNames, AreNamed, AreOfNamed, KeepsNodes, StandsMoved}

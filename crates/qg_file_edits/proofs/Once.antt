@@ -12,9 +12,9 @@ use Rattle.qg_blocks.specs.Told.{BreaksNone}
 use Rattle.qg_space.specs.Holding.{free_slots}
 use Rattle.qg_edit.specs.Edits.{has_key, with_item, without_key}
 use Rattle.qg_ground.specs.Calls.{LeavesBe}
-use Rattle.qg_tree_edits.specs.Rooting.{Grows}
-use Rattle.qg_fs_tree.specs.declared.fs_tree.FsTree.{FsTree}
-use Rattle.qg_fs_tree.specs.Standing.{IsEditedTo, IsSubvolume, Stands, name_told}
+use Rattle.qg_fs_layout.specs.Rooting.{Grows}
+use Rattle.qg_fs_layout.specs.Types.{FsTree}
+use Rattle.qg_fs_layout.specs.Standing.{IsEditedTo, IsSubvolume, Stands, name_told}
 use Rattle.qg_file_edits.specs.Editing.{AreMade}
 use Rattle.qg_file_edits.specs.Files.{LeavesHeld, StaysOwn}
 use Rattle.qg_file_edits.specs.Naming.{AreCovered}

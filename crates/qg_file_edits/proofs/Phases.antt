@@ -20,10 +20,10 @@ use Rattle.qg_exchange.specs.Named.{AreNamesExchanged, named, names_of}
 use Rattle.qg_exchange.specs.Steps.{AreSteps}
 use Rattle.qg_exchange.proofs.Applied.{makes-exchange}
 use Rattle.qg_exchange.proofs.Counts.{names-ordered}
-use Rattle.qg_tree_refs.specs.Heavier.{BookGetsHeavier, name_new_bytes}
-use Rattle.qg_fs_tree.specs.declared.fs_tree.FsTree.{FsTree}
-use Rattle.qg_fs_tree.specs.Standing.{IsSubvolume, Stands, name_told, names_elsewhere, names_times}
-use Rattle.qg_fs_tree.proofs.Ordered.{stands-ordered}
+use Rattle.qg_fs_layout.specs.Heavier.{BookGetsHeavier, name_new_bytes}
+use Rattle.qg_fs_layout.specs.Types.{FsTree}
+use Rattle.qg_fs_layout.specs.Standing.{IsSubvolume, Stands, name_told, names_elsewhere, names_times}
+use Rattle.qg_fs_layout.proofs.Ordered.{stands-ordered}
 use Rattle.qg_file_edits.specs.declared.exchange.Exchange.{Exchange}
 use Rattle.qg_file_edits.specs.Editing.{AreMade, CanEditInode, IsEditedBy, after_inode}
 use Rattle.qg_file_edits.specs.Exchanging.{AreCoveredThroughout, CanEditSo, CoversExchange, MakesFiles, after_exchange}

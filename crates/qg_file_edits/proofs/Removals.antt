@@ -16,7 +16,7 @@ use Rattle.qg_image.specs.Table.{value_at, without_key as without_value}
 use Rattle.qg_rules.specs.Writable.{AreWritableFiles, IsFileBy}
 use Rattle.qg_contents.specs.Written.{item_of_piece, items_of_file}
 use Rattle.qg_edit.specs.Edits.{without_key}
-use Rattle.qg_fs_tree.specs.Standing.{name_told, names_times}
+use Rattle.qg_fs_layout.specs.Standing.{name_told, names_times}
 use Rattle.qg_file_items.specs.FileEdits.{without_items}
 use Rattle.qg_file_items.proofs.Exchanged.{removes-file}
 use Rattle.qg_file_items.proofs.Tables.{writable-without}

@@ -10,9 +10,9 @@ use Rattle.qg_image.proofs.Contained.{contains_cases}
 use Rattle.qg_image.specs.declared.tree.Tree.TheVariants.{Files}
 use Rattle.qg_contents.specs.Written.{items_of_file}
 use Rattle.qg_descent.specs.Tree.{Root, TellsTree}
-use Rattle.qg_fs_tree.specs.declared.fs_tree.FsTree.{FsTree}
-use Rattle.qg_fs_tree.specs.Standing.{items_in, name_told, names_elsewhere, trees_of}
-use Rattle.qg_fs_tree.proofs.Lists.{has-flat}
+use Rattle.qg_fs_layout.specs.Types.{FsTree}
+use Rattle.qg_fs_layout.specs.Standing.{items_in, name_told, names_elsewhere, trees_of}
+use Rattle.qg_fs_layout.proofs.Lists.{has-flat}
 use Rattle.qg_exchange.specs.Named.{named, names_by}
 use Rattle.qg_exchange.proofs.Names.{names-spelled}
 use Rattle.qg_file_edits.specs.Files.{HasFiles, HoldsFiles, pieces_of}

@@ -27,8 +27,8 @@ use Rattle.qg_file_items.specs.Pieces.{pieces_cut, pieces_met}
 use Rattle.qg_file_items.proofs.Counted.{met-all, met-past}
 use Rattle.qg_files.proofs.Sectors.{aligned-add}
 use Rattle.qg_exchange.specs.Named.{named, names_of}
-use Rattle.qg_fs_tree.specs.declared.fs_tree.FsTree.{FsTree}
-use Rattle.qg_fs_tree.specs.Standing.{names_elsewhere, trees_of}
+use Rattle.qg_fs_layout.specs.Types.{FsTree}
+use Rattle.qg_fs_layout.specs.Standing.{names_elsewhere, trees_of}
 use Rattle.qg_file_edits.specs.declared.exchange.Exchange.{Exchange}
 use Rattle.qg_file_edits.specs.declared.found.Found.{Found}
 use Rattle.qg_file_edits.specs.Changes.{IsCut, IsRangeChange, IsUnlinked, files_cloned_from, files_cut, files_written}

@@ -13,9 +13,9 @@ use Rattle.qg_blocks.specs.Told.{BreaksNone}
 use Rattle.qg_contents.specs.Written.{item_under}
 use Rattle.qg_space.specs.Holding.{free_slots}
 use Rattle.qg_edit.specs.Edits.{has_key, with_item, without_key}
-use Rattle.qg_tree_refs.specs.Heavier.{BookGetsHeavier, edit_bytes, name_new_bytes}
-use Rattle.qg_fs_tree.specs.declared.fs_tree.FsTree.{FsTree}
-use Rattle.qg_fs_tree.specs.Standing.{IsElsewhere, Stands, made_slots, own_slots}
+use Rattle.qg_fs_layout.specs.Heavier.{BookGetsHeavier, edit_bytes, name_new_bytes}
+use Rattle.qg_fs_layout.specs.Types.{FsTree}
+use Rattle.qg_fs_layout.specs.Standing.{IsElsewhere, Stands, made_slots, own_slots}
 use Rattle.qg_fs_layout.specs.Laying.{IsMoved}
 use Rattle.qg_file_edits.specs.declared.inode.InodeEdit.{InodeEdit}
 use Rattle.qg_file_edits.specs.declared.inode.InodeEdit.TheVariants.{Insert, Replace, Remove}

@@ -17,9 +17,9 @@ use Rattle.qg_descent.specs.Tree.{Root}
 use Rattle.qg_file_items.specs.Pieces.{pieces_met}
 use Rattle.qg_exchange.specs.Named.{named}
 use Rattle.qg_image.specs.Need.{file_copies}
-use Rattle.qg_tree_refs.specs.Heavier.{BookGetsHeavier, edit_bytes, name_new_bytes}
-use Rattle.qg_fs_tree.specs.declared.fs_tree.FsTree.{FsTree}
-use Rattle.qg_fs_tree.specs.Standing.{IsSubvolume, Stands, items_in, made_slots, taken_slots}
+use Rattle.qg_fs_layout.specs.Heavier.{BookGetsHeavier, edit_bytes, name_new_bytes}
+use Rattle.qg_fs_layout.specs.Types.{FsTree}
+use Rattle.qg_fs_layout.specs.Standing.{IsSubvolume, Stands, items_in, made_slots, taken_slots}
 use Rattle.qg_fs_layout.specs.Laying.{IsMoved}
 use Rattle.qg_file_edits.specs.declared.found.Found.{Found}
 

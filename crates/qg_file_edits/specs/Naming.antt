@@ -9,8 +9,8 @@ use Rattle.qg_items.specs.declared.extent.Reference.{Reference}
 use Rattle.qg_image.specs.Reach.{extent_of}
 use Rattle.qg_blocks.specs.Told.{BreaksNone}
 use Rattle.qg_space.specs.Holding.{free_slots}
-use Rattle.qg_fs_tree.specs.declared.fs_tree.FsTree.{FsTree}
-use Rattle.qg_fs_tree.specs.Standing.{IsSubvolume, KeepsTree, Stands, names_times}
+use Rattle.qg_fs_layout.specs.Types.{FsTree}
+use Rattle.qg_fs_layout.specs.Standing.{IsSubvolume, KeepsTree, Stands, names_times}
 use Rattle.qg_fs_layout.specs.Laying.{IsMoved}
 
 -- each of some pieces names an extent that these names lead to

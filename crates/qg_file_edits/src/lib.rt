@@ -14,3 +14,4 @@ mod texts;
 pub use commands::{clone_into, truncate, unlink, write};
 pub use found::Found;
 pub use laws::commands_leave_room;
+pub use qg_fs_layout::{fs_tree, tree_refs};

@@ -6,12 +6,12 @@ ghost use Rattle.qg_device.specs.History.{Event};
 ghost use Rattle.qg_num.specs.declared.piece.Piece.{Piece as PieceValue};
 ghost use Rattle.qg_node.specs.declared.item.Item.{Item as ItemValue};
 ghost use Rattle.qg_space.specs.Holding.{is_free_run};
-ghost use Rattle.qg_tree_refs.specs.Heavier.{BookGetsHeavier, name_bytes, name_new_bytes};
+ghost use Rattle.qg_fs_layout.specs.Heavier.{BookGetsHeavier, name_bytes, name_new_bytes};
 ghost use Rattle.qg_exchange.specs.Named.{names_of};
-ghost use Rattle.qg_fs_tree.specs.Standing.{IsSubvolume, Stands, name_told, names_elsewhere};
+ghost use Rattle.qg_fs_layout.specs.Standing.{IsSubvolume, Stands, name_told, names_elsewhere};
 ghost use Rattle.qg_file_edits.specs.Naming.{AreCovered, AreFewNames, AreNamed, AreOfNamed, KeepsNodes};
 
-use qg_fs_tree::FsTree;
+use qg_fs_layout::fs_tree::FsTree;
 use qg_num::{BlockFault, Ino, Piece};
 
 /// Pieces of a file name extents that others name already, in this tree or in another.

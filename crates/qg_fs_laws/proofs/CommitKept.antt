@@ -29,19 +29,19 @@ use Rattle.qg_contents.specs.Written.{items_of_file}
 use Rattle.qg_home.proofs.Reaching.{entry_of_value, value_of_entry}
 use Rattle.qg_space.proofs.Members.{Contains-has_slot}
 use Rattle.qg_descent.specs.Tree.{Root}
-use Rattle.qg_exchange.specs.Named.{named}
+use Rattle.qg_file_edits.specs.Named.{named}
 use Rattle.qg_refs.specs.declared.kept.Kept.{Kept}
-use Rattle.qg_tree_refs.specs.declared.tree_refs.TreeRefs.{TreeRefs}
+use Rattle.qg_file_edits.specs.Types.{TreeRefs}
 use Rattle.qg_weighed.specs.Laws.{IsRecorded}
-use Rattle.qg_fs_tree.specs.declared.fs_tree.FsTree.{FsTree}
-use Rattle.qg_fs_tree.proofs.Lists.{from-mapped, has-mapped}
-use Rattle.qg_fs_layout.specs.Laying.{IsLaidOut}
+use Rattle.qg_file_edits.specs.Types.{FsTree}
+use Rattle.qg_file_edits.proofs.Lists.{from-mapped, has-mapped}
+use Rattle.qg_file_edits.specs.Laying.{IsLaidOut}
 use Rattle.qg_file_edits.specs.Files.{HasFiles, HoldsFiles}
 use Rattle.qg_standing.specs.Committing.{IsCommitted, StandsStill, for_generation}
-use Rattle.qg_other_trees.specs.declared.laying.OtherTrees.{OtherTrees}
-use Rattle.qg_other_trees.specs.Sound.{committed}
-use Rattle.qg_other_trees.specs.Telling.{AreToldBy}
-use Rattle.qg_other_trees.specs.Trees.{nodes_laid}
+use Rattle.qg_tree_commit.specs.Types.{OtherTrees}
+use Rattle.qg_tree_commit.specs.Sound.{committed}
+use Rattle.qg_tree_commit.specs.Telling.{AreToldBy}
+use Rattle.qg_tree_commit.specs.Trees.{nodes_laid}
 use Rattle.qg_fs_laws.specs.Keeping.{IsKept, KeepsState, NamesOthers, OthersHaveFiles, quota_laid}
 use Rattle.qg_fs_laws.proofs.Kept.{slot-laid, taken-told, whole}
 use Rattle.qg_fs_laws.proofs.Runs.{runs-told}

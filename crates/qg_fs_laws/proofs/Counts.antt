@@ -19,7 +19,7 @@ use Rattle.qg_image.specs.declared.failure.Failure.{Failure}
 use Rattle.qg_image.specs.declared.failure.Failure.TheVariants.{Differs}
 use Rattle.qg_image.specs.Failure.{first_failure}
 use Rattle.qg_image.specs.Verdict.{counted, counts_failure, group_failure}
-use Rattle.qg_fs_tree.proofs.Lists.{from-mapped}
+use Rattle.qg_file_edits.proofs.Lists.{from-mapped}
 use Rattle.qg_fs_laws.specs.Keeping.{AreDirectCounts, group_after, quota_after, quota_laid}
 
 -- ---- of any groups

@@ -25,16 +25,16 @@ use Rattle.qg_descent.specs.Tree.{Root}
 use Rattle.qg_descent.proofs.Frames.{items-same}
 use Rattle.qg_reach.proofs.Layouts.{value_at-with_other, value_at-with_same}
 use Rattle.qg_rules.specs.Writable.{IsFileBy}
-use Rattle.qg_forest.proofs.Snapshotted.{root_entry}
-use Rattle.qg_fs_tree.specs.declared.fs_tree.FsTree.{FsTree}
-use Rattle.qg_fs_tree.specs.Standing.{every_slot, items_in, layout_in, made_slots, nodes_of, placed_at, roots_of}
-use Rattle.qg_fs_tree.specs.Standing.{trees_of, ways_in}
-use Rattle.qg_fs_tree.proofs.Places.{slots-same}
-use Rattle.qg_fs_layout.specs.Laying.{CopiesNodes, IsLaidOut, nodes_in}
-use Rattle.qg_fs_layout.proofs.Copied.{commands-copy}
-use Rattle.qg_fs_layout.proofs.Nodes.{nodes-are}
-use Rattle.qg_fs_layout.proofs.Trees.{numbers-apart, roots-laid}
-use Rattle.qg_exchange.specs.Named.{named}
+use Rattle.qg_file_edits.proofs.Snapshotted.{root_entry}
+use Rattle.qg_file_edits.specs.Types.{FsTree}
+use Rattle.qg_file_edits.specs.Standing.{every_slot, items_in, layout_in, made_slots, nodes_of, placed_at, roots_of}
+use Rattle.qg_file_edits.specs.Standing.{trees_of, ways_in}
+use Rattle.qg_file_edits.proofs.Places.{slots-same}
+use Rattle.qg_file_edits.specs.Laying.{CopiesNodes, IsLaidOut, nodes_in}
+use Rattle.qg_file_edits.proofs.Copied.{commands-copy}
+use Rattle.qg_file_edits.proofs.Nodes.{nodes-are}
+use Rattle.qg_file_edits.proofs.Trees.{numbers-apart, roots-laid}
+use Rattle.qg_file_edits.specs.Named.{named}
 use Rattle.qg_file_edits.specs.Files.{LeavesFiles}
 use Rattle.qg_fs_laws.specs.Keeping.{FollowsCommand, IsKept, KeepsState, OthersHaveFiles, mine_after, state_after}
 use Rattle.qg_fs_laws.proofs.Kept.{placed-led, slot-led, some_bytes, stands, taken-told, whole}

@@ -13,7 +13,7 @@ use Rattle.qg_image.specs.Table.{has_key, keys_of, value_at}
 use Rattle.qg_image.specs.State.{State, Subvolume}
 use Rattle.qg_space.specs.Holding.{Holding, free_slots, is_free_slot}
 use Rattle.qg_space.proofs.Agreements.{first_run-state, free_slots-state, is_free_run-state, is_free_slot-state}
-use Rattle.qg_fs_tree.specs.declared.fs_tree.FsTree.{FsTree}
+use Rattle.qg_file_edits.specs.Types.{FsTree}
 use Rattle.qg_fs_laws.specs.Keeping.{IsKept, KeepsState, TellsSpace}
 use Rattle.qg_fs_laws.proofs.Kept.{taken-told}
 use Rattle.qg_fs_laws.proofs.Runs.{holding-told}

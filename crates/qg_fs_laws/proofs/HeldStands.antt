@@ -36,31 +36,31 @@ use Rattle.qg_extents.specs.Table.{book_of}
 use Rattle.qg_descent.specs.Tree.{IsTree, Reaches, Root, TellsTree, super_of}
 use Rattle.qg_descent.proofs.Frames.{IsTree-same}
 use Rattle.qg_descent.proofs.Walked.{IsTree-walked}
-use Rattle.qg_tree_edits.specs.Rooting.{IsRooted}
-use Rattle.qg_tree_refs.specs.Following.{references_to}
-use Rattle.qg_forest.specs.Standing.{HoldsState, tree_of}
-use Rattle.qg_forest.proofs.Extents.{among-one, apart-held, level-found, piece-present, told-found}
-use Rattle.qg_forest.proofs.Homes.{owner-reaches}
-use Rattle.qg_forest.proofs.Meeting.{IsLed, IsMet as IsMetIn, IsRoot, each-there, met-back, placed-there, root-low}
-use Rattle.qg_forest.proofs.Meeting.{root-valued}
-use Rattle.qg_forest.proofs.Pieces.{named-item}
-use Rattle.qg_forest.proofs.Referring.{OwesChild, OwesRoot, child-counted, children_of, named_by, owed-referred}
-use Rattle.qg_forest.proofs.Referring.{root-counted}
-use Rattle.qg_forest.proofs.Roots.{root_level-value, root_of-value}
-use Rattle.qg_forest.proofs.Snapshotted.{root_entry}
-use Rattle.qg_fs_tree.specs.declared.fs_tree.FsTree.{FsTree}
-use Rattle.qg_fs_tree.specs.Standing.{IsAtHome, IsBeside, IsKnownExtent, IsReachedBy, Stands, items_in}
-use Rattle.qg_fs_tree.specs.Standing.{names_elsewhere, names_times, nodes_of, trees_of}
-use Rattle.qg_fs_tree.proofs.Before.{index_among}
-use Rattle.qg_fs_tree.proofs.Counts.{branch, single-way}
-use Rattle.qg_fs_tree.proofs.FewNames.{names-few}
-use Rattle.qg_fs_tree.proofs.Lists.{has-mapped}
-use Rattle.qg_fs_tree.proofs.Places.{slot-once}
-use Rattle.qg_fs_tree.proofs.Sound.{told-formed}
-use Rattle.qg_fs_tree.proofs.Told.{free-untaken}
-use Rattle.qg_fs_layout.specs.Laying.{IsMet}
-use Rattle.qg_fs_layout.proofs.Reach.{in-reaches, reaches-root}
-use Rattle.qg_exchange.specs.Named.{named}
+use Rattle.qg_file_edits.specs.Rooting.{IsRooted}
+use Rattle.qg_file_edits.specs.Following.{references_to}
+use Rattle.qg_file_edits.specs.ForestStanding.{HoldsState, tree_of}
+use Rattle.qg_file_edits.proofs.ForestExtents.{among-one, apart-held, level-found, piece-present, told-found}
+use Rattle.qg_file_edits.proofs.Homes.{owner-reaches}
+use Rattle.qg_file_edits.proofs.Meeting.{IsLed, IsMet as IsMetIn, IsRoot, each-there, met-back, placed-there, root-low}
+use Rattle.qg_file_edits.proofs.Meeting.{root-valued}
+use Rattle.qg_file_edits.proofs.Pieces.{named-item}
+use Rattle.qg_file_edits.proofs.Referring.{OwesChild, OwesRoot, child-counted, children_of, named_by, owed-referred}
+use Rattle.qg_file_edits.proofs.Referring.{root-counted}
+use Rattle.qg_file_edits.proofs.ForestRoots.{root_level-value, root_of-value}
+use Rattle.qg_file_edits.proofs.Snapshotted.{root_entry}
+use Rattle.qg_file_edits.specs.Types.{FsTree}
+use Rattle.qg_file_edits.specs.Standing.{IsAtHome, IsBeside, IsKnownExtent, IsReachedBy, Stands, items_in}
+use Rattle.qg_file_edits.specs.Standing.{names_elsewhere, names_times, nodes_of, trees_of}
+use Rattle.qg_file_edits.proofs.Before.{index_among}
+use Rattle.qg_file_edits.proofs.Counts.{branch, single-way}
+use Rattle.qg_file_edits.proofs.FewNames.{names-few}
+use Rattle.qg_file_edits.proofs.Lists.{has-mapped}
+use Rattle.qg_file_edits.proofs.Places.{slot-once}
+use Rattle.qg_file_edits.proofs.Sound.{told-formed}
+use Rattle.qg_file_edits.proofs.FsTreeTold.{free-untaken}
+use Rattle.qg_file_edits.specs.Laying.{IsMet}
+use Rattle.qg_file_edits.proofs.Reach.{in-reaches, reaches-root}
+use Rattle.qg_file_edits.specs.Named.{named}
 use Rattle.qg_file_edits.specs.Files.{HasFiles}
 use Rattle.qg_fs_laws.specs.Keeping.{AreTreesOf, AreYoung, IsKept, KeepsState, OthersHaveFiles}
 use Rattle.qg_fs_laws.proofs.HeldTrees.{IsTreeIn, drafted-held, held-tree, laid-held, met-held, next-held, others-apart}

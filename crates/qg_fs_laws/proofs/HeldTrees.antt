@@ -22,18 +22,18 @@ use Rattle.qg_space.proofs.Members.{contains_filter, filter_contains}
 use Rattle.qg_ground.specs.Land.{IsDrafted}
 use Rattle.qg_descent.specs.Tree.{Reaches, Root}
 use Rattle.qg_descent.proofs.BranchFrames.{reach-same}
-use Rattle.qg_forest.specs.Standing.{HoldsState, tree_of}
-use Rattle.qg_forest.proofs.Extents.{AreApart, apart-held, node-met}
-use Rattle.qg_forest.proofs.Meeting.{IsMet as IsMetIn, met-there, placed-there, root-valued}
-use Rattle.qg_forest.proofs.Roots.{root_level-value, root_of-value}
-use Rattle.qg_forest.proofs.Snapshotted.{root_entry}
-use Rattle.qg_fs_tree.specs.declared.fs_tree.FsTree.{FsTree}
-use Rattle.qg_fs_tree.specs.Standing.{IsReachedBy, layout_in, nodes_of, roots_of, trees_of}
-use Rattle.qg_fs_tree.proofs.Lists.{from-mapped, has-mapped}
-use Rattle.qg_fs_layout.specs.Laying.{IsLaidOut, IsMet, IsMetAs, nodes_in}
-use Rattle.qg_fs_layout.proofs.Nodes.{nodes-ascend, reached-by, value-reached}
-use Rattle.qg_fs_layout.proofs.Reach.{reach-on}
-use Rattle.qg_fs_layout.proofs.Roots.{root-tree, roots-ascend, tree-root}
+use Rattle.qg_file_edits.specs.ForestStanding.{HoldsState, tree_of}
+use Rattle.qg_file_edits.proofs.ForestExtents.{AreApart, apart-held, node-met}
+use Rattle.qg_file_edits.proofs.Meeting.{IsMet as IsMetIn, met-there, placed-there, root-valued}
+use Rattle.qg_file_edits.proofs.ForestRoots.{root_level-value, root_of-value}
+use Rattle.qg_file_edits.proofs.Snapshotted.{root_entry}
+use Rattle.qg_file_edits.specs.Types.{FsTree}
+use Rattle.qg_file_edits.specs.Standing.{IsReachedBy, layout_in, nodes_of, roots_of, trees_of}
+use Rattle.qg_file_edits.proofs.Lists.{from-mapped, has-mapped}
+use Rattle.qg_file_edits.specs.Laying.{IsLaidOut, IsMet, IsMetAs, nodes_in}
+use Rattle.qg_file_edits.proofs.Nodes.{nodes-ascend, reached-by, value-reached}
+use Rattle.qg_file_edits.proofs.Reach.{reach-on}
+use Rattle.qg_file_edits.proofs.Roots.{root-tree, roots-ascend, tree-root}
 use Rattle.qg_reach.proofs.Ascending.{tables_same}
 use Rattle.qg_fs_laws.specs.Keeping.{AreTreesOf, IsKept}
 

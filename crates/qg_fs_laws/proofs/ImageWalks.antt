@@ -36,8 +36,8 @@ use Rattle.qg_walk.proofs.Failures.{first_none, neither, walk-passed}
 use Rattle.qg_descent.specs.Tree.{IsTree}
 use Rattle.qg_descent.proofs.BranchOrder.{ascends-under}
 use Rattle.qg_descent.proofs.Walked.{IsTree-walked}
-use Rattle.qg_fs_tree.proofs.Formed.{read-formed}
-use Rattle.qg_fs_layout.proofs.Walks.{walk-weaker}
+use Rattle.qg_file_edits.proofs.Formed.{read-formed}
+use Rattle.qg_file_edits.proofs.Walks.{walk-weaker}
 use Rattle.qg_fs_laws.specs.Opening.{AreItemsOf}
 
 -- ---- one node

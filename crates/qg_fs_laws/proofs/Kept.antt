@@ -30,25 +30,25 @@ use Rattle.qg_space.proofs.Members.{one_passes, passes_one}
 use Rattle.qg_ground.specs.Land.{IsDrafted}
 use Rattle.qg_weighed.specs.Laws.{CountsLayout}
 use Rattle.qg_weighed.specs.Weight.{record_known}
-use Rattle.qg_tree_edits.proofs.Ways.{ways-some}
+use Rattle.qg_file_edits.proofs.Ways.{ways-some}
 use Rattle.qg_refs.specs.Book.{full_in}
 use Rattle.qg_extents.specs.Table.{book_of}
 use Rattle.qg_descent.specs.Tree.{Root}
-use Rattle.qg_fs_tree.specs.declared.fs_tree.FsTree.{FsTree}
-use Rattle.qg_fs_tree.specs.Standing.{Stands, items_in, nodes_of, placed_at, trees_of, ways_in}
-use Rattle.qg_fs_tree.proofs.Lists.{all-contained}
-use Rattle.qg_fs_tree.proofs.Reached.{reached-some}
-use Rattle.qg_fs_tree.proofs.Taken.{has-led}
-use Rattle.qg_fs_layout.specs.Laying.{AreFit, HaveFiles, IsCounted, IsMet, IsMetAs, nodes_in}
-use Rattle.qg_fs_layout.proofs.Counted.{owed-counted}
-use Rattle.qg_fs_layout.proofs.Files.{files-fit}
-use Rattle.qg_fs_layout.proofs.Fitting.{nodes-fit}
-use Rattle.qg_fs_layout.proofs.Nodes.{reached-by, value-reached}
-use Rattle.qg_fs_layout.proofs.Trees.{entry-there, items-at_hand, met-slot, nodes-laid, root-level, sized}
-use Rattle.qg_fs_layout.proofs.Trees.{tree-subvolume}
-use Rattle.qg_fs_layout.proofs.Whole.{entry-laid, state-whole}
-use Rattle.qg_exchange.specs.Named.{named}
-use Rattle.qg_other_trees.proofs.Owing.{owes_begins}
+use Rattle.qg_file_edits.specs.Types.{FsTree}
+use Rattle.qg_file_edits.specs.Standing.{Stands, items_in, nodes_of, placed_at, trees_of, ways_in}
+use Rattle.qg_file_edits.proofs.Lists.{all-contained}
+use Rattle.qg_file_edits.proofs.Reached.{reached-some}
+use Rattle.qg_file_edits.proofs.FsTreeTaken.{has-led}
+use Rattle.qg_file_edits.specs.Laying.{AreFit, HaveFiles, IsCounted, IsMet, IsMetAs, nodes_in}
+use Rattle.qg_file_edits.proofs.FsLayoutCounted.{owed-counted}
+use Rattle.qg_file_edits.proofs.FsLayoutFiles.{files-fit}
+use Rattle.qg_file_edits.proofs.Fitting.{nodes-fit}
+use Rattle.qg_file_edits.proofs.Nodes.{reached-by, value-reached}
+use Rattle.qg_file_edits.proofs.Trees.{entry-there, items-at_hand, met-slot, nodes-laid, root-level, sized}
+use Rattle.qg_file_edits.proofs.Trees.{tree-subvolume}
+use Rattle.qg_file_edits.proofs.Whole.{entry-laid, state-whole}
+use Rattle.qg_file_edits.specs.Named.{named}
+use Rattle.qg_tree_commit.proofs.Owing.{owes_begins}
 use Rattle.qg_file_edits.specs.Files.{HasFiles}
 use Rattle.qg_fs_laws.specs.Keeping.{IsKept, KeepsState}
 

@@ -11,8 +11,8 @@ use Rattle.qg_rules.specs.Writable.{IsFileBy}
 use Rattle.qg_contents.specs.Written.{items_of_file}
 use Rattle.qg_space.specs.Holding.{Holding}
 use Rattle.qg_descent.specs.Tree.{Root}
-use Rattle.qg_exchange.specs.Named.{named}
-use Rattle.qg_fs_tree.specs.declared.fs_tree.FsTree.{FsTree}
+use Rattle.qg_file_edits.specs.Named.{named}
+use Rattle.qg_file_edits.specs.Types.{FsTree}
 use Rattle.qg_standing.specs.Committing.{StandsStill}
 use Rattle.qg_file_edits.specs.Files.{HasFiles}
 use Rattle.qg_fs_laws.specs.Keeping.{KeepsState}

@@ -13,7 +13,7 @@ use Rattle.qg_image.specs.State.{State}
 use Rattle.qg_image.proofs.Contained.{contains_cases, contains_here, contains_later, none_contained}
 use Rattle.qg_weighed.specs.Laws.{is_among}
 use Rattle.qg_weighed.proofs.Distinct.{record_itself, same_record_is}
-use Rattle.qg_fs_tree.proofs.Lists.{from-flat, from-mapped, has-flat, has-mapped}
+use Rattle.qg_file_edits.proofs.Lists.{from-flat, from-mapped, has-flat, has-mapped}
 use Rattle.qg_fs_laws.specs.Keeping.{other_names}
 
 -- ---- records that are listed

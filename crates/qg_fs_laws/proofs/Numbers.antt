@@ -9,11 +9,11 @@ use Rattle.qg_image.specs.declared.file.File.{File}
 use Rattle.qg_image.specs.Table.{keys_of, with_value}
 use Rattle.qg_image.specs.State.{State, Subvolume}
 use Rattle.qg_contents.specs.Written.{items_of_file}
-use Rattle.qg_fs_tree.specs.declared.fs_tree.FsTree.{FsTree}
-use Rattle.qg_fs_layout.proofs.Roots.{roots-ascend}
-use Rattle.qg_fs_layout.proofs.Trees.{numbers-apart, roots-laid}
-use Rattle.qg_forest.proofs.Snapshotted.{root_entry}
-use Rattle.qg_exchange.specs.Named.{named}
+use Rattle.qg_file_edits.specs.Types.{FsTree}
+use Rattle.qg_file_edits.proofs.Roots.{roots-ascend}
+use Rattle.qg_file_edits.proofs.Trees.{numbers-apart, roots-laid}
+use Rattle.qg_file_edits.proofs.Snapshotted.{root_entry}
+use Rattle.qg_file_edits.specs.Named.{named}
 use Rattle.qg_fs_laws.specs.Keeping.{IsKept, KeepsState}
 
 -- numbers with their roots have the numbers that they had

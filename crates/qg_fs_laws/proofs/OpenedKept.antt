@@ -30,15 +30,15 @@ use Rattle.qg_home.proofs.Reaching.{entry_of_value, value_of_entry}
 use Rattle.qg_extents.specs.Table.{IsTable, book_of}
 use Rattle.qg_refs.specs.Book.{full_in}
 use Rattle.qg_descent.specs.Tree.{Root}
-use Rattle.qg_fs_tree.specs.declared.fs_tree.FsTree.{FsTree}
-use Rattle.qg_fs_tree.specs.Standing.{Stands}
-use Rattle.qg_fs_tree.proofs.Before.{among_of}
-use Rattle.qg_fs_tree.proofs.Lists.{from-mapped, has-mapped}
-use Rattle.qg_file_items.specs.Bodies.{Ascend}
-use Rattle.qg_file_items.specs.Laws.{AreItemsOf}
-use Rattle.qg_file_items.proofs.Spelled.{spelled}
-use Rattle.qg_fs_layout.specs.Laying.{HoldsSlots, IsLaidOut, IsMet, names_in, nodes_in}
-use Rattle.qg_fs_layout.proofs.Nodes.{nodes-ascend, reached-by, value-reached}
+use Rattle.qg_file_edits.specs.Types.{FsTree}
+use Rattle.qg_file_edits.specs.Standing.{Stands}
+use Rattle.qg_file_edits.proofs.Before.{among_of}
+use Rattle.qg_file_edits.proofs.Lists.{from-mapped, has-mapped}
+use Rattle.qg_file_edits.specs.Bodies.{Ascend}
+use Rattle.qg_file_edits.specs.FileItemsLaws.{AreItemsOf}
+use Rattle.qg_file_edits.proofs.Spelled.{spelled}
+use Rattle.qg_file_edits.specs.Laying.{HoldsSlots, IsLaidOut, IsMet, names_in, nodes_in}
+use Rattle.qg_file_edits.proofs.Nodes.{nodes-ascend, reached-by, value-reached}
 use Rattle.qg_standing.specs.Opening.{IsOpened, IsSoundImage, IsSoundSubvolume, StandsOpened, opened_tree}
 use Rattle.qg_standing.proofs.Opened.{drafted-there, met-slot, next-opened, node-met, own-opened, placed-opened}
 use Rattle.qg_standing.proofs.Opened.{slot-met, tree-entry}

@@ -37,7 +37,7 @@ use Rattle.qg_image.specs.Verdict.{fits_quota, has_twin, is_status_part}
 use Rattle.qg_weighed.specs.Laws.{is_among, is_of_extents}
 use Rattle.qg_weighed.proofs.Layouts.{bool-iff, in-named, named-in}
 use Rattle.qg_weighed.proofs.Trees.{Are, are-both, none-named, quota-are, root-are}
-use Rattle.qg_fs_tree.proofs.Lists.{from-mapped, from-some, has-mapped, made-some}
+use Rattle.qg_file_edits.proofs.Lists.{from-mapped, from-some, has-mapped, made-some}
 use Rattle.qg_fs_laws.specs.Keeping.{NamesOthers, other_names}
 use Rattle.qg_fs_laws.specs.Opening.{HoldsOthers, HoldsQuota, HoldsQuotaOf}
 use Rattle.qg_fs_laws.proofs.Naming.{NamesEach, NamesQuota, among-has, extents-named, group-named, has-among}

@@ -35,7 +35,7 @@ use Rattle.qg_weighed.specs.Weight.{record_known, record_of_level}
 use Rattle.qg_weighed.proofs.Distinct.{same_record_is}
 use Rattle.qg_weighed.proofs.Recorded.{place_of, recorded, recorded_in, records-say}
 use Rattle.qg_weighed.proofs.Trees.{Are, none-named}
-use Rattle.qg_fs_tree.specs.declared.fs_tree.FsTree.{FsTree}
+use Rattle.qg_file_edits.specs.Types.{FsTree}
 use Rattle.qg_standing.specs.Opening.{IsOpened, IsSoundImage}
 use Rattle.qg_fs_laws.specs.Opening.{HoldsCommit, HoldsOthers}
 use Rattle.qg_fs_laws.specs.OpeningLaws.{OpenedIsRecorded}

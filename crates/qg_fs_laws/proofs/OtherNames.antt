@@ -40,7 +40,7 @@ use Rattle.qg_image.specs.Walk.{is_item_of}
 use Rattle.qg_contents.specs.Written.{item_of_named, items_of_roots, roots_named}
 use Rattle.qg_quota.specs.Written.{both_ways, info_part, item_of_info, item_of_limit, item_of_relation, item_of_status}
 use Rattle.qg_quota.specs.Written.{items_of_quota, limit_part, parts_of_quota, relation_part, status_at}
-use Rattle.qg_check.proofs.Found.{items_below-nodes}
+use Rattle.qg_tree_commit.proofs.CheckFound.{items_below-nodes}
 use Rattle.qg_owed.proofs.Passing.{all_at}
 use Rattle.qg_space.proofs.Members.{any_same, one_passes}
 use Rattle.qg_refs.specs.declared.kept.Kept.{Kept}
@@ -52,9 +52,9 @@ use Rattle.qg_weighed.proofs.Distinct.{same_record_is}
 use Rattle.qg_weighed.proofs.Named.{said-recorded}
 use Rattle.qg_tree.specs.Build.{IsBuilt}
 use Rattle.qg_tree.specs.declared.building.Built.{Built}
-use Rattle.qg_fs_tree.proofs.Lists.{from-flat, from-mapped, from-some, has-flat, made-some}
-use Rattle.qg_other_trees.specs.declared.laying.OtherTrees.{OtherTrees}
-use Rattle.qg_other_trees.specs.Trees.{AreTrees, IsQuotaTreeOf, nodes_laid, quota_nodes_laid, root_item_laid}
+use Rattle.qg_file_edits.proofs.Lists.{from-flat, from-mapped, from-some, has-flat, made-some}
+use Rattle.qg_tree_commit.specs.Types.{OtherTrees}
+use Rattle.qg_tree_commit.specs.Trees.{AreTrees, IsQuotaTreeOf, nodes_laid, quota_nodes_laid, root_item_laid}
 use Rattle.qg_fs_laws.specs.Keeping.{NamesOthers, other_names}
 use Rattle.qg_fs_laws.proofs.Said.{IsOfQuota, all-said, any-both, any-both-ways, any-mapped, any-with, both_of}
 use Rattle.qg_fs_laws.proofs.Said.{infos-named, limits-named, none-said, quotas-named, related, relation_of}

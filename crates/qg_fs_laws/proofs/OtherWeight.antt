@@ -30,8 +30,8 @@ use Rattle.qg_hier.specs.Groups.{IsSound, pair_cmp}
 use Rattle.qg_hier.proofs.Sets.{equal_pairs}
 use Rattle.qg_weighed.specs.Laws.{is_among}
 use Rattle.qg_weighed.proofs.Distinct.{adds, bytes-alike, bytes-one}
-use Rattle.qg_fs_tree.proofs.Lists.{from-mapped}
-use Rattle.qg_other_trees.specs.Trees.{quota_tree_bytes, root_tree_bytes}
+use Rattle.qg_file_edits.proofs.Lists.{from-mapped}
+use Rattle.qg_tree_commit.specs.Trees.{quota_tree_bytes, root_tree_bytes}
 use Rattle.qg_fs_laws.specs.Keeping.{other_names, other_weight}
 
 -- ---- each once

@@ -21,7 +21,7 @@ use Rattle.qg_weighed.specs.Weight.{weight_of}
 use Rattle.qg_weighed.proofs.Distinct.{bytes-alike}
 use Rattle.qg_weighed.proofs.Law.{weighs}
 use Rattle.qg_weighed.proofs.Trees.{none-named, others, others-are, others-named}
-use Rattle.qg_fs_tree.specs.declared.fs_tree.FsTree.{FsTree}
+use Rattle.qg_file_edits.specs.Types.{FsTree}
 use Rattle.qg_fs_laws.specs.Keeping.{IsKept, KeepsState, NamesOthers, TellsChanges, other_names, other_weight}
 use Rattle.qg_fs_laws.proofs.Kept.{counts}
 

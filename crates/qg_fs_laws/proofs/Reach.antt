@@ -26,8 +26,8 @@ use Rattle.qg_home.proofs.Reaching.{entry_of_value}
 use Rattle.qg_counted.specs.Counted.{AreAllReached}
 use Rattle.qg_reach.proofs.Distinct.{apart_with}
 use Rattle.qg_reach.proofs.SlotRule.{slot_below}
-use Rattle.qg_fs_tree.specs.declared.fs_tree.FsTree.{FsTree}
-use Rattle.qg_fs_tree.proofs.Lists.{from-flat, from-mapped, has-flat, has-mapped}
+use Rattle.qg_file_edits.specs.Types.{FsTree}
+use Rattle.qg_file_edits.proofs.Lists.{from-flat, from-mapped, has-flat, has-mapped}
 use Rattle.qg_fs_laws.specs.Keeping.{IsKept, KeepsState, LieApart, elements_of}
 use Rattle.qg_fs_laws.proofs.Kept.{counted, lies, served, slot-laid, whole}
 use Rattle.qg_fs_laws.proofs.Runs.{runs-told}

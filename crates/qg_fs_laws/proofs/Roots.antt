@@ -21,17 +21,17 @@ use Rattle.qg_refs.specs.declared.kept.What.{What}
 use Rattle.qg_refs.specs.Book.{what_in}
 use Rattle.qg_extents.specs.Table.{book_of}
 use Rattle.qg_descent.specs.Tree.{Root}
-use Rattle.qg_exchange.specs.Named.{named}
-use Rattle.qg_tree_refs.specs.Settled.{what_of}
-use Rattle.qg_fs_tree.specs.declared.fs_tree.FsTree.{FsTree}
-use Rattle.qg_fs_tree.specs.Standing.{Stands, trees_of}
-use Rattle.qg_fs_tree.proofs.Lists.{all-contained}
-use Rattle.qg_fs_layout.specs.Laying.{IsMet}
-use Rattle.qg_fs_layout.proofs.Nodes.{value-reached}
-use Rattle.qg_fs_layout.proofs.Roots.{HasRoot as HasTree}
-use Rattle.qg_fs_layout.proofs.Trees.{entry-there, met-slot, nodes-laid, root-level, root-reached, sized}
-use Rattle.qg_fs_layout.proofs.Trees.{subvolume-tree, value-subvolume}
-use Rattle.qg_other_trees.specs.Telling.{HasRoot}
+use Rattle.qg_file_edits.specs.Named.{named}
+use Rattle.qg_file_edits.specs.Settled.{what_of}
+use Rattle.qg_file_edits.specs.Types.{FsTree}
+use Rattle.qg_file_edits.specs.Standing.{Stands, trees_of}
+use Rattle.qg_file_edits.proofs.Lists.{all-contained}
+use Rattle.qg_file_edits.specs.Laying.{IsMet}
+use Rattle.qg_file_edits.proofs.Nodes.{value-reached}
+use Rattle.qg_file_edits.proofs.Roots.{HasRoot as HasTree}
+use Rattle.qg_file_edits.proofs.Trees.{entry-there, met-slot, nodes-laid, root-level, root-reached, sized}
+use Rattle.qg_file_edits.proofs.Trees.{subvolume-tree, value-subvolume}
+use Rattle.qg_tree_commit.specs.Telling.{HasRoot}
 use Rattle.qg_fs_laws.specs.Keeping.{IsKept, KeepsState}
 use Rattle.qg_fs_laws.proofs.Kept.{counted, stands}
 use Rattle.qg_fs_laws.proofs.Numbers.{numbers-ascend}

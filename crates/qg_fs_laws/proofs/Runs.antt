@@ -18,13 +18,13 @@ use Rattle.qg_contents.specs.Written.{items_of_file}
 use Rattle.qg_space.specs.Agreement.{IsHoldingOf}
 use Rattle.qg_extents.specs.Table.{book_of}
 use Rattle.qg_descent.specs.Tree.{Root}
-use Rattle.qg_forest.specs.Standing.{HoldsNode, HoldsState, IsKnownRun}
-use Rattle.qg_forest.proofs.Homes.{all-home}
-use Rattle.qg_fs_tree.specs.declared.fs_tree.FsTree.{FsTree}
-use Rattle.qg_fs_tree.specs.Standing.{items_in, trees_of}
-use Rattle.qg_fs_layout.proofs.Trees.{items-at_hand, met-slot, subvolume-tree, tree-subvolume, value-subvolume}
-use Rattle.qg_fs_layout.proofs.Whole.{owner-reaches, value-laid}
-use Rattle.qg_exchange.specs.Named.{named}
+use Rattle.qg_file_edits.specs.ForestStanding.{HoldsNode, HoldsState, IsKnownRun}
+use Rattle.qg_file_edits.proofs.Homes.{all-home}
+use Rattle.qg_file_edits.specs.Types.{FsTree}
+use Rattle.qg_file_edits.specs.Standing.{items_in, trees_of}
+use Rattle.qg_file_edits.proofs.Trees.{items-at_hand, met-slot, subvolume-tree, tree-subvolume, value-subvolume}
+use Rattle.qg_file_edits.proofs.Whole.{owner-reaches, value-laid}
+use Rattle.qg_file_edits.specs.Named.{named}
 use Rattle.qg_fs_laws.specs.Keeping.{IsKept, KeepsState}
 use Rattle.qg_fs_laws.proofs.Kept.{counted, have, stands, whole}
 use Rattle.qg_fs_laws.proofs.Named.{HasSubvolume, HasTree, named-present}

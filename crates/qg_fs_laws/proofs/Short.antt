@@ -25,8 +25,8 @@ use Rattle.qg_reach.specs.Fits.{first_fits}
 use Rattle.qg_reach.proofs.ExtentSets.{extent_set_same}
 use Rattle.qg_reach.proofs.SpaceRule.{Keeps-space}
 use Rattle.qg_space.proofs.Members.{filter_contains}
-use Rattle.qg_fs_tree.proofs.Lists.{from-mapped, from-some, has-flat, has-mapped}
-use Rattle.qg_fs_layout.proofs.Extents.{in-present}
+use Rattle.qg_file_edits.proofs.Lists.{from-mapped, from-some, has-flat, has-mapped}
+use Rattle.qg_file_edits.proofs.FsLayoutExtents.{in-present}
 use Rattle.qg_file_edits.specs.Changes.{files_cut, files_with}
 use Rattle.qg_fs_laws.specs.Committing.{AreShort, AreShortPieces, IsShort, LeavesShort}
 

@@ -27,25 +27,25 @@ use Rattle.qg_machine.specs.Written.{new_nodes}
 use Rattle.qg_machine.specs.Step.{Commits}
 use Rattle.qg_extents.specs.Table.{book_of}
 use Rattle.qg_space.specs.Holding.{is_free_slot}
-use Rattle.qg_commit.specs.Calls.{IsReadBack}
+use Rattle.qg_tree_commit.specs.Calls.{IsReadBack}
 use Rattle.qg_descent.specs.Tree.{Root}
-use Rattle.qg_exchange.specs.Named.{named}
-use Rattle.qg_fs_tree.specs.declared.fs_tree.FsTree.{FsTree}
-use Rattle.qg_fs_tree.specs.Standing.{Stands, items_in, trees_of}
-use Rattle.qg_fs_tree.proofs.Lists.{from-flat, from-mapped}
-use Rattle.qg_fs_layout.specs.Laying.{AreFit}
-use Rattle.qg_fs_layout.proofs.Extents.{from-present}
-use Rattle.qg_fs_layout.proofs.Files.{files-fit}
-use Rattle.qg_fs_layout.proofs.Fitting.{nodes-fit}
-use Rattle.qg_fs_layout.proofs.Trees.{nodes-laid, tree-subvolume}
+use Rattle.qg_file_edits.specs.Named.{named}
+use Rattle.qg_file_edits.specs.Types.{FsTree}
+use Rattle.qg_file_edits.specs.Standing.{Stands, items_in, trees_of}
+use Rattle.qg_file_edits.proofs.Lists.{from-flat, from-mapped}
+use Rattle.qg_file_edits.specs.Laying.{AreFit}
+use Rattle.qg_file_edits.proofs.FsLayoutExtents.{from-present}
+use Rattle.qg_file_edits.proofs.FsLayoutFiles.{files-fit}
+use Rattle.qg_file_edits.proofs.Fitting.{nodes-fit}
+use Rattle.qg_file_edits.proofs.Trees.{nodes-laid, tree-subvolume}
 use Rattle.qg_reach.specs.Sets.{HaveSame}
-use Rattle.qg_other_trees.specs.declared.laying.OtherTrees.{OtherTrees}
-use Rattle.qg_other_trees.specs.Holds.{HoldsLayout}
-use Rattle.qg_other_trees.specs.Sound.{committed}
-use Rattle.qg_other_trees.specs.Sound as sound
-use Rattle.qg_other_trees.specs.Telling.{AreToldBy, IsStateOf, Knows}
-use Rattle.qg_other_trees.specs.Trees.{AreTrees}
-use Rattle.qg_other_trees.proofs.Sound.{is_committed}
+use Rattle.qg_tree_commit.specs.Types.{OtherTrees}
+use Rattle.qg_tree_commit.specs.OtherTreesHolds.{HoldsLayout}
+use Rattle.qg_tree_commit.specs.Sound.{committed}
+use Rattle.qg_tree_commit.specs.Sound as sound
+use Rattle.qg_tree_commit.specs.Telling.{AreToldBy, IsStateOf, Knows}
+use Rattle.qg_tree_commit.specs.Trees.{AreTrees}
+use Rattle.qg_tree_commit.proofs.Sound.{is_committed}
 use Rattle.qg_tree_commit.specs.Holds.{IsOnDisk, with_tree_commit}
 use Rattle.qg_tree_commit.specs.Writing.{fresh_nodes, nodes_written}
 use Rattle.qg_tree_commit.proofs.NewNodes.{written-new}

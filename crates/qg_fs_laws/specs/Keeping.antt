@@ -33,13 +33,13 @@ use Rattle.qg_refs.specs.Book.{full_in, what_in}
 use Rattle.qg_extents.specs.Table.{IsTable, book_of}
 use Rattle.qg_weighed.specs.Laws.{is_among, is_of_extents}
 use Rattle.qg_descent.specs.Tree.{Root}
-use Rattle.qg_forest.specs.Standing.{tree_of}
-use Rattle.qg_fs_tree.specs.declared.fs_tree.FsTree.{FsTree}
-use Rattle.qg_fs_tree.specs.Standing.{IsReachedBy, IsSubvolume, trees_of}
-use Rattle.qg_fs_layout.specs.Laying.{HoldsSlots, IsLaidOut, nodes_in}
+use Rattle.qg_file_edits.specs.ForestStanding.{tree_of}
+use Rattle.qg_file_edits.specs.Types.{FsTree}
+use Rattle.qg_file_edits.specs.Standing.{IsReachedBy, IsSubvolume, trees_of}
+use Rattle.qg_file_edits.specs.Laying.{HoldsSlots, IsLaidOut, nodes_in}
 use Rattle.qg_file_edits.specs.Changes.{files_cloned_from, files_cut, files_written}
 use Rattle.qg_file_edits.specs.Files.{HasFiles, HoldsFiles, pieces_of}
-use Rattle.qg_other_trees.specs.Trees.{stamp_after}
+use Rattle.qg_tree_commit.specs.Trees.{stamp_after}
 
 -- ---- what is kept
 

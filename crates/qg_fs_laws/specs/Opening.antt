@@ -22,7 +22,7 @@ use Rattle.qg_image.specs.ImageState.{addresses_of, items_of_root, nodes_of_root
 use Rattle.qg_image.specs.ImageState.{quota_told, root_items, root_nodes, roots_in, subvolume_roots}
 use Rattle.qg_image.specs.Verdict.{fits_quota, is_status_part}
 use Rattle.qg_image.specs.Walk.{is_item_of}
-use Rattle.qg_fs_tree.specs.declared.fs_tree.FsTree.{FsTree}
+use Rattle.qg_file_edits.specs.Types.{FsTree}
 
 -- What is kept of the last commit, where nothing was done since: the slots of its other trees' nodes and those of the
 -- present state, the runs of the present state, and the book of its references

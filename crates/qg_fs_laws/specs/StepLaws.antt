@@ -21,13 +21,13 @@ use Rattle.qg_machine.specs.Step.{Commits}
 use Rattle.qg_hier.specs.Groups.{IsSound}
 use Rattle.qg_weighed.specs.Laws.{CountsLayout, IsRecorded}
 use Rattle.qg_weighed.specs.Weight.{weight_of}
-use Rattle.qg_forest.specs.Standing.{HoldsState}
-use Rattle.qg_fs_tree.specs.declared.fs_tree.FsTree.{FsTree}
+use Rattle.qg_file_edits.specs.ForestStanding.{HoldsState}
+use Rattle.qg_file_edits.specs.Types.{FsTree}
 use Rattle.qg_file_edits.specs.Files.{HasFiles, LeavesFiles}
-use Rattle.qg_other_trees.specs.declared.laying.OtherTrees.{OtherTrees}
-use Rattle.qg_other_trees.specs.Sound.{committed}
-use Rattle.qg_other_trees.specs.Telling.{AreToldBy}
-use Rattle.qg_other_trees.specs.Trees.{quota_tree_bytes, root_tree_bytes}
+use Rattle.qg_tree_commit.specs.Types.{OtherTrees}
+use Rattle.qg_tree_commit.specs.Sound.{committed}
+use Rattle.qg_tree_commit.specs.Telling.{AreToldBy}
+use Rattle.qg_tree_commit.specs.Trees.{quota_tree_bytes, root_tree_bytes}
 use Rattle.qg_fs_laws.specs.Keeping.{AreDirectCounts, AreTreesOf, AreYoung, FollowsCommand, IsKept}
 use Rattle.qg_fs_laws.specs.Keeping.{KeepsState, LieApart, NamesOthers, OthersHaveFiles}
 use Rattle.qg_fs_laws.specs.Keeping.{TellsChanges, TellsSpace, elements_of, mine_after, other_names, other_weight}

@@ -1,3 +1,38 @@
+pub use Rattle.qg_forest.proofs.Changed
+pub use Rattle.qg_forest.proofs.Extents as ForestExtents
+pub use Rattle.qg_forest.proofs.Homes
+pub use Rattle.qg_forest.proofs.Meeting
+pub use Rattle.qg_forest.proofs.Pieces
+pub use Rattle.qg_forest.proofs.Referring
+pub use Rattle.qg_forest.proofs.Roots as ForestRoots
+pub use Rattle.qg_forest.proofs.Snapshotted
+pub use Rattle.qg_forest.proofs.Tables
+pub use Rattle.qg_fs_tree.proofs.Before
+pub use Rattle.qg_fs_tree.proofs.Beside
+pub use Rattle.qg_fs_tree.proofs.Counts
+pub use Rattle.qg_fs_tree.proofs.FewNames
+pub use Rattle.qg_fs_tree.proofs.Fixed
+pub use Rattle.qg_fs_tree.proofs.Formed
+pub use Rattle.qg_fs_tree.proofs.Lists
+pub use Rattle.qg_fs_tree.proofs.Lying
+pub use Rattle.qg_fs_tree.proofs.Made
+pub use Rattle.qg_fs_tree.proofs.Nodes as FsTreeNodes
+pub use Rattle.qg_fs_tree.proofs.Ordered
+pub use Rattle.qg_fs_tree.proofs.Owings
+pub use Rattle.qg_fs_tree.proofs.Own
+pub use Rattle.qg_fs_tree.proofs.Owned
+pub use Rattle.qg_fs_tree.proofs.Places
+pub use Rattle.qg_fs_tree.proofs.Reached
+pub use Rattle.qg_fs_tree.proofs.Renamed
+pub use Rattle.qg_fs_tree.proofs.Sound
+pub use Rattle.qg_fs_tree.proofs.Taken
+pub use Rattle.qg_fs_tree.proofs.Told
+pub use Rattle.qg_tree_edits.proofs.Downward
+pub use Rattle.qg_tree_edits.proofs.Heights
+pub use Rattle.qg_tree_edits.proofs.Ways
+pub use Rattle.qg_tree_refs.proofs.Covered
+pub use Rattle.qg_tree_refs.proofs.Sums
+pub use Rattle.qg_tree_refs.proofs.Times
 pub mod Nodes
 pub mod Roots
 pub mod Walks

@@ -21,15 +21,15 @@ use Rattle.qg_image.proofs.Contained.{contains_here, contains_later}
 use Rattle.qg_contents.specs.Written.{items_of_file}
 use Rattle.qg_machine.specs.Refusals.{root_level}
 use Rattle.qg_owed.proofs.NumberSets.{same_ascending}
-use Rattle.qg_gathered.proofs.Sorted.{ascends_of}
-use Rattle.qg_exchange.specs.Named.{named}
+use Rattle.qg_fs_laws.proofs.Sorted.{ascends_of}
+use Rattle.qg_fs_laws.specs.Named.{named}
 use Rattle.qg_extents.specs.Table.{IsTable}
 use Rattle.qg_descent.specs.Tree.{Root}
-use Rattle.qg_forest.specs.Standing.{root_of, tree_of}
-use Rattle.qg_forest.proofs.Roots.{root_level-value, root_of-value}
-use Rattle.qg_fs_tree.specs.declared.fs_tree.FsTree.{FsTree}
-use Rattle.qg_fs_tree.specs.Standing.{trees_of}
-use Rattle.qg_fs_layout.proofs.Trees.{next-same, root-level, tree-subvolume}
+use Rattle.qg_fs_laws.specs.ForestStanding.{root_of, tree_of}
+use Rattle.qg_fs_laws.proofs.ForestRoots.{root_level-value, root_of-value}
+use Rattle.qg_fs_laws.specs.Types.{FsTree}
+use Rattle.qg_fs_laws.specs.Standing.{trees_of}
+use Rattle.qg_fs_laws.proofs.Trees.{next-same, root-level, tree-subvolume}
 use Rattle.qg_survey.specs.Surveying.{trees_of as trees_of_state}
 use Rattle.qg_fs_laws.specs.Keeping as step
 use Rattle.qg_kept.specs.declared.kept.Kept.{Kept}

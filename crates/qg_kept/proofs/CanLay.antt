@@ -36,11 +36,11 @@ use Rattle.qg_refs.specs.declared.kept.Kept.{Kept as Reference}
 use Rattle.qg_refs.specs.Book.{what_in}
 use Rattle.qg_extents.specs.Written.{items_of_book}
 use Rattle.qg_descent.specs.Tree.{Root}
-use Rattle.qg_fs_tree.specs.Standing.{trees_of}
+use Rattle.qg_fs_laws.specs.Standing.{trees_of}
 use Rattle.qg_groups.specs.Tracked.{SameButCounts, quota_of}
-use Rattle.qg_check.specs.Editable.{AreGroups, AreGroupsOf, AreSubvolumes}
-use Rattle.qg_other_trees.specs.Trees.{AreEnough, nodes_of_trees}
-use Rattle.qg_other_trees.specs.Trees.{quota_tree_bytes, root_tree_bytes}
+use Rattle.qg_fs_laws.specs.Editable.{AreGroups, AreGroupsOf, AreSubvolumes}
+use Rattle.qg_fs_laws.specs.Trees.{AreEnough, nodes_of_trees}
+use Rattle.qg_fs_laws.specs.Trees.{quota_tree_bytes, root_tree_bytes}
 use Rattle.qg_fs_laws.specs.Keeping.{group_after, quota_after, quota_laid}
 use Rattle.qg_fs_laws.specs.Committing.{IsRootNow}
 use Rattle.qg_kept.specs.declared.kept.Kept.{Kept}

@@ -21,12 +21,12 @@ use Rattle.qg_extents.proofs.Sayable.{entry-may}
 use Rattle.qg_blocks.specs.Told.{IsNodeAt}
 use Rattle.qg_weighed.specs.Weight.{weight_of}
 use Rattle.qg_weighed.proofs.Law.{no-less}
-use Rattle.qg_other_trees.specs.declared.laying.OtherTrees.{OtherTrees}
-use Rattle.qg_other_trees.specs.declared.laying.Told.{Told}
-use Rattle.qg_check.specs.Editable.{AreGroupsOf, AreSubvolumes}
-use Rattle.qg_other_trees.specs.Trees.{AreEnough, CanBeLaid, nodes_of_trees}
-use Rattle.qg_other_trees.proofs.Weight.{records_weigh}
-use Rattle.qg_tree_commit.specs.Writing.{AreWritable, IsLaying, StopsLaying}
+use Rattle.qg_fs_laws.specs.Types.{OtherTrees}
+use Rattle.qg_fs_laws.specs.Types.{Told}
+use Rattle.qg_fs_laws.specs.Editable.{AreGroupsOf, AreSubvolumes}
+use Rattle.qg_fs_laws.specs.Trees.{AreEnough, CanBeLaid, nodes_of_trees}
+use Rattle.qg_fs_laws.proofs.Weight.{records_weigh}
+use Rattle.qg_fs_laws.specs.Writing.{AreWritable, IsLaying, StopsLaying}
 use Rattle.qg_kept.specs.declared.kept.Kept.{Kept}
 use Rattle.qg_kept.specs.declared.planning.Plan.{Plan}
 use Rattle.qg_kept.specs.Committing.{LaysSoFar}

@@ -10,14 +10,14 @@ use Rattle.qg_contents.specs.Written.{items_of_file}
 use Rattle.qg_blocks.specs.Held.{Held}
 use Rattle.qg_descent.specs.Way.{HasRead}
 use Rattle.qg_extents.specs.Table.{IsTable}
-use Rattle.qg_tree_edits.specs.Editing.{IsEditable}
-use Rattle.qg_exchange.specs.Named.{named}
+use Rattle.qg_fs_laws.specs.TreeEditsEditing.{IsEditable}
+use Rattle.qg_fs_laws.specs.Named.{named}
 use Rattle.qg_ground.specs.declared.ground.Ground.{Ground}
 use Rattle.qg_ground.proofs.Editing.{ArePlaced-drafted}
-use Rattle.qg_forest.specs.Standing.{HoldsState}
-use Rattle.qg_standing.proofs.Alike.{stands-alike}
-use Rattle.qg_fs_tree.specs.declared.fs_tree.FsTree.{FsTree}
-use Rattle.qg_fs_tree.specs.Standing.{trees_of}
+use Rattle.qg_fs_laws.specs.ForestStanding.{HoldsState}
+use Rattle.qg_fs_laws.proofs.Alike.{stands-alike}
+use Rattle.qg_fs_laws.specs.Types.{FsTree}
+use Rattle.qg_fs_laws.specs.Standing.{trees_of}
 use Rattle.qg_fs_laws.specs.Keeping as step
 use Rattle.qg_fs_laws.proofs.Runs.{state-held}
 use Rattle.qg_fs_laws.proofs.KeptStill.{kept-still}

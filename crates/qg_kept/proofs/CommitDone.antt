@@ -21,16 +21,16 @@ use Rattle.qg_machine.specs.Step.{Commits}
 use Rattle.qg_contents.specs.Written.{items_of_file}
 use Rattle.qg_blocks.specs.Held.{Draft, nothing_fresh}
 use Rattle.qg_crashes.specs.Slots.{IsInSlot}
-use Rattle.qg_commit.specs.Calls.{MadeFront, commit_calls}
-use Rattle.qg_exchange.specs.Named.{named}
+use Rattle.qg_fs_laws.specs.Calls.{MadeFront, commit_calls}
+use Rattle.qg_fs_laws.specs.Named.{named}
 use Rattle.qg_descent.specs.Tree.{Root}
-use Rattle.qg_standing.specs.Committing.{StandsStill}
-use Rattle.qg_other_trees.specs.declared.laying.OtherTrees.{OtherTrees}
-use Rattle.qg_other_trees.specs.Sound.{committed}
-use Rattle.qg_tree_commit.specs.Holds.{with_tree_commit}
-use Rattle.qg_tree_commit.specs.Writing.{IsLaying, nodes_written}
-use Rattle.qg_tree_commit.proofs.AllNodes.{written-lies, written-sizes}
-use Rattle.qg_tree_commit.proofs.Subvolume.{fresh-AreWritable, given-slot}
+use Rattle.qg_fs_laws.specs.StandingCommitting.{StandsStill}
+use Rattle.qg_fs_laws.specs.Types.{OtherTrees}
+use Rattle.qg_fs_laws.specs.Sound.{committed}
+use Rattle.qg_fs_laws.specs.Holds.{with_tree_commit}
+use Rattle.qg_fs_laws.specs.Writing.{IsLaying, nodes_written}
+use Rattle.qg_fs_laws.proofs.AllNodes.{written-lies, written-sizes}
+use Rattle.qg_fs_laws.proofs.Subvolume.{fresh-AreWritable, given-slot}
 use Rattle.qg_fs_laws.specs.Keeping.{quota_laid}
 use Rattle.qg_fs_laws.specs.Committing.{AreRootsNow, IsSoundCommit, LaysTree}
 use Rattle.qg_fs_laws.specs.Committing as kept_by

@@ -17,16 +17,16 @@ use Rattle.qg_image.specs.declared.quota.Quota.{Quota}
 use Rattle.qg_image.specs.State.{State}
 use Rattle.qg_reach.proofs.Members.{one_mapped}
 use Rattle.qg_blocks.specs.Held.{Held}
-use Rattle.qg_commit.specs.Calls.{IsReadBack}
+use Rattle.qg_fs_laws.specs.Calls.{IsReadBack}
 use Rattle.qg_descent.specs.Tree.{Root}
-use Rattle.qg_fs_tree.specs.Standing.{AreNumbered, CanTurn, IsSubvolume, trees_of}
-use Rattle.qg_standing.specs.Committing.{for_generation}
-use Rattle.qg_other_trees.specs.declared.laying.OtherTrees.{OtherTrees}
+use Rattle.qg_fs_laws.specs.Standing.{AreNumbered, CanTurn, IsSubvolume, trees_of}
+use Rattle.qg_fs_laws.specs.StandingCommitting.{for_generation}
+use Rattle.qg_fs_laws.specs.Types.{OtherTrees}
 use Rattle.qg_groups.specs.Tracked.{quota_of}
-use Rattle.qg_check.specs.Editable.{AreGroupsOf}
-use Rattle.qg_tree_commit.specs.Holds.{AreForgotten, IsFlushed, with_tree_commit}
-use Rattle.qg_tree_commit.specs.Writing.{IsLaying, fresh_nodes}
-use Rattle.qg_tree_commit.proofs.OnDisk.{is-flushed}
+use Rattle.qg_fs_laws.specs.Editable.{AreGroupsOf}
+use Rattle.qg_fs_laws.specs.Holds.{AreForgotten, IsFlushed, with_tree_commit}
+use Rattle.qg_fs_laws.specs.Writing.{IsLaying, fresh_nodes}
+use Rattle.qg_fs_laws.proofs.OnDisk.{is-flushed}
 use Rattle.qg_fs_laws.specs.Keeping.{quota_laid}
 use Rattle.qg_kept.specs.declared.kept.Kept.{Kept}
 use Rattle.qg_kept.specs.declared.planning.Plan.{Plan}

@@ -17,13 +17,13 @@ use Rattle.qg_blocks.specs.Held.{Held}
 use Rattle.qg_blocks.specs.Told.{IsBacked, fresh_at}
 use Rattle.qg_blocks.specs.Writing.{AreWritten}
 use Rattle.qg_ground.proofs.Settling.{fresh-free}
-use Rattle.qg_commit.specs.Calls.{IsReadBack}
-use Rattle.qg_exchange.specs.Named.{named}
-use Rattle.qg_fs_tree.specs.Standing.{CanTurn, IsSubvolume, Stands}
-use Rattle.qg_standing.specs.Committing.{StandsStill, WritesTree}
-use Rattle.qg_other_trees.specs.declared.laying.OtherTrees.{OtherTrees}
-use Rattle.qg_tree_commit.specs.Holds.{AreForgotten, AreFree, IsFlushed, with_tree_commit}
-use Rattle.qg_tree_commit.specs.Writing.{fresh_nodes, nodes_written}
+use Rattle.qg_fs_laws.specs.Calls.{IsReadBack}
+use Rattle.qg_fs_laws.specs.Named.{named}
+use Rattle.qg_fs_laws.specs.Standing.{CanTurn, IsSubvolume, Stands}
+use Rattle.qg_fs_laws.specs.StandingCommitting.{StandsStill, WritesTree}
+use Rattle.qg_fs_laws.specs.Types.{OtherTrees}
+use Rattle.qg_fs_laws.specs.Holds.{AreForgotten, AreFree, IsFlushed, with_tree_commit}
+use Rattle.qg_fs_laws.specs.Writing.{fresh_nodes, nodes_written}
 use Rattle.qg_kept.specs.declared.kept.Kept.{Kept}
 use Rattle.qg_kept.specs.declared.planning.Plan.{Plan}
 use Rattle.qg_kept.specs.Committing.{IsLaidBy, KeepsCommit, LaysSoFar}

@@ -16,8 +16,8 @@ use Rattle.qg_machine.specs.Step.{Commits, Step}
 use Rattle.qg_machine.specs.Step as machine
 use Rattle.qg_node.specs.declared.node.Node.{Node}
 use Rattle.qg_super.specs.declared.superblock.Super.{Super}
-use Rattle.qg_commit.specs.Calls.{MadeFront, commit_calls, node_calls, superblock_calls, with_commit, with_nodes}
-use Rattle.qg_commit.proofs.Fronts.{comes-all, comes-behind}
+use Rattle.qg_fs_laws.specs.Calls.{MadeFront, commit_calls, node_calls, superblock_calls, with_commit, with_nodes}
+use Rattle.qg_fs_laws.proofs.Fronts.{comes-all, comes-behind}
 use Rattle.qg_kept.specs.declared.kept.Kept.{Kept}
 use Rattle.qg_kept.specs.Answering.{Answered, AnswersOn}
 use Rattle.qg_kept.specs.Keeping.{IsFitted, IsKeptOf}

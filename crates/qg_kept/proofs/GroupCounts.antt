@@ -21,11 +21,11 @@ use Rattle.qg_home.proofs.Listed.{at_read, index_of}
 use Rattle.qg_reach.proofs.Members.{one_mapped}
 use Rattle.qg_direct.specs.Direct.{AreGroupCounts}
 use Rattle.qg_descent.specs.Tree.{Root}
-use Rattle.qg_fs_tree.specs.Standing.{trees_of}
-use Rattle.qg_fs_tree.proofs.Ordered.{contained}
+use Rattle.qg_fs_laws.specs.Standing.{trees_of}
+use Rattle.qg_fs_laws.proofs.Ordered.{contained}
 use Rattle.qg_groups.specs.Changing.{groups_in}
 use Rattle.qg_groups.proofs.Reserved.{level-lowest}
-use Rattle.qg_check.specs.Editable.{AreGroups, AreGroupsOf}
+use Rattle.qg_fs_laws.specs.Editable.{AreGroups, AreGroupsOf}
 use Rattle.qg_fs_laws.specs.Keeping.{AreDirectCounts}
 use Rattle.qg_kept.specs.declared.kept.Kept.{Kept}
 use Rattle.qg_kept.specs.Keeping.{IsFitted}

@@ -4,10 +4,10 @@ use Rattle.std.specs.Prelude.{◌↔◌}
 use Rattle.std.specs.List.{Contains}
 use Rattle.qg_node.specs.Nodes.{header_of}
 use Rattle.qg_super.specs.SuperText.{sizes_of}
-use Rattle.qg_fs_tree.specs.declared.fs_tree.FsTree.{FsTree}
-use Rattle.qg_standing.specs.Committing.{IsCommitted}
-use Rattle.qg_other_trees.specs.declared.laying.OtherTrees.{OtherTrees}
-use Rattle.qg_other_trees.specs.Trees.{nodes_laid}
+use Rattle.qg_fs_laws.specs.Types.{FsTree}
+use Rattle.qg_fs_laws.specs.StandingCommitting.{IsCommitted}
+use Rattle.qg_fs_laws.specs.Types.{OtherTrees}
+use Rattle.qg_fs_laws.specs.Trees.{nodes_laid}
 use Rattle.qg_kept.specs.declared.kept.Kept.{Kept}
 use Rattle.qg_kept.specs.declared.planning.Plan.{Plan}
 use Rattle.qg_kept.specs.Committing.{IsLaidBy}

@@ -8,8 +8,8 @@ use Rattle.qg_image.specs.State.{State}
 use Rattle.qg_contents.specs.Written.{items_of_file}
 use Rattle.qg_refs.specs.declared.kept.Kept.{Kept as Reference}
 use Rattle.qg_extents.specs.Table.{IsTable}
-use Rattle.qg_exchange.specs.Named.{named}
-use Rattle.qg_standing.proofs.Known.{no-later}
+use Rattle.qg_fs_laws.specs.Named.{named}
+use Rattle.qg_fs_laws.proofs.Known.{no-later}
 use Rattle.qg_kept.specs.declared.kept.Kept.{Kept}
 use Rattle.qg_kept.specs.Committing.{KnowsNoLater}
 use Rattle.qg_kept.specs.Keeping.{IsKept, IsKeptWith}

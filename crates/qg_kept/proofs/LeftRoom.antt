@@ -9,10 +9,10 @@ use Rattle.qg_super.specs.SuperText.{sizes_of}
 use Rattle.qg_image.specs.declared.quota.Quota.{Quota}
 use Rattle.qg_space.specs.Holding.{is_free_slot}
 use Rattle.qg_space.proofs.Marks.{SlotsFit-is_served}
-use Rattle.qg_tree_refs.specs.TreeBook.{TreeBook}
+use Rattle.qg_fs_laws.specs.TreeBook.{TreeBook}
 use Rattle.qg_groups.specs.Tracked.{SameButCounts, quota_of}
-use Rattle.qg_other_trees.specs.declared.laying.OtherTrees.{OtherTrees}
-use Rattle.qg_other_trees.specs.Trees.{nodes_laid}
+use Rattle.qg_fs_laws.specs.Types.{OtherTrees}
+use Rattle.qg_fs_laws.specs.Trees.{nodes_laid}
 use Rattle.qg_kept.specs.declared.kept.Kept.{Kept}
 use Rattle.qg_kept.specs.declared.planning.Plan.{Plan}
 use Rattle.qg_kept.specs.Committing.{IsLaidBy, KeepsCommit}

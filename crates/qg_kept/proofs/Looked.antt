@@ -26,14 +26,14 @@ use Rattle.qg_blocks.specs.Told.{IsBacked}
 use Rattle.qg_ground.specs.declared.ground.Ground.{Ground}
 use Rattle.qg_ground.proofs.Editing.{ArePlaced-drafted}
 use Rattle.qg_descent.specs.Way.{HasRead, IsReadable}
-use Rattle.qg_fs_tree.specs.declared.fs_tree.FsTree.{FsTree}
-use Rattle.qg_fs_tree.specs.Standing.{IsSubvolume, Stands, trees_of}
-use Rattle.qg_fs_tree.proofs.Lists.{from-mapped, has-mapped}
+use Rattle.qg_fs_laws.specs.Types.{FsTree}
+use Rattle.qg_fs_laws.specs.Standing.{IsSubvolume, Stands, trees_of}
+use Rattle.qg_fs_laws.proofs.Lists.{from-mapped, has-mapped}
 use Rattle.qg_inodes.specs.Told.{TellsFiles}
-use Rattle.qg_exchange.specs.Named.{named}
-use Rattle.qg_file_edits.specs.Files.{HoldsFiles}
-use Rattle.qg_standing.specs.Committing.{StandsStill}
-use Rattle.qg_standing.proofs.Alike.{stands-alike}
+use Rattle.qg_fs_laws.specs.Named.{named}
+use Rattle.qg_fs_laws.specs.Files.{HoldsFiles}
+use Rattle.qg_fs_laws.specs.StandingCommitting.{StandsStill}
+use Rattle.qg_fs_laws.proofs.Alike.{stands-alike}
 use Rattle.qg_space.specs.Holding.{free_slots}
 use Rattle.qg_weighed.specs.Laws.{IsRecorded}
 use Rattle.qg_descent.specs.Tree.{Root}

@@ -18,8 +18,8 @@ use Rattle.qg_groups.specs.Changing.{groups_in}
 use Rattle.qg_groups.specs.Tracked.{HoldsAll, HoldsAtMost, IsRecounted, IsTracked, SameButCounts, quota_of}
 use Rattle.qg_groups.proofs.Recounted.{keys-recounted, recounted-by}
 use Rattle.qg_groups.proofs.Reserved.{bound-more, holds-least}
-use Rattle.qg_check.specs.Editable.{AreGroupsOf}
-use Rattle.qg_other_trees.specs.Trees.{quota_tree_bytes, quota_trees, root_tree_bytes}
+use Rattle.qg_fs_laws.specs.Editable.{AreGroupsOf}
+use Rattle.qg_fs_laws.specs.Trees.{quota_tree_bytes, quota_trees, root_tree_bytes}
 use Rattle.qg_fs_laws.specs.Keeping.{group_after, quota_after, quota_laid}
 use Rattle.qg_kept.specs.Planning.{counters_by}
 

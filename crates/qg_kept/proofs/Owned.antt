@@ -19,7 +19,7 @@ use Rattle.qg_image.specs.State.{Layout, Placed, node_at}
 use Rattle.qg_image.proofs.Contained.{contains_cases, contains_here, none_contained}
 use Rattle.qg_reach.proofs.Members.{contains_map, one_mapped}
 use Rattle.qg_owed.proofs.NumberSets.{same_ascending}
-use Rattle.qg_gathered.proofs.Sorted.{ascends_of}
+use Rattle.qg_fs_laws.proofs.Sorted.{ascends_of}
 use Rattle.qg_space.proofs.Members.{contains_filter, filter_contains, one_passes, passes_one}
 use Rattle.qg_home.specs.declared.linked.Linked.{Linked}
 use Rattle.qg_home.specs.Leading.{Leads}

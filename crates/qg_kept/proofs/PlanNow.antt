@@ -11,9 +11,9 @@ use Rattle.qg_image.specs.State.{State, layout_of}
 use Rattle.qg_extents.specs.Table.{IsTable}
 use Rattle.qg_descent.specs.Tree.{Root}
 use Rattle.qg_direct.specs.Direct.{AreGroupCounts}
-use Rattle.qg_fs_tree.specs.Standing.{trees_of}
+use Rattle.qg_fs_laws.specs.Standing.{trees_of}
 use Rattle.qg_survey.specs.Surveying.{trees_of as trees_of_state}
-use Rattle.qg_tree_commit.specs.Holds.{AreFree}
+use Rattle.qg_fs_laws.specs.Holds.{AreFree}
 use Rattle.qg_groups.specs.Changing.{groups_in}
 use Rattle.qg_groups.specs.Tracked.{quota_of}
 use Rattle.qg_fs_laws.specs.Keeping.{AreDirectCounts}

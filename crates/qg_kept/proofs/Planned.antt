@@ -10,7 +10,7 @@ use Rattle.qg_super.proofs.Served.{SizesFit-is_served, SuperFits-is_super}
 use Rattle.qg_space.specs.Holding.{Holding, free_slots, is_free_slot}
 use Rattle.qg_space.proofs.Free.{free_is_slot}
 use Rattle.qg_space.proofs.Listed.{free_slots-le-slots}
-use Rattle.qg_tree_commit.specs.Holds.{AreFree}
+use Rattle.qg_fs_laws.specs.Holds.{AreFree}
 use Rattle.qg_kept.specs.declared.kept.Kept.{Kept}
 use Rattle.qg_kept.specs.Keeping.{IsFitted}
 

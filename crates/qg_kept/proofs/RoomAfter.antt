@@ -14,12 +14,12 @@ use Rattle.qg_image.proofs.Contained.{contains_cases, contains_here, contains_la
 use Rattle.qg_space.specs.Holding.{Holding, free_slots, is_free_slot}
 use Rattle.qg_space.proofs.Free.{free_is_slot}
 use Rattle.qg_space.proofs.Members.{one_passes, passes_one}
-use Rattle.qg_tree_edits.specs.Counting.{one}
-use Rattle.qg_tree_edits.proofs.Ways.{one-here}
-use Rattle.qg_fs_tree.specs.declared.fs_tree.FsTree.{FsTree}
-use Rattle.qg_fs_tree.specs.Standing.{every_slot}
-use Rattle.qg_fs_tree.proofs.Places.{slot-once}
-use Rattle.qg_standing.specs.Committing.{IsCommitted}
+use Rattle.qg_fs_laws.specs.Counting.{one}
+use Rattle.qg_fs_laws.proofs.Ways.{one-here}
+use Rattle.qg_fs_laws.specs.Types.{FsTree}
+use Rattle.qg_fs_laws.specs.Standing.{every_slot}
+use Rattle.qg_fs_laws.proofs.Places.{slot-once}
+use Rattle.qg_fs_laws.specs.StandingCommitting.{IsCommitted}
 
 -- ---- counts
 

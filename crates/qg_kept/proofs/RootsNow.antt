@@ -13,15 +13,15 @@ use Rattle.qg_image.specs.Table.{keys_of, value_at}
 use Rattle.qg_image.specs.Record.{Record}
 use Rattle.qg_image.specs.State.{Placed, State}
 use Rattle.qg_contents.specs.Written.{items_of_file}
-use Rattle.qg_exchange.specs.Named.{named}
+use Rattle.qg_fs_laws.specs.Named.{named}
 use Rattle.qg_extents.specs.Table.{IsTable}
 use Rattle.qg_descent.specs.Tree.{Root}
 use Rattle.qg_home.proofs.Ascending.{one_of_number}
 use Rattle.qg_home.proofs.Reaching.{entry_of_value, value_of_entry}
-use Rattle.qg_fs_tree.specs.Standing.{trees_of}
-use Rattle.qg_fs_layout.specs.Laying.{IsMet}
-use Rattle.qg_fs_layout.proofs.Nodes.{value-reached}
-use Rattle.qg_fs_layout.proofs.Trees.{entry-there, met-slot, nodes-laid, root-reached}
+use Rattle.qg_fs_laws.specs.Standing.{trees_of}
+use Rattle.qg_fs_laws.specs.Laying.{IsMet}
+use Rattle.qg_fs_laws.proofs.Nodes.{value-reached}
+use Rattle.qg_fs_laws.proofs.Trees.{entry-there, met-slot, nodes-laid, root-reached}
 use Rattle.qg_fs_laws.proofs.Kept.{counted, some_bytes, stands}
 use Rattle.qg_fs_laws.specs.Committing.{IsRootNow}
 use Rattle.qg_kept.specs.declared.kept.Kept.{Kept}

@@ -13,13 +13,13 @@ use Rattle.qg_image.specs.Record.{Record}
 use Rattle.qg_image.specs.State.{Placed, State}
 use Rattle.qg_contents.specs.Written.{items_of_file}
 use Rattle.qg_extents.specs.Table.{IsTable}
-use Rattle.qg_exchange.specs.Named.{named}
+use Rattle.qg_fs_laws.specs.Named.{named}
 use Rattle.qg_direct.specs.Surveyed.{surveyed_of}
 use Rattle.qg_direct.specs.declared.surveyed.Surveyed.{Surveyed}
-use Rattle.qg_tree_edits.specs.Editing.{IsEditable}
-use Rattle.qg_fs_tree.specs.Standing.{every_slot, placed_at}
-use Rattle.qg_fs_layout.proofs.Nodes.{nodes-are}
-use Rattle.qg_fs_layout.proofs.Trees.{nodes-laid}
+use Rattle.qg_fs_laws.specs.TreeEditsEditing.{IsEditable}
+use Rattle.qg_fs_laws.specs.Standing.{every_slot, placed_at}
+use Rattle.qg_fs_laws.proofs.Nodes.{nodes-are}
+use Rattle.qg_fs_laws.proofs.Trees.{nodes-laid}
 use Rattle.qg_fs_laws.proofs.Kept.{stands, whole}
 use Rattle.qg_kept.specs.declared.kept.Kept.{Kept}
 use Rattle.qg_kept.specs.Keeping.{IsKept, IsKeptWith}

@@ -11,9 +11,9 @@ use Rattle.qg_image.specs.Table.{has_key, keys_of, value_at, with_value}
 use Rattle.qg_image.proofs.Contained.{contains_cases, contains_here, contains_later, none_contained}
 use Rattle.qg_files.proofs.Ascending.{Ascends-increasing}
 use Rattle.qg_home.proofs.Reaching.{entry_of_value}
-use Rattle.qg_forest.proofs.Changed.{value-each}
-use Rattle.qg_forest.proofs.Tables.{map-with}
-use Rattle.qg_fs_tree.proofs.Lists.{has-mapped}
+use Rattle.qg_fs_laws.proofs.Changed.{value-each}
+use Rattle.qg_fs_laws.proofs.Tables.{map-with}
+use Rattle.qg_fs_laws.proofs.Lists.{has-mapped}
 
 -- ---- what is found of a table that is made of another
 

@@ -27,21 +27,21 @@ use Rattle.qg_weighed.specs.Laws.{IsRecorded}
 use Rattle.qg_ground.specs.declared.ground.Ground.{Ground}
 use Rattle.qg_ground.specs.Land.{IsDrafted}
 use Rattle.qg_descent.specs.Tree.{Root}
-use Rattle.qg_tree_refs.specs.declared.tree_refs.TreeRefs.{TreeRefs}
-use Rattle.qg_fs_tree.specs.declared.fs_tree.FsTree.{FsTree}
-use Rattle.qg_fs_tree.specs.Standing.{AreNumbered, CanTurn, IsSubvolume, IsTurned, Stands, items_in, layout_in}
-use Rattle.qg_fs_tree.specs.Standing.{name_told}
-use Rattle.qg_fs_tree.specs.Standing.{trees_of}
-use Rattle.qg_fs_tree.proofs.Lists.{from-mapped}
-use Rattle.qg_fs_tree.proofs.Ordered.{contained}
-use Rattle.qg_fs_layout.proofs.Roots.{HasRoot}
-use Rattle.qg_fs_layout.proofs.Trees.{subvolume-tree, tree-subvolume}
-use Rattle.qg_exchange.specs.Named.{named}
-use Rattle.qg_file_edits.specs.Files.{HasFiles, HoldsFiles}
-use Rattle.qg_file_edits.proofs.Sources.{own_files}
+use Rattle.qg_fs_laws.specs.Types.{TreeRefs}
+use Rattle.qg_fs_laws.specs.Types.{FsTree}
+use Rattle.qg_fs_laws.specs.Standing.{AreNumbered, CanTurn, IsSubvolume, IsTurned, Stands, items_in, layout_in}
+use Rattle.qg_fs_laws.specs.Standing.{name_told}
+use Rattle.qg_fs_laws.specs.Standing.{trees_of}
+use Rattle.qg_fs_laws.proofs.Lists.{from-mapped}
+use Rattle.qg_fs_laws.proofs.Ordered.{contained}
+use Rattle.qg_fs_laws.proofs.FsLayoutRoots.{HasRoot}
+use Rattle.qg_fs_laws.proofs.Trees.{subvolume-tree, tree-subvolume}
+use Rattle.qg_fs_laws.specs.Named.{named}
+use Rattle.qg_fs_laws.specs.Files.{HasFiles, HoldsFiles}
+use Rattle.qg_fs_laws.proofs.Sources.{own_files}
 use Rattle.qg_fs_laws.specs.Keeping.{KeepsState, other_names}
 use Rattle.qg_groups.specs.Tracked.{quota_of}
-use Rattle.qg_check.specs.Editable.{AreGroupsOf}
+use Rattle.qg_fs_laws.specs.Editable.{AreGroupsOf}
 use Rattle.qg_kept.specs.declared.kept.Kept.{Kept}
 use Rattle.qg_kept.specs.Answering.{is_unchanging}
 use Rattle.qg_kept.specs.Editing.{HasLooked, HasReadNodes}

@@ -17,11 +17,11 @@ use Rattle.qg_image.specs.declared.quota.Quota.{Quota}
 use Rattle.qg_space.specs.Holding.{Holding, is_free_slot}
 use Rattle.qg_refs.specs.declared.kept.Kept.{Kept}
 use Rattle.qg_tree.specs.Row.{address_of}
-use Rattle.qg_other_trees.specs.declared.laying.OtherTrees.{OtherTrees}
-use Rattle.qg_other_trees.specs.Trees.{AreTrees, nodes_laid, quota_nodes_laid}
-use Rattle.qg_other_trees.proofs.QuotaTree.{quota_placed}
-use Rattle.qg_other_trees.proofs.Slots.{LieFirst, LieFirst-more, LieFirst-placed}
-use Rattle.qg_tree_commit.specs.Holds.{AreFree}
+use Rattle.qg_fs_laws.specs.Types.{OtherTrees}
+use Rattle.qg_fs_laws.specs.Trees.{AreTrees, nodes_laid, quota_nodes_laid}
+use Rattle.qg_fs_laws.proofs.QuotaTree.{quota_placed}
+use Rattle.qg_fs_laws.proofs.Slots.{LieFirst, LieFirst-more, LieFirst-placed}
+use Rattle.qg_fs_laws.specs.Holds.{AreFree}
 
 -- the first of two lists that stand one behind the other
 first_of_both : (xs ys zs : List ℕ) → xs ++ ys ≡ zs → take (length xs) zs ≡ xs

@@ -8,14 +8,14 @@ use Rattle.qg_items.specs.declared.root.RootItem.{RootItem}
 use Rattle.qg_super.specs.SuperText.{sizes_of}
 use Rattle.qg_image.specs.Table.{keys_of, value_at}
 use Rattle.qg_extents.specs.Table.{IsTable}
-use Rattle.qg_commit.specs.Calls.{MadeFront, commit_calls}
+use Rattle.qg_fs_laws.specs.Calls.{MadeFront, commit_calls}
 use Rattle.qg_descent.specs.Tree.{Root}
-use Rattle.qg_fs_tree.specs.Standing.{trees_of}
-use Rattle.qg_standing.specs.Committing.{IsCommitted}
-use Rattle.qg_other_trees.specs.declared.laying.OtherTrees.{OtherTrees}
-use Rattle.qg_other_trees.specs.Trees.{nodes_laid}
-use Rattle.qg_tree_commit.specs.Holds.{AreFree}
-use Rattle.qg_tree_commit.specs.Writing.{IsLaying, nodes_written}
+use Rattle.qg_fs_laws.specs.Standing.{trees_of}
+use Rattle.qg_fs_laws.specs.StandingCommitting.{IsCommitted}
+use Rattle.qg_fs_laws.specs.Types.{OtherTrees}
+use Rattle.qg_fs_laws.specs.Trees.{nodes_laid}
+use Rattle.qg_fs_laws.specs.Holds.{AreFree}
+use Rattle.qg_fs_laws.specs.Writing.{IsLaying, nodes_written}
 use Rattle.qg_groups.specs.Tracked.{HoldsAll, IsTracked, quota_of}
 use Rattle.qg_fs_laws.specs.Keeping.{quota_laid}
 use Rattle.qg_fs_laws.specs.Committing.{IsInOrder, IsRootNow}

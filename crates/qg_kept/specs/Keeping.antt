@@ -19,10 +19,10 @@ use Rattle.qg_space.specs.Holding.{free_slots}
 use Rattle.qg_ground.specs.Land.{IsDrafted}
 use Rattle.qg_weighed.specs.Laws.{IsRecorded}
 use Rattle.qg_weighed.specs.Weight.{weight_of}
-use Rattle.qg_fs_tree.specs.Standing.{AreNumbered, CanTurn, trees_of}
+use Rattle.qg_fs_laws.specs.Standing.{AreNumbered, CanTurn, trees_of}
 use Rattle.qg_groups.specs.Tracked.{HoldsAll, HoldsAtMost, IsTracked, quota_of}
-use Rattle.qg_check.specs.Editable.{AreGroupsOf}
-use Rattle.qg_other_trees.specs.Trees.{quota_tree_bytes, root_tree_bytes}
+use Rattle.qg_fs_laws.specs.Editable.{AreGroupsOf}
+use Rattle.qg_fs_laws.specs.Trees.{quota_tree_bytes, root_tree_bytes}
 use Rattle.qg_fs_laws.specs.Keeping.{KeepsState, NamesOthers, other_names}
 use Rattle.qg_fs_laws.specs.Committing.{IsShort}
 use Rattle.qg_kept.specs.declared.kept.Kept.{Kept}

@@ -15,7 +15,7 @@ use Rattle.qg_machine.specs.Written.{new_nodes}
 use Rattle.qg_image.specs.StateOf.{StateOf}
 use Rattle.qg_crashes.specs.Counted.{AreDirect}
 use Rattle.qg_crashes.specs.Slots.{IsInSlot}
-use Rattle.qg_commit.specs.Calls.{MadeFront, commit_calls, with_commit}
+use Rattle.qg_fs_laws.specs.Calls.{MadeFront, commit_calls, with_commit}
 
 -- an image is sound, stands for a committed state, and stores the direct count of each of its groups
 pub record IsCommitted (state : State) (image : List ℕ) : Type 0 where

@@ -16,12 +16,12 @@ use Rattle.qg_refs.specs.declared.kept.What.{What}
 use Rattle.qg_refs.specs.declared.kept.Kept.{Kept as Reference}
 use Rattle.qg_refs.specs.Book.{what_in}
 use Rattle.qg_extents.specs.Table.{book_of}
-use Rattle.qg_commit.specs.Calls.{MadeFront, commit_calls, with_commit}
+use Rattle.qg_fs_laws.specs.Calls.{MadeFront, commit_calls, with_commit}
 use Rattle.qg_space.specs.Holding.{free_slots}
 use Rattle.qg_descent.specs.Tree.{Root}
 use Rattle.qg_descent.specs.Way.{HasRead}
 use Rattle.qg_direct.specs.declared.surveyed.Surveyed.{Surveyed}
-use Rattle.qg_standing.specs.Committing.{for_generation}
+use Rattle.qg_fs_laws.specs.StandingCommitting.{for_generation}
 use Rattle.qg_groups.specs.Tracked.{SameButCounts, quota_of}
 use Rattle.qg_fs_laws.specs.Keeping.{AreDirectCounts}
 use Rattle.qg_fs_laws.specs.Committing.{root_made}

@@ -12,12 +12,12 @@ ghost use Rattle.qg_image.specs.Record.{Record};
 ghost use Rattle.qg_image.specs.State.{State};
 ghost use Rattle.qg_blocks.specs.Told.{BreaksNone, IsBacked, fresh_at};
 ghost use Rattle.qg_blocks.specs.Writing.{AreWritten};
-ghost use Rattle.qg_commit.specs.Calls.{IsReadBack};
+ghost use Rattle.qg_fs_laws.specs.Calls.{IsReadBack};
 ghost use Rattle.qg_space.specs.Holding.{free_slots};
-ghost use Rattle.qg_fs_tree.specs.Standing.{CanTurn, IsSubvolume, Stands};
-ghost use Rattle.qg_standing.specs.Committing.{StandsStill, WritesTree};
-ghost use Rattle.qg_tree_commit.specs.Holds.{AreForgotten, with_tree_commit};
-ghost use Rattle.qg_tree_commit.specs.Writing.{fresh_nodes};
+ghost use Rattle.qg_fs_laws.specs.Standing.{CanTurn, IsSubvolume, Stands};
+ghost use Rattle.qg_fs_laws.specs.StandingCommitting.{StandsStill, WritesTree};
+ghost use Rattle.qg_fs_laws.specs.Holds.{AreForgotten, with_tree_commit};
+ghost use Rattle.qg_fs_laws.specs.Writing.{fresh_nodes};
 ghost use Rattle.qg_groups.specs.Tracked.{HoldsAll, IsTracked, SameButCounts, quota_of};
 ghost use Rattle.qg_kept.specs.Answering.{AnswersOn, is_unchanging};
 ghost use Rattle.qg_kept.specs.Committing.{IsLaidBy, KeepsCommit, LaysSoFar};
@@ -30,11 +30,11 @@ use crate::kept::Kept;
 use crate::planning::{Plan, plan_of};
 use qg_blocks::Blocks;
 use qg_disk::Disk;
+use qg_fs_laws::other_trees::{OtherTrees, Told};
+use qg_fs_laws::standing::committed;
 use qg_groups::QuotaState;
 use qg_image::Quota;
 use qg_num::{Address, Answer, BlockFault, NoMemory, Refusal, Steps};
-use qg_other_trees::{OtherTrees, Told};
-use qg_standing::committed;
 use std::sync::ledger::Ledger;
 
 /// The greatest committed generation that a commit may meet.
@@ -144,7 +144,7 @@ fn write_trees<D: Disk>(kept: &Kept, disk: &mut D, plan: &Plan) -> Result<OtherT
         book: kept.fs.refs.refs(),
         quota: &plan.quota,
     };
-    qg_tree_commit::commit(
+    qg_fs_laws::tree_commit::commit(
         kept.alloc,
         disk,
         &kept.fs.land.blocks,

@@ -24,12 +24,12 @@ use crate::surveying::survey_all;
 use qg_descent::Tree;
 use qg_direct::{Surveyed, group_counts};
 use qg_disk::Disk;
+use qg_fs_laws::other_trees::stamp_after;
 use qg_groups::QuotaState;
 use qg_image::{Group, Quota};
 use qg_num::{
     Address, BlockFault, Counters, Generation, GroupId, NoMemory, RootId, Sequence, Steps,
 };
-use qg_other_trees::stamp_after;
 use std::alloc::{AllocError, Global};
 use std::sync::ledger::Ledger;
 

@@ -2,7 +2,7 @@
 ghost use Rattle.std.specs.Prelude.{◌≡◌, ◌+◌, ◌<◌};
 ghost use Rattle.qg_extents.specs.Table.{IsTable};
 
-use qg_fs_tree::FsTree;
+use qg_fs_laws::fs_tree::FsTree;
 use qg_groups::QuotaState;
 use qg_num::{Generation, RootId, Sequence};
 use qg_super::Super;

@@ -15,4 +15,5 @@ pub use committing::{LAST_GENERATION, commit, commit_now};
 pub use kept::{Kept, count_pending};
 pub use need::{no_nodes, structural_need};
 pub use ownership::owners;
+pub use qg_fs_laws::{check, file_edits, fs_tree, image_commit, tree_refs};
 pub use turning::turn_to;

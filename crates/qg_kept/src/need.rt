@@ -5,7 +5,7 @@ ghost use Rattle.qg_image.specs.Need.{nodes_filled};
 ghost use Rattle.qg_extents.specs.Table.{IsTable};
 ghost use Rattle.qg_space.specs.Holding.{free_slots};
 ghost use Rattle.qg_groups.specs.Tracked.{quota_of};
-ghost use Rattle.qg_other_trees.specs.Trees.{quota_tree_bytes, quota_trees};
+ghost use Rattle.qg_fs_laws.specs.Trees.{quota_tree_bytes, quota_trees};
 ghost use Rattle.qg_kept.specs.Editing.{slots_refusal};
 ghost use Rattle.qg_kept.specs.Keeping.{
   commit_need,

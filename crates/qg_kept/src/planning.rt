@@ -10,7 +10,7 @@ ghost use Rattle.qg_blocks.specs.Told.{BreaksNone};
 ghost use Rattle.qg_extents.specs.Table.{IsTable};
 ghost use Rattle.qg_space.specs.Holding.{free_slots};
 ghost use Rattle.qg_descent.specs.Tree.{Root};
-ghost use Rattle.qg_tree_commit.specs.Holds.{AreFree};
+ghost use Rattle.qg_fs_laws.specs.Holds.{AreFree};
 ghost use Rattle.qg_kept.specs.Keeping.{IsFitted, IsKept, IsKeptWith, commit_need};
 ghost use Rattle.qg_kept.specs.Planning.{
   AreRootsBy,

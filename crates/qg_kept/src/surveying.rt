@@ -11,7 +11,7 @@ ghost use Rattle.qg_blocks.specs.Told.{BreaksNone};
 ghost use Rattle.qg_extents.specs.Table.{IsTable};
 ghost use Rattle.qg_direct.specs.Surveyed.{surveyed_of};
 ghost use Rattle.qg_survey.specs.Surveying.{trees_of as trees_of_state};
-ghost use Rattle.qg_fs_tree.specs.Standing.{trees_of};
+ghost use Rattle.qg_fs_laws.specs.Standing.{trees_of};
 ghost use Rattle.qg_kept.specs.Keeping.{IsKept, IsKeptWith};
 ghost use Rattle.qg_kept.specs.Planning.{AreInOrder, HasSurveyed};
 
@@ -19,7 +19,7 @@ use crate::kept::Kept;
 use qg_descent::Tree;
 use qg_direct::Surveyed;
 use qg_disk::Disk;
-use qg_fs_tree::FsTree;
+use qg_fs_laws::fs_tree::FsTree;
 use qg_num::{BlockFault, NoMemory, Rule, Steps};
 use qg_survey::survey;
 use std::alloc::{AllocError, Global};

@@ -1,3 +1,5 @@
+pub use Rattle.qg_check.proofs.Found as CheckFound
+pub use Rattle.qg_check.proofs.Verdicts
 pub mod Slots
 pub mod Enough
 pub mod TreesIn

@@ -1,5 +1,10 @@
+pub use Rattle.qg_check.specs.Editable
+pub use Rattle.qg_check.specs.IsImage
+pub use Rattle.qg_check.specs.Report
+pub use Rattle.qg_check.specs.Stale
 pub mod Trees
 pub mod Telling
 pub mod Holds
 pub mod Sound
 pub mod Laws
+pub mod Types

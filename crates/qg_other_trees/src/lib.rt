@@ -11,3 +11,4 @@ pub use laws::{
     other_trees_tell_the_state, whole_owes_what_begins,
 };
 pub use laying::{OtherTrees, Told, lay_other_trees, stamp_after};
+pub use qg_check as check;

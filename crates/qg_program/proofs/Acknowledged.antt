@@ -12,9 +12,9 @@ use Rattle.qg_image.specs.State.{Committed, State}
 use Rattle.qg_machine.specs.Written.{new_nodes}
 use Rattle.qg_crashes.specs.Outcomes.{Rests}
 use Rattle.qg_crashes.proofs.Moments.{length-events_by}
-use Rattle.qg_commit.specs.Calls.{commit_calls, with_commit}
-use Rattle.qg_commit.specs.Opened.{IsOpened, stale_of}
-use Rattle.qg_commit.specs.Opening.{with_repair}
+use Rattle.qg_store.specs.Calls.{commit_calls, with_commit}
+use Rattle.qg_store.specs.CommitOpened.{IsOpened, stale_of}
+use Rattle.qg_store.specs.CommitOpening.{with_repair}
 use Rattle.qg_store.specs.Crashes.{last_commit}
 use Rattle.qg_kept.specs.Making.{Makes}
 use Rattle.qg_store.proofs.Chained.{MakesSoFar, rests-behind}

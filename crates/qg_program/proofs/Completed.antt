@@ -6,9 +6,9 @@ use Rattle.qg_grammar.specs.ScriptText.{longest_script}
 use Rattle.qg_image.specs.State.{State}
 use Rattle.qg_image.specs.Verdict.{IsSound, verdict}
 use Rattle.qg_image.specs.declared.failure.Failure.{Failure}
-use Rattle.qg_check.specs.Report.{IsReportOn}
-use Rattle.qg_check.specs.declared.report.Report.{Report}
-use Rattle.qg_check.specs.declared.report.Report.TheVariants.{Sound, Broken, Differs}
+use Rattle.qg_store.specs.Report.{IsReportOn}
+use Rattle.qg_store.specs.Types.{Report}
+use Rattle.qg_store.specs.Types.{Sound, Broken, Differs}
 use Rattle.qg_program.specs.declared.status.Status.{Status}
 use Rattle.qg_program.specs.declared.status.Status.TheVariants as status
 use Rattle.qg_program.specs.Checking.{Checks, report_end}

@@ -13,7 +13,7 @@ use Rattle.qg_grammar.specs.ReplyText.{reply_text}
 use Rattle.qg_grammar.specs.ScriptText.{command_text, is_in_grammar, IsLineOf}
 use Rattle.qg_image.specs.State.{State}
 use Rattle.qg_machine.specs.Run.{Run}
-use Rattle.qg_commit.specs.Opened.{IsOpened, IsOpening}
+use Rattle.qg_store.specs.CommitOpened.{IsOpened, IsOpening}
 use Rattle.qg_generator.specs.GeneratedScript.{generated_script}
 use Rattle.qg_script.specs.ReportText.{summary_text}
 use Rattle.qg_program.specs.declared.generate.Tally.{Tally}

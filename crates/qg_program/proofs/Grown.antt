@@ -14,8 +14,8 @@ use Rattle.qg_image.specs.State.{State}
 use Rattle.qg_crashes.specs.Committing.{FailsAfter, IsFront}
 use Rattle.qg_crashes.specs.Outcomes.{Chain, Commit, behind}
 use Rattle.qg_crashes.specs.Slots.{events_of_commit}
-use Rattle.qg_commit.specs.Calls.{Call, WriteAt, Sync, IsFront as IsFrontOfCalls, commit_calls, node_calls}
-use Rattle.qg_commit.specs.Calls.{superblock_calls, with_calls, with_commit, with_nodes}
+use Rattle.qg_store.specs.Calls.{Call, WriteAt, Sync, IsFront as IsFrontOfCalls, commit_calls, node_calls}
+use Rattle.qg_store.specs.Calls.{superblock_calls, with_calls, with_commit, with_nodes}
 
 -- these events came behind those
 pub record Grown (before after : List Event) : Type 0 where

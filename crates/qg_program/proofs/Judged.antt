@@ -9,9 +9,9 @@ use Rattle.qg_image.specs.Verdict.{IsSound, verdict}
 use Rattle.qg_image.specs.declared.failure.Failure.{Failure}
 use Rattle.qg_walk.specs.declared.fault.OpenFault.{OpenFault}
 use Rattle.qg_walk.specs.declared.fault.OpenFault.TheVariants as opening
-use Rattle.qg_check.proofs.Verdicts.{verdict_none}
-use Rattle.qg_commit.specs.Opened.{IsOpening}
-use Rattle.qg_commit.specs.Opening.{IsLookedAt, IsUntouched}
+use Rattle.qg_store.proofs.Verdicts.{verdict_none}
+use Rattle.qg_store.specs.CommitOpened.{IsOpening}
+use Rattle.qg_store.specs.CommitOpening.{IsLookedAt, IsUntouched}
 use Rattle.qg_program.specs.declared.status.Status.{Status}
 use Rattle.qg_program.specs.declared.status.Status.TheVariants as status
 use Rattle.qg_program.specs.Following.{Follows}

@@ -16,10 +16,10 @@ use Rattle.qg_crashes.specs.Repairing.{Repairing}
 use Rattle.qg_crashes.specs.States.{with_place}
 use Rattle.qg_crashes.proofs.Outcomes.{run_survives}
 use Rattle.qg_crashes.proofs.SameStates.{sound_places}
-use Rattle.qg_commit.specs.Calls.{with_commit}
-use Rattle.qg_commit.specs.Opened.{IsOpened, IsRepairing, stale_of}
-use Rattle.qg_commit.specs.Opening.{with_repair}
-use Rattle.qg_commit.proofs.OpeningCalls.{opening_repairs}
+use Rattle.qg_store.specs.Calls.{with_commit}
+use Rattle.qg_store.specs.CommitOpened.{IsOpened, IsRepairing, stale_of}
+use Rattle.qg_store.specs.CommitOpening.{with_repair}
+use Rattle.qg_store.proofs.OpeningCalls.{opening_repairs}
 use Rattle.qg_store.specs.Crashes.{IsLastCommit, LeavesOneOf, last_commit}
 use Rattle.qg_kept.specs.Making.{Makes}
 use Rattle.qg_store.proofs.Chained.{ChainOf, MakesSoFar, chain-leaves, chained, dated-states, makes-then, rests-behind}

@@ -3,8 +3,8 @@ use Rattle.std.proofs.Common.{◌≡◌, ◌≢◌, inl, inr, ℕ, Bool, true, f
 use Rattle.std.specs.Io.KnownBytes.{append_known}
 use Rattle.std.proofs.lemmas.Bool.{true≢false}
 use Rattle.qg_device.specs.History.{Event}
-use Rattle.qg_check.specs.declared.report.Report.{Report}
-use Rattle.qg_check.specs.declared.report.Report.TheVariants.{Sound, Broken, Differs}
+use Rattle.qg_store.specs.Types.{Report}
+use Rattle.qg_store.specs.Types.{Sound, Broken, Differs}
 use Rattle.qg_program.specs.declared.status.Status.{Status}
 use Rattle.qg_program.specs.declared.status.Status.TheVariants as status
 use Rattle.qg_edge.specs.Appended.{AppendsFront}

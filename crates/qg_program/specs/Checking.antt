@@ -5,9 +5,9 @@ use Rattle.qg_device.specs.History.{Event, content}
 use Rattle.qg_edge.specs.Appended.{AppendsFront}
 use Rattle.qg_grammar.specs.FailureText.{broken_text, differs_text}
 use Rattle.qg_script.specs.ReportText.{sound_text}
-use Rattle.qg_check.specs.Report.{IsReportOn}
-use Rattle.qg_check.specs.declared.report.Report.{Report}
-use Rattle.qg_check.specs.declared.report.Report.TheVariants.{Sound, Broken, Differs}
+use Rattle.qg_store.specs.Report.{IsReportOn}
+use Rattle.qg_store.specs.Types.{Report}
+use Rattle.qg_store.specs.Types.{Sound, Broken, Differs}
 use Rattle.qg_program.specs.declared.status.Status.{Status}
 use Rattle.qg_program.specs.declared.status.Status.TheVariants as status
 

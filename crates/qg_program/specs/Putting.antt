@@ -15,10 +15,10 @@ use Rattle.qg_image.specs.declared.failure.Failure.{Failure}
 use Rattle.qg_image.specs.declared.failure.Failure.TheVariants.{Broken, Differs}
 use Rattle.qg_super.specs.declared.sizes.Sizes.{Sizes}
 use Rattle.qg_super.specs.Places.{slot_at}
-use Rattle.qg_commit.specs.Calls.{with_image}
-use Rattle.qg_commit.specs.Fresh.{fresh_nodes, fresh_super}
-use Rattle.qg_commit.specs.Mkfs.{HoldsFreshImage}
-use Rattle.qg_commit.specs.Opening.{IsLookedAt}
+use Rattle.qg_store.specs.Calls.{with_image}
+use Rattle.qg_store.specs.Fresh.{fresh_nodes, fresh_super}
+use Rattle.qg_store.specs.Mkfs.{HoldsFreshImage}
+use Rattle.qg_store.specs.CommitOpening.{IsLookedAt}
 use Rattle.qg_program.specs.Ends.{is_judged, is_made}
 use Rattle.qg_program.specs.Words.{AskToGenerate, AskToOpen, AskToRun}
 use Rattle.qg_program.specs.declared.status.Status.{Status}

@@ -7,11 +7,11 @@ ghost use Rattle.qg_program.specs.Checking.{Checks, Says, report_end, report_tex
 
 use crate::Status;
 use crate::put::put_and_end;
-use qg_check::{CheckFault, Report, count_image};
 use qg_disk::Disk;
 use qg_edge::Sink;
 use qg_num::NoMemory;
 use qg_script::{Text, write_broken, write_differs, write_sound};
+use qg_store::check::{CheckFault, Report, count_image};
 use std::alloc::Global;
 
 /// Judges the image, which is not written, and says what it is.

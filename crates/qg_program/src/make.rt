@@ -4,17 +4,17 @@ ghost use Rattle.std.specs.Option.{option_map};
 ghost use Rattle.qg_device.specs.Cause.{Rose};
 ghost use Rattle.qg_device.specs.History.{Event};
 ghost use Rattle.qg_super.specs.Places.{is_served, slot_at};
-ghost use Rattle.qg_commit.specs.Calls.{with_image};
-ghost use Rattle.qg_commit.specs.Fresh.{fresh_nodes, fresh_super};
-ghost use Rattle.qg_commit.specs.Mkfs.{HoldsFreshImage};
+ghost use Rattle.qg_store.specs.Calls.{with_image};
+ghost use Rattle.qg_store.specs.Fresh.{fresh_nodes, fresh_super};
+ghost use Rattle.qg_store.specs.Mkfs.{HoldsFreshImage};
 ghost use Rattle.qg_program.specs.Ends.{is_made, is_makers};
 ghost use Rattle.qg_program.specs.Putting.{SaysMade};
 
 use crate::Status;
 use crate::put::put;
-use qg_commit::{MkfsFault, mkfs};
 use qg_disk::Disk;
 use qg_edge::Sink;
+use qg_store::image_commit::{MkfsFault, mkfs};
 use qg_super::Sizes;
 use std::alloc::Global;
 

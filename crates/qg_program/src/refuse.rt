@@ -9,9 +9,9 @@ ghost use Rattle.qg_program.specs.Putting.{Refuses, SaysFailure, failure_text};
 
 use crate::Status;
 use crate::put::put;
-use qg_commit::OpenFault;
 use qg_edge::Sink;
 use qg_script::{Text, write_broken, write_differs};
+use qg_store::image_commit::OpenFault;
 use std::alloc::Global;
 
 /// Says why the image was not opened, where it is not sound.

@@ -1,3 +1,9 @@
+pub use Rattle.qg_gathered.proofs.Apart
+pub use Rattle.qg_gathered.proofs.Found
+pub use Rattle.qg_gathered.proofs.Laid
+pub use Rattle.qg_gathered.proofs.Runs
+pub use Rattle.qg_gathered.proofs.Sorted
+pub use Rattle.qg_gathered.proofs.Verdicts
 pub mod Forms
 pub mod Walks
 pub mod Wells

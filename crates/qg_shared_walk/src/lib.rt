@@ -9,4 +9,5 @@ mod tree;
 mod unkept;
 mod walk;
 
+pub use qg_gathered as gathered;
 pub use subvolumes::read_subvolumes;

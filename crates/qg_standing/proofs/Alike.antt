@@ -27,12 +27,12 @@ use Rattle.qg_blocks.proofs.Written.{Keeps-fewer, Keeps-synced, Keeps-then, Keep
 use Rattle.qg_refs.specs.Book.{full_in}
 use Rattle.qg_extents.specs.Table.{book_of}
 use Rattle.qg_descent.specs.Tree.{IsTree, Reaches, Root, super_of}
-use Rattle.qg_tree_edits.specs.Counting.{ways}
-use Rattle.qg_tree_edits.specs.Rooting.{IsRooted}
-use Rattle.qg_fs_tree.specs.declared.fs_tree.FsTree.{FsTree}
-use Rattle.qg_fs_tree.specs.Standing.{IsAtHome, IsBeside, IsKnownExtent, IsReachedBy, IsSubvolume, Stands, every_slot}
-use Rattle.qg_fs_tree.specs.Standing.{items_in, layout_in, name_told, names_elsewhere, names_times, nodes_of, roots_of}
-use Rattle.qg_fs_tree.specs.Standing.{trees_of}
+use Rattle.qg_fs_layout.specs.Counting.{ways}
+use Rattle.qg_fs_layout.specs.Rooting.{IsRooted}
+use Rattle.qg_fs_layout.specs.Types.{FsTree}
+use Rattle.qg_fs_layout.specs.Standing.{IsAtHome, IsBeside, IsKnownExtent, IsReachedBy, IsSubvolume, Stands, every_slot}
+use Rattle.qg_fs_layout.specs.Standing.{items_in, layout_in, name_told, names_elsewhere, names_times, nodes_of, roots_of}
+use Rattle.qg_fs_layout.specs.Standing.{trees_of}
 use Rattle.qg_standing.specs.Committing.{StandsStill}
 use Rattle.qg_standing.specs.Knowing.{IsSameButClean}
 

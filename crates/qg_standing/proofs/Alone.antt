@@ -10,7 +10,7 @@ use Rattle.qg_image.specs.Table.{has_key, keys_of}
 use Rattle.qg_image.proofs.Contained.{contains_cases, contains_here, none_contained}
 use Rattle.qg_image.specs.ImageState.{roots_in, subvolume_roots}
 use Rattle.qg_descent.specs.Tree.{Root}
-use Rattle.qg_fs_tree.specs.declared.fs_tree.FsTree.{FsTree}
+use Rattle.qg_fs_layout.specs.Types.{FsTree}
 use Rattle.qg_standing.specs.Committing.{IsCommitted, for_generation}
 use Rattle.qg_standing.specs.Opening.{IsOpened, IsSoundSubvolume, opened_tree, opened_trees}
 

@@ -26,19 +26,19 @@ use Rattle.qg_refs.specs.Book.{references_in, what_in}
 use Rattle.qg_extents.specs.Table.{IsTable, book_of}
 use Rattle.qg_extents.proofs.Sayable.{entry-found}
 use Rattle.qg_descent.specs.Tree.{Root, super_of}
-use Rattle.qg_tree_refs.specs.Following.{references_to}
-use Rattle.qg_tree_refs.specs.Settled.{what_of}
-use Rattle.qg_forest.proofs.Referring.{OwesChild, OwesRoot, OwesRun, counted-by, referred-counted}
-use Rattle.qg_fs_tree.specs.declared.fs_tree.FsTree.{FsTree}
-use Rattle.qg_fs_tree.specs.Standing.{IsReachedBy, IsSubvolume, Stands, items_in, layout_in, name_of, name_told}
-use Rattle.qg_fs_tree.specs.Standing.{names_elsewhere, names_times, nodes_of, roots_of, trees_of}
-use Rattle.qg_fs_tree.proofs.Before.{known_of, names_there}
-use Rattle.qg_fs_tree.proofs.Counts.{node-there}
-use Rattle.qg_fs_tree.proofs.Fixed.{elsewhere_name, tree_below}
+use Rattle.qg_fs_layout.specs.Following.{references_to}
+use Rattle.qg_fs_layout.specs.Settled.{what_of}
+use Rattle.qg_fs_layout.proofs.Referring.{OwesChild, OwesRoot, OwesRun, counted-by, referred-counted}
+use Rattle.qg_fs_layout.specs.Types.{FsTree}
+use Rattle.qg_fs_layout.specs.Standing.{IsReachedBy, IsSubvolume, Stands, items_in, layout_in, name_of, name_told}
+use Rattle.qg_fs_layout.specs.Standing.{names_elsewhere, names_times, nodes_of, roots_of, trees_of}
+use Rattle.qg_fs_layout.proofs.Before.{known_of, names_there}
+use Rattle.qg_fs_layout.proofs.Counts.{node-there}
+use Rattle.qg_fs_layout.proofs.Fixed.{elsewhere_name, tree_below}
 use Rattle.qg_descent.proofs.BranchItems.{from-leaf}
-use Rattle.qg_fs_tree.proofs.Lists.{made-some}
-use Rattle.qg_fs_tree.proofs.Nodes.{IsNamed, names-some, times-many}
-use Rattle.qg_fs_tree.proofs.Owings.{names_of}
+use Rattle.qg_fs_layout.proofs.Lists.{made-some}
+use Rattle.qg_fs_layout.proofs.FsTreeNodes.{IsNamed, names-some, times-many}
+use Rattle.qg_fs_layout.proofs.Owings.{names_of}
 use Rattle.qg_fs_layout.specs.Laying.{IsMet, IsMetAs, nodes_in}
 use Rattle.qg_fs_layout.proofs.Extents.{own-extent}
 use Rattle.qg_fs_layout.proofs.Held.{met-referred}

@@ -1,3 +1,4 @@
+pub use Rattle.qg_gathered.proofs.Sorted
 pub mod Later
 pub mod Known
 pub mod Dated

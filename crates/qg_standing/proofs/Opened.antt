@@ -39,13 +39,13 @@ use Rattle.qg_descent.specs.Tree.{IsTree, Reaches, Root, TellsTree}
 use Rattle.qg_descent.proofs.BranchWalk.{branch-under}
 use Rattle.qg_descent.proofs.Branches.{branch-level}
 use Rattle.qg_descent.proofs.Walked.{IsTree-walked, TellsTree-walked}
-use Rattle.qg_tree_edits.specs.Rooting.{IsRooted}
-use Rattle.qg_fs_tree.specs.declared.fs_tree.FsTree.{FsTree}
-use Rattle.qg_fs_tree.specs.Standing.{CanTurn, IsReachedBy, IsSubvolume, items_in, nodes_of, trees_of}
-use Rattle.qg_fs_tree.proofs.Before.{among_of}
-use Rattle.qg_fs_tree.proofs.Lists.{from-flat, from-mapped, has-flat, has-mapped}
-use Rattle.qg_fs_tree.proofs.Lying.{told-at}
-use Rattle.qg_fs_tree.proofs.Renamed.{told-slot}
+use Rattle.qg_fs_layout.specs.Rooting.{IsRooted}
+use Rattle.qg_fs_layout.specs.Types.{FsTree}
+use Rattle.qg_fs_layout.specs.Standing.{CanTurn, IsReachedBy, IsSubvolume, items_in, nodes_of, trees_of}
+use Rattle.qg_fs_layout.proofs.Before.{among_of}
+use Rattle.qg_fs_layout.proofs.Lists.{from-flat, from-mapped, has-flat, has-mapped}
+use Rattle.qg_fs_layout.proofs.Lying.{told-at}
+use Rattle.qg_fs_layout.proofs.Renamed.{told-slot}
 use Rattle.qg_fs_layout.specs.Laying.{IsMet}
 use Rattle.qg_fs_layout.proofs.Moved.{free-apart}
 use Rattle.qg_fs_layout.proofs.Reach.{reach-on}

@@ -42,25 +42,25 @@ use Rattle.qg_extents.proofs.Agreeing.{book_agrees}
 use Rattle.qg_space.proofs.Marks.{SlotsFit-is_served}
 use Rattle.qg_descent.specs.Tree.{Root, super_of}
 use Rattle.qg_descent.proofs.BranchFrames.{reach-same, reach-top}
-use Rattle.qg_tree_edits.specs.Rooting.{IsRooted}
-use Rattle.qg_tree_edits.proofs.Downward.{ways-closed}
-use Rattle.qg_tree_edits.proofs.Ways.{ways-some}
-use Rattle.qg_tree_refs.specs.Following.{references_to}
-use Rattle.qg_forest.proofs.Extents.{among-one}
-use Rattle.qg_forest.proofs.Homes.{owner-reaches}
-use Rattle.qg_forest.proofs.Referring.{OwesChild, OwesRoot, child-counted, extents-named, owed-referred, referred-owed}
-use Rattle.qg_forest.proofs.Referring.{root-counted}
-use Rattle.qg_fs_tree.specs.declared.fs_tree.FsTree.{FsTree}
-use Rattle.qg_fs_tree.specs.Standing.{IsAtHome, IsKnownExtent, IsReachedBy, extents_named, items_in, layout_in}
-use Rattle.qg_fs_tree.specs.Standing.{name_told, names_elsewhere, names_times, nodes_of, trees_of}
-use Rattle.qg_fs_tree.proofs.Counts.{branch, single-way}
-use Rattle.qg_fs_tree.proofs.FewNames.{names-few}
+use Rattle.qg_fs_layout.specs.Rooting.{IsRooted}
+use Rattle.qg_fs_layout.proofs.Downward.{ways-closed}
+use Rattle.qg_fs_layout.proofs.Ways.{ways-some}
+use Rattle.qg_fs_layout.specs.Following.{references_to}
+use Rattle.qg_fs_layout.proofs.ForestExtents.{among-one}
+use Rattle.qg_fs_layout.proofs.Homes.{owner-reaches}
+use Rattle.qg_fs_layout.proofs.Referring.{OwesChild, OwesRoot, child-counted, extents-named, owed-referred, referred-owed}
+use Rattle.qg_fs_layout.proofs.Referring.{root-counted}
+use Rattle.qg_fs_layout.specs.Types.{FsTree}
+use Rattle.qg_fs_layout.specs.Standing.{IsAtHome, IsKnownExtent, IsReachedBy, extents_named, items_in, layout_in}
+use Rattle.qg_fs_layout.specs.Standing.{name_told, names_elsewhere, names_times, nodes_of, trees_of}
+use Rattle.qg_fs_layout.proofs.Counts.{branch, single-way}
+use Rattle.qg_fs_layout.proofs.FewNames.{names-few}
 use Rattle.qg_descent.proofs.BranchItems.{from-leaf, in-leaf}
-use Rattle.qg_fs_tree.proofs.Lists.{all-contained, from-flat, from-mapped, from-some, has-flat, has-mapped, made-some}
-use Rattle.qg_fs_tree.proofs.Nodes.{last-step}
-use Rattle.qg_fs_tree.proofs.Places.{slot-once}
-use Rattle.qg_fs_tree.proofs.Reached.{reached-some}
-use Rattle.qg_fs_tree.proofs.Sound.{told-formed}
+use Rattle.qg_fs_layout.proofs.Lists.{all-contained, from-flat, from-mapped, from-some, has-flat, has-mapped, made-some}
+use Rattle.qg_fs_layout.proofs.FsTreeNodes.{last-step}
+use Rattle.qg_fs_layout.proofs.Places.{slot-once}
+use Rattle.qg_fs_layout.proofs.Reached.{reached-some}
+use Rattle.qg_fs_layout.proofs.Sound.{told-formed}
 use Rattle.qg_fs_layout.specs.Laying.{IsMet, names_in}
 use Rattle.qg_fs_layout.proofs.Extents.{TellsExtent, from-files, from-layout, from-present, in-files, in-layout}
 use Rattle.qg_fs_layout.proofs.Extents.{in-present, own-extent}

@@ -21,9 +21,9 @@ use Rattle.qg_refs.specs.Book.{full_in}
 use Rattle.qg_extents.specs.Table.{book_of}
 use Rattle.qg_space.proofs.Marks.{SlotsFit-is_served}
 use Rattle.qg_descent.specs.Tree.{Root}
-use Rattle.qg_fs_tree.specs.declared.fs_tree.FsTree.{FsTree}
-use Rattle.qg_fs_tree.specs.Standing.{layout_in, nodes_of, roots_of}
-use Rattle.qg_fs_tree.proofs.Lists.{from-mapped, has-mapped}
+use Rattle.qg_fs_layout.specs.Types.{FsTree}
+use Rattle.qg_fs_layout.specs.Standing.{layout_in, nodes_of, roots_of}
+use Rattle.qg_fs_layout.proofs.Lists.{from-mapped, has-mapped}
 use Rattle.qg_fs_layout.specs.Laying.{IsMet, IsMetAs, nodes_in}
 use Rattle.qg_fs_layout.proofs.Nodes.{nodes-ascend, reached-by, value-reached}
 use Rattle.qg_fs_layout.proofs.Roots.{root-tree, roots-ascend, tree-root}

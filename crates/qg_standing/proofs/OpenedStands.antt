@@ -25,13 +25,13 @@ use Rattle.qg_refs.specs.declared.kept.What.{What}
 use Rattle.qg_refs.specs.Book.{count_at, what_in}
 use Rattle.qg_extents.specs.Table.{IsTable, book_of}
 use Rattle.qg_descent.specs.Tree.{Root}
-use Rattle.qg_tree_edits.specs.Rooting.{IsRooted}
-use Rattle.qg_tree_refs.specs.declared.tree_refs.TreeRefs.{TreeRefs}
-use Rattle.qg_tree_refs.specs.Following.{references_to}
-use Rattle.qg_tree_refs.specs.Settled.{IsSettled, what_of}
-use Rattle.qg_fs_tree.specs.declared.fs_tree.FsTree.{FsTree}
-use Rattle.qg_fs_tree.specs.Standing.{IsBeside, Stands, layout_in, name_told, names_times, nodes_of}
-use Rattle.qg_fs_tree.proofs.Before.{index_among}
+use Rattle.qg_fs_layout.specs.Rooting.{IsRooted}
+use Rattle.qg_fs_layout.specs.Types.{TreeRefs}
+use Rattle.qg_fs_layout.specs.Following.{references_to}
+use Rattle.qg_fs_layout.specs.Settled.{IsSettled, what_of}
+use Rattle.qg_fs_layout.specs.Types.{FsTree}
+use Rattle.qg_fs_layout.specs.Standing.{IsBeside, Stands, layout_in, name_told, names_times, nodes_of}
+use Rattle.qg_fs_layout.proofs.Before.{index_among}
 use Rattle.qg_fs_layout.specs.Laying.{IsMet, names_in}
 use Rattle.qg_standing.specs.Opening.{IsOpened, IsSoundImage, StandsOpened}
 use Rattle.qg_standing.proofs.Opened.{items-opened, met-slot, next-opened, no-fresh-opened, other-number, others-ascend}

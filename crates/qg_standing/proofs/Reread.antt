@@ -9,8 +9,8 @@ use Rattle.qg_node.specs.declared.node.Node.{Node}
 use Rattle.qg_blocks.specs.Held.{Draft}
 use Rattle.qg_blocks.specs.Standing.{standing}
 use Rattle.qg_blocks.specs.Told.{fresh_at, told, told_or}
-use Rattle.qg_fs_tree.specs.declared.fs_tree.FsTree.{FsTree}
-use Rattle.qg_fs_tree.specs.Standing.{nodes_of}
+use Rattle.qg_fs_layout.specs.Types.{FsTree}
+use Rattle.qg_fs_layout.specs.Standing.{nodes_of}
 use Rattle.qg_fs_layout.proofs.Moved.{fresh-told}
 use Rattle.qg_standing.specs.Committing.{IsCommitted, WritesTree}
 

@@ -36,20 +36,20 @@ use Rattle.qg_extents.specs.Table.{IsTable, book_of}
 use Rattle.qg_descent.specs.Tree.{Root, super_of}
 use Rattle.qg_descent.proofs.BranchFrames.{reach-same}
 use Rattle.qg_descent.proofs.Frames.{IsTree-same}
-use Rattle.qg_tree_edits.specs.Rooting.{IsRooted}
-use Rattle.qg_tree_edits.proofs.Ways.{ways-same}
-use Rattle.qg_tree_refs.specs.declared.tree_refs.TreeRefs.{TreeRefs}
-use Rattle.qg_tree_refs.specs.Following.{references_to}
-use Rattle.qg_tree_refs.specs.Settled.{IsSettled, what_of}
-use Rattle.qg_fs_tree.specs.declared.fs_tree.FsTree.{FsTree}
-use Rattle.qg_fs_tree.specs.Standing.{AreNamed, CanTurn, IsAtHome, IsBeside, IsKnownExtent, IsReachedBy, IsSubvolume}
-use Rattle.qg_fs_tree.specs.Standing.{Stands, every_slot, extents_named, items_in, layout_in, name_told}
-use Rattle.qg_fs_tree.specs.Standing.{names_elsewhere, names_times, nodes_of, placed_at, roots_of, trees_of, ways_in}
-use Rattle.qg_fs_tree.proofs.Before.{index_among, known_of, other_stands}
-use Rattle.qg_fs_tree.proofs.Beside.{mark_of}
-use Rattle.qg_fs_tree.proofs.Lists.{from-mapped, has-mapped}
-use Rattle.qg_fs_tree.proofs.Reached.{reached-some}
-use Rattle.qg_fs_tree.proofs.Renamed.{told-slot}
+use Rattle.qg_fs_layout.specs.Rooting.{IsRooted}
+use Rattle.qg_fs_layout.proofs.Ways.{ways-same}
+use Rattle.qg_fs_layout.specs.Types.{TreeRefs}
+use Rattle.qg_fs_layout.specs.Following.{references_to}
+use Rattle.qg_fs_layout.specs.Settled.{IsSettled, what_of}
+use Rattle.qg_fs_layout.specs.Types.{FsTree}
+use Rattle.qg_fs_layout.specs.Standing.{AreNamed, CanTurn, IsAtHome, IsBeside, IsKnownExtent, IsReachedBy, IsSubvolume}
+use Rattle.qg_fs_layout.specs.Standing.{Stands, every_slot, extents_named, items_in, layout_in, name_told}
+use Rattle.qg_fs_layout.specs.Standing.{names_elsewhere, names_times, nodes_of, placed_at, roots_of, trees_of, ways_in}
+use Rattle.qg_fs_layout.proofs.Before.{index_among, known_of, other_stands}
+use Rattle.qg_fs_layout.proofs.Beside.{mark_of}
+use Rattle.qg_fs_layout.proofs.Lists.{from-mapped, has-mapped}
+use Rattle.qg_fs_layout.proofs.Reached.{reached-some}
+use Rattle.qg_fs_layout.proofs.Renamed.{told-slot}
 use Rattle.qg_fs_layout.specs.Laying.{IsMet}
 use Rattle.qg_fs_layout.proofs.Held.{met-taken}
 use Rattle.qg_fs_layout.proofs.Moved.{free-apart}

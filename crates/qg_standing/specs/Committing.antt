@@ -9,8 +9,8 @@ use Rattle.qg_blocks.specs.Writing.{AreWritten, Keeps}
 use Rattle.qg_refs.specs.Book.{full_in}
 use Rattle.qg_extents.specs.Table.{book_of}
 use Rattle.qg_descent.specs.Tree.{Root}
-use Rattle.qg_fs_tree.specs.declared.fs_tree.FsTree.{FsTree}
-use Rattle.qg_fs_tree.specs.Standing.{IsReachedBy, Stands, items_in, layout_in, nodes_of, trees_of}
+use Rattle.qg_fs_layout.specs.Types.{FsTree}
+use Rattle.qg_fs_layout.specs.Standing.{IsReachedBy, Stands, items_in, layout_in, nodes_of, trees_of}
 use Rattle.qg_fs_layout.specs.Laying.{IsMet}
 
 -- A commit wrote each fresh node where it lies, and in the slots that the last commit holds stands what stood

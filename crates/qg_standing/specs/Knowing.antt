@@ -6,9 +6,9 @@ use Rattle.qg_node.specs.Nodes.{header_of}
 use Rattle.qg_refs.specs.declared.kept.What.{What}
 use Rattle.qg_refs.specs.Book.{what_in}
 use Rattle.qg_extents.specs.Table.{book_of}
-use Rattle.qg_tree_refs.specs.Settled.{what_of}
-use Rattle.qg_fs_tree.specs.declared.fs_tree.FsTree.{FsTree}
-use Rattle.qg_fs_tree.specs.Standing.{nodes_of}
+use Rattle.qg_fs_layout.specs.Settled.{what_of}
+use Rattle.qg_fs_layout.specs.Types.{FsTree}
+use Rattle.qg_fs_layout.specs.Standing.{nodes_of}
 
 -- a tree is the same, but for the clean nodes in memory
 abbrev pub IsSameButClean : FsTree → FsTree → Type 0

@@ -10,8 +10,8 @@ use Rattle.qg_super.specs.SuperText.{sizes_of, super_text}
 use Rattle.qg_blocks.specs.Told.{IsBacked}
 use Rattle.qg_blocks.specs.Writing.{Keeps}
 use Rattle.qg_extents.specs.Table.{IsTable}
-use Rattle.qg_fs_tree.specs.declared.fs_tree.FsTree.{FsTree}
-use Rattle.qg_fs_tree.specs.Standing.{CanTurn, IsSubvolume, Stands, nodes_of}
+use Rattle.qg_fs_layout.specs.Types.{FsTree}
+use Rattle.qg_fs_layout.specs.Standing.{CanTurn, IsSubvolume, Stands, nodes_of}
 use Rattle.qg_standing.specs.Committing.{IsCommitted, StandsStill, WritesTree}
 use Rattle.qg_standing.specs.Knowing.{IsSameButClean, KnowsRoot}
 use Rattle.qg_standing.specs.Opening.{IsOpened, IsSoundImage, StandsOpened}

@@ -27,8 +27,8 @@ use Rattle.qg_blocks.specs.Held.{nothing_fresh, slots_of}
 use Rattle.qg_descent.specs.Tree.{Root}
 use Rattle.qg_extents.specs.Table.{book_of}
 use Rattle.qg_extents.specs.Told.{IsTold}
-use Rattle.qg_fs_tree.specs.declared.fs_tree.FsTree.{FsTree}
-use Rattle.qg_fs_tree.specs.Standing.{Stands, items_in, layout_in}
+use Rattle.qg_fs_layout.specs.Types.{FsTree}
+use Rattle.qg_fs_layout.specs.Standing.{Stands, items_in, layout_in}
 use Rattle.qg_fs_layout.specs.Laying.{names_in}
 
 -- What is known of a subvolume of a sound image by its ROOT_ITEM: the walk of its tree meets no failure, its items and

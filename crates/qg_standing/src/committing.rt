@@ -7,13 +7,13 @@ ghost use Rattle.qg_node.specs.declared.item.Item.{Item};
 ghost use Rattle.qg_blocks.specs.Told.{IsBacked};
 ghost use Rattle.qg_blocks.specs.Writing.{AreWritten, Keeps};
 ghost use Rattle.qg_space.specs.Holding.{is_free_slot};
-ghost use Rattle.qg_fs_tree.specs.Standing.{CanTurn, IsSubvolume, Stands};
+ghost use Rattle.qg_fs_layout.specs.Standing.{CanTurn, IsSubvolume, Stands};
 ghost use Rattle.qg_standing.specs.Committing.{IsCommitted, StandsStill, WritesTree, for_generation};
 
 use crate::slots::hold_besides;
 use qg_descent::Tree;
 use qg_disk::Disk;
-use qg_fs_tree::FsTree;
+use qg_fs_layout::fs_tree::FsTree;
 use qg_num::{Address, Generation, NoMemory};
 
 /// The tree stands for the generation `next` to come.

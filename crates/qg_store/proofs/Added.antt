@@ -25,14 +25,14 @@ use Rattle.qg_reach.proofs.Layouts.{value_at-with_other, value_at-with_same}
 use Rattle.qg_ground.specs.Land.{IsDrafted}
 use Rattle.qg_descent.specs.Tree.{Root}
 use Rattle.qg_file_items.proofs.Tables.{increasing-with}
-use Rattle.qg_fs_tree.specs.Standing.{AreNumbered, CanTurn, trees_of}
-use Rattle.qg_fs_tree.proofs.Lists.{from-mapped, has-mapped}
+use Rattle.qg_kept.specs.Standing.{AreNumbered, CanTurn, trees_of}
+use Rattle.qg_kept.proofs.Lists.{from-mapped, has-mapped}
 use Rattle.qg_hier.specs.Faults.{create_fault}
 use Rattle.qg_groups.specs.declared.state.QuotaState.{QuotaState}
 use Rattle.qg_groups.specs.Changing.{groups_in, pairs_in}
 use Rattle.qg_groups.specs.Tracked.{HoldsAtMost, quota_of}
 use Rattle.qg_groups.proofs.Snapped.{group-free}
-use Rattle.qg_check.specs.Editable.{AreGroups, AreGroupsOf}
+use Rattle.qg_kept.specs.Editable.{AreGroups, AreGroupsOf}
 use Rattle.qg_kept.specs.declared.kept.Kept.{Kept}
 use Rattle.qg_kept.specs.Keeping.{AreSubvolumesBy, IsFitted, most_reserved}
 use Rattle.qg_store.specs.Structural.{number_next, too_many_refusal}

@@ -21,7 +21,7 @@ use Rattle.qg_machine.specs.Refusals.{is_pending, last_generation, no_generation
 use Rattle.qg_machine.specs.Step.{Commits, CommitsPending}
 use Rattle.qg_machine.specs.Step as machine
 use Rattle.qg_refs.specs.declared.kept.Kept.{Kept as Reference}
-use Rattle.qg_commit.specs.Calls.{with_commit}
+use Rattle.qg_kept.specs.Calls.{with_commit}
 use Rattle.qg_weighed.specs.Laws.{is_among}
 use Rattle.qg_weighed.specs.Weight.{records_in, weight_of}
 use Rattle.qg_weighed.proofs.Distinct.{bytes-alike}

@@ -34,13 +34,13 @@ use Rattle.qg_weighed.specs.Weight.{records_in}
 use Rattle.qg_descent.specs.Tree.{Reaches, Root}
 use Rattle.qg_home.proofs.Reaching.{entry_of_value}
 use Rattle.qg_groups.specs.Tracked.{quota_of}
-use Rattle.qg_forest.specs.Standing.{HoldsState, tree_of}
-use Rattle.qg_fs_tree.specs.declared.fs_tree.FsTree.{FsTree}
-use Rattle.qg_fs_tree.specs.Standing.{IsReachedBy, nodes_of, trees_of}
-use Rattle.qg_file_edits.specs.Files.{HasFiles}
-use Rattle.qg_fs_laws.specs.Committing.{AreShort, IsShort}
-use Rattle.qg_fs_laws.specs.Keeping.{AreTreesOf, AreYoung, KeepsState, NamesOthers, OthersHaveFiles, other_names}
-use Rattle.qg_fs_laws.proofs.HeldStands.{held-kept}
+use Rattle.qg_kept.specs.ForestStanding.{HoldsState, tree_of}
+use Rattle.qg_kept.specs.Types.{FsTree}
+use Rattle.qg_kept.specs.Standing.{IsReachedBy, nodes_of, trees_of}
+use Rattle.qg_kept.specs.Files.{HasFiles}
+use Rattle.qg_kept.specs.FsLawsCommitting.{AreShort, IsShort}
+use Rattle.qg_kept.specs.FsLawsKeeping.{AreTreesOf, AreYoung, KeepsState, NamesOthers, OthersHaveFiles, other_names}
+use Rattle.qg_kept.proofs.HeldStands.{held-kept}
 use Rattle.qg_kept.specs.declared.kept.Kept.{Kept}
 use Rattle.qg_kept.specs.Keeping.{HoldsPending, IsKept, IsKeptOf, IsKeptWith}
 use Rattle.qg_store.proofs.Added.{put-last}

@@ -32,15 +32,15 @@ use Rattle.qg_refs.specs.Book.{what_in}
 use Rattle.qg_extents.specs.Table.{IsTable, book_of}
 use Rattle.qg_weighed.specs.Weight.{weight_of}
 use Rattle.qg_descent.specs.Tree.{Root}
-use Rattle.qg_tree_refs.specs.Heavier.{BookGetsHeavier, node_bytes}
-use Rattle.qg_tree_refs.proofs.Sums.{held-heavier}
-use Rattle.qg_tree_refs.specs.declared.tree_refs.TreeRefs.{TreeRefs}
-use Rattle.qg_forest.specs.Standing.{HoldsState, tree_of}
-use Rattle.qg_forest.proofs.Roots.{root_of-value}
-use Rattle.qg_fs_tree.specs.Standing.{nodes_of}
-use Rattle.qg_fs_tree.proofs.Lists.{has-mapped}
-use Rattle.qg_fs_laws.specs.Committing.{AreShortPieces}
-use Rattle.qg_fs_laws.specs.Keeping.{other_names}
+use Rattle.qg_kept.specs.Heavier.{BookGetsHeavier, node_bytes}
+use Rattle.qg_kept.proofs.TreeRefsSums.{held-heavier}
+use Rattle.qg_kept.specs.Types.{TreeRefs}
+use Rattle.qg_kept.specs.ForestStanding.{HoldsState, tree_of}
+use Rattle.qg_kept.proofs.ForestRoots.{root_of-value}
+use Rattle.qg_kept.specs.Standing.{nodes_of}
+use Rattle.qg_kept.proofs.Lists.{has-mapped}
+use Rattle.qg_kept.specs.FsLawsCommitting.{AreShortPieces}
+use Rattle.qg_kept.specs.FsLawsKeeping.{other_names}
 use Rattle.qg_kept.specs.declared.kept.Kept.{Kept}
 use Rattle.qg_kept.specs.Keeping.{HoldsPending, IsFitted, IsKept, IsKeptOf, IsKeptWith, book_weight, quota_weight}
 use Rattle.qg_kept.specs.Keeping.{root_weight}

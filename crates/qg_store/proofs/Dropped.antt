@@ -14,13 +14,13 @@ use Rattle.qg_machine.specs.Layout.{IsTreeOf}
 use Rattle.qg_machine.specs.Step.{deleted}
 use Rattle.qg_extents.specs.Table.{IsTable}
 use Rattle.qg_descent.specs.Tree.{Reaches, Root}
-use Rattle.qg_forest.specs.Standing.{HoldsState}
-use Rattle.qg_forest.proofs.Changed.{value-kept}
-use Rattle.qg_forest.proofs.Meeting.{IsMet, met-reached-itself}
-use Rattle.qg_fs_tree.specs.Standing.{IsReachedBy, trees_of}
-use Rattle.qg_fs_laws.specs.Keeping as step
-use Rattle.qg_fs_laws.proofs.HeldTrees.{IsTreeIn, reach-into, tree-held}
-use Rattle.qg_fs_laws.proofs.Runs.{state-held}
+use Rattle.qg_kept.specs.ForestStanding.{HoldsState}
+use Rattle.qg_kept.proofs.Changed.{value-kept}
+use Rattle.qg_kept.proofs.Meeting.{IsMet, met-reached-itself}
+use Rattle.qg_kept.specs.Standing.{IsReachedBy, trees_of}
+use Rattle.qg_kept.specs.FsLawsKeeping as step
+use Rattle.qg_kept.proofs.HeldTrees.{IsTreeIn, reach-into, tree-held}
+use Rattle.qg_kept.proofs.Runs.{state-held}
 use Rattle.qg_drop.proofs.Ended.{none_open}
 use Rattle.qg_drop.proofs.Partly.{all_kept, kept-value}
 use Rattle.qg_kept.specs.declared.kept.Kept.{Kept}

@@ -38,17 +38,17 @@ use Rattle.qg_extents.specs.Table.{IsTable, book_of}
 use Rattle.qg_weighed.specs.Laws.{IsRecorded}
 use Rattle.qg_weighed.specs.Weight.{weight_of}
 use Rattle.qg_descent.specs.Tree.{Root}
-use Rattle.qg_tree_refs.specs.Heavier.{BookGetsHeavier}
-use Rattle.qg_tree_refs.proofs.Sums.{held-heavier}
-use Rattle.qg_tree_refs.specs.declared.tree_refs.TreeRefs.{TreeRefs}
-use Rattle.qg_forest.specs.Standing.{HoldsState, tree_of}
-use Rattle.qg_fs_tree.specs.declared.fs_tree.FsTree.{FsTree}
-use Rattle.qg_fs_tree.specs.Standing.{IsReachedBy, trees_of}
-use Rattle.qg_file_edits.specs.Files.{HasFiles}
+use Rattle.qg_kept.specs.Heavier.{BookGetsHeavier}
+use Rattle.qg_kept.proofs.TreeRefsSums.{held-heavier}
+use Rattle.qg_kept.specs.Types.{TreeRefs}
+use Rattle.qg_kept.specs.ForestStanding.{HoldsState, tree_of}
+use Rattle.qg_kept.specs.Types.{FsTree}
+use Rattle.qg_kept.specs.Standing.{IsReachedBy, trees_of}
+use Rattle.qg_kept.specs.Files.{HasFiles}
 use Rattle.qg_drop.specs.Dropping.{RestsButRuns}
-use Rattle.qg_fs_laws.specs.Committing.{AreShort, IsShort}
-use Rattle.qg_fs_laws.specs.Keeping.{AreTreesOf, AreYoung, KeepsState, OthersHaveFiles, other_names}
-use Rattle.qg_fs_laws.proofs.HeldStands.{held-kept}
+use Rattle.qg_kept.specs.FsLawsCommitting.{AreShort, IsShort}
+use Rattle.qg_kept.specs.FsLawsKeeping.{AreTreesOf, AreYoung, KeepsState, OthersHaveFiles, other_names}
+use Rattle.qg_kept.proofs.HeldStands.{held-kept}
 use Rattle.qg_kept.specs.declared.kept.Kept.{Kept}
 use Rattle.qg_kept.specs.Keeping.{HoldsPending, IsKept, IsKeptOf, IsKeptWith, SameButClean, book_weight, quota_weight}
 use Rattle.qg_kept.specs.Keeping.{root_weight}

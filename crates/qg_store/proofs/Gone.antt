@@ -17,11 +17,11 @@ use Rattle.qg_image.proofs.Contained.{contains_cases, contains_later}
 use Rattle.qg_space.proofs.Members.{contains_filter, filter_contains}
 use Rattle.qg_ground.specs.Land.{IsDrafted}
 use Rattle.qg_descent.specs.Tree.{Root}
-use Rattle.qg_fs_tree.specs.Standing.{AreNumbered, CanTurn, trees_of}
-use Rattle.qg_fs_tree.proofs.Lists.{from-mapped, has-mapped}
+use Rattle.qg_kept.specs.Standing.{AreNumbered, CanTurn, trees_of}
+use Rattle.qg_kept.proofs.Lists.{from-mapped, has-mapped}
 use Rattle.qg_groups.specs.declared.state.QuotaState.{QuotaState}
 use Rattle.qg_groups.specs.Tracked.{HoldsAtMost, IsTracked, quota_of}
-use Rattle.qg_check.specs.Editable.{AreGroupsOf}
+use Rattle.qg_kept.specs.Editable.{AreGroupsOf}
 use Rattle.qg_kept.specs.declared.kept.Kept.{Kept}
 use Rattle.qg_kept.specs.Keeping.{AreSubvolumesBy, IsFitted, most_reserved}
 use Rattle.qg_store.specs.Structural.{without_tree}

@@ -27,8 +27,8 @@ use Rattle.qg_groups.proofs.Reserved.{bound-still}
 use Rattle.qg_groups.proofs.Snapped.{parents-free}
 use Rattle.qg_space.specs.Holding.{free_slots}
 use Rattle.qg_ground.specs.declared.ground.Ground.{Ground}
-use Rattle.qg_tree_refs.specs.declared.tree_refs.TreeRefs.{TreeRefs}
-use Rattle.qg_other_trees.specs.Trees.{quota_tree_bytes, root_tree_bytes}
+use Rattle.qg_kept.specs.Types.{TreeRefs}
+use Rattle.qg_kept.specs.Trees.{quota_tree_bytes, root_tree_bytes}
 use Rattle.qg_kept.specs.declared.kept.Kept.{Kept}
 use Rattle.qg_kept.specs.Keeping.{HoldsPending, IsFitted, book_weight, commit_need, filled_by, quota_weight}
 use Rattle.qg_kept.specs.Keeping.{root_weight}

@@ -20,22 +20,22 @@ use Rattle.qg_reach.proofs.Layouts.{value_at-with_other}
 use Rattle.qg_descent.specs.Tree.{Root}
 use Rattle.qg_descent.proofs.BranchFrames.{reach-same, reach-top}
 use Rattle.qg_descent.proofs.Frames.{items-same}
-use Rattle.qg_forest.specs.Standing.{HoldsState, root_of, tree_of}
-use Rattle.qg_forest.proofs.Meeting.{placed-there}
-use Rattle.qg_forest.proofs.Roots.{root_level-value, root_of-value}
+use Rattle.qg_kept.specs.ForestStanding.{HoldsState, root_of, tree_of}
+use Rattle.qg_kept.proofs.Meeting.{placed-there}
+use Rattle.qg_kept.proofs.ForestRoots.{root_level-value, root_of-value}
 use Rattle.qg_blocks.specs.Held.{nothing_fresh}
 use Rattle.qg_blocks.specs.Told.{fresh_at}
 use Rattle.qg_extents.specs.Table.{IsTable}
 use Rattle.qg_ground.specs.Land.{IsDrafted}
-use Rattle.qg_fs_laws.specs.Keeping as step
-use Rattle.qg_fs_laws.proofs.Kept.{taken-told}
-use Rattle.qg_fs_laws.proofs.Runs.{state-held}
-use Rattle.qg_fs_tree.specs.declared.fs_tree.FsTree.{FsTree}
-use Rattle.qg_fs_tree.specs.Standing.{IsReachedBy, items_in, nodes_of, trees_of}
-use Rattle.qg_fs_layout.proofs.Nodes.{value-reached}
-use Rattle.qg_fs_layout.proofs.Trees.{entry-there, met-slot, nodes-laid, sized}
-use Rattle.qg_exchange.specs.Named.{named}
-use Rattle.qg_file_edits.specs.Files.{HasFiles}
+use Rattle.qg_kept.specs.FsLawsKeeping as step
+use Rattle.qg_kept.proofs.Kept.{taken-told}
+use Rattle.qg_kept.proofs.Runs.{state-held}
+use Rattle.qg_kept.specs.Types.{FsTree}
+use Rattle.qg_kept.specs.Standing.{IsReachedBy, items_in, nodes_of, trees_of}
+use Rattle.qg_kept.proofs.Nodes.{value-reached}
+use Rattle.qg_kept.proofs.Trees.{entry-there, met-slot, nodes-laid, sized}
+use Rattle.qg_kept.specs.Named.{named}
+use Rattle.qg_kept.specs.Files.{HasFiles}
 use Rattle.qg_kept.specs.declared.kept.Kept.{Kept}
 use Rattle.qg_kept.specs.Keeping.{IsKept, IsKeptWith}
 use Rattle.qg_kept.proofs.Looked.{is-near, is-subvolume}

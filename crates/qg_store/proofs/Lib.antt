@@ -1,3 +1,5 @@
+pub use Rattle.qg_kept.proofs.OpeningCalls
+pub use Rattle.qg_kept.proofs.Verdicts
 pub mod Trees
 pub mod Committed
 pub mod Structured

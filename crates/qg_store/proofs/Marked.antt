@@ -13,12 +13,12 @@ use Rattle.qg_image.specs.Record.{Record}
 use Rattle.qg_image.specs.State.{Layout, State, Subvolume, layout_of}
 use Rattle.qg_reach.proofs.Layouts.{value_at-with_other, value_at-with_same}
 use Rattle.qg_descent.specs.Tree.{Root}
-use Rattle.qg_forest.proofs.Snapshotted.{root_entry}
+use Rattle.qg_kept.proofs.Snapshotted.{root_entry}
 use Rattle.qg_file_items.proofs.Tables.{increasing-with}
-use Rattle.qg_fs_tree.specs.Standing.{trees_of}
-use Rattle.qg_check.specs.Editable.{AreGroupsOf}
-use Rattle.qg_fs_laws.specs.Committing.{AreShort}
-use Rattle.qg_fs_laws.specs.Keeping.{KeepsState, NamesOthers, other_names}
+use Rattle.qg_kept.specs.Standing.{trees_of}
+use Rattle.qg_kept.specs.Editable.{AreGroupsOf}
+use Rattle.qg_kept.specs.FsLawsCommitting.{AreShort}
+use Rattle.qg_kept.specs.FsLawsKeeping.{KeepsState, NamesOthers, other_names}
 use Rattle.qg_kept.specs.declared.kept.Kept.{Kept}
 use Rattle.qg_kept.specs.Keeping.{IsFitted, IsKept, IsKeptOf}
 use Rattle.qg_store.proofs.Added.{key-still}

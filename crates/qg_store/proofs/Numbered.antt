@@ -19,7 +19,7 @@ use Rattle.qg_image.proofs.Contained.{contains_cases, none_contained}
 use Rattle.qg_image.specs.Verdict.{most_relations}
 use Rattle.qg_space.proofs.Members.{contains_filter}
 use Rattle.qg_groups.specs.Changing.{pairs_in}
-use Rattle.qg_check.specs.Editable.{AreGroupsOf}
+use Rattle.qg_kept.specs.Editable.{AreGroupsOf}
 
 -- ---- numbers of subvolumes
 

@@ -14,7 +14,7 @@ use Rattle.std.proofs.lemmas.Option.{none-some}
 use Rattle.qg_image.specs.Table.{keys_of, value_at, with_value}
 use Rattle.qg_image.proofs.Contained.{contains_cases, contains_here, contains_later, none_contained}
 use Rattle.qg_home.proofs.Reaching.{entry_of_value}
-use Rattle.qg_fs_tree.proofs.Lists.{from-mapped}
+use Rattle.qg_kept.proofs.Lists.{from-mapped}
 use Rattle.qg_reach.proofs.Ascending.{tables_same}
 
 -- ---- without a number

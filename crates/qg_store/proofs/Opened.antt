@@ -29,20 +29,20 @@ use Rattle.qg_refs.specs.declared.kept.Kept.{Kept as Reference}
 use Rattle.qg_extents.specs.Table.{IsTable, book_of}
 use Rattle.qg_extents.specs.Told.{IsTold}
 use Rattle.qg_weighed.specs.Laws.{IsRecorded}
-use Rattle.qg_tree_refs.specs.TreeBook.{TreeBook}
+use Rattle.qg_kept.specs.TreeBook.{TreeBook}
 use Rattle.qg_groups.specs.declared.state.QuotaState.{QuotaState}
 use Rattle.qg_groups.specs.Tracked.{quota_of}
-use Rattle.qg_check.specs.declared.image.Image.{Image}
-use Rattle.qg_check.specs.IsImage.{IsEditable, IsImage, IsSubvolumeOf}
+use Rattle.qg_kept.specs.Types.{Image}
+use Rattle.qg_kept.specs.IsImage.{IsEditable, IsImage, IsSubvolumeOf}
 use Rattle.qg_descent.specs.Tree.{Root}
-use Rattle.qg_standing.specs.Opening.{IsOpened, IsSoundImage, opened_nodes, opened_tree, opened_trees}
-use Rattle.qg_fs_laws.specs.Keeping.{KeepsState, NamesOthers, other_names}
-use Rattle.qg_fs_laws.specs.Opening.{AreBytes, HasBytes, HoldsCommit, HoldsOthers, IsOf, mine_opened}
-use Rattle.qg_fs_laws.proofs.OpenedKept.{opened-kept}
-use Rattle.qg_fs_laws.proofs.OpenedNames.{opened-names}
-use Rattle.qg_fs_laws.proofs.OpenedRecords.{opened-recorded}
-use Rattle.qg_fs_laws.proofs.SoundImage.{image-known, others-known}
-use Rattle.qg_fs_laws.proofs.Short.{spaced-short}
+use Rattle.qg_kept.specs.StandingOpening.{IsOpened, IsSoundImage, opened_nodes, opened_tree, opened_trees}
+use Rattle.qg_kept.specs.FsLawsKeeping.{KeepsState, NamesOthers, other_names}
+use Rattle.qg_kept.specs.Opening.{AreBytes, HasBytes, HoldsCommit, HoldsOthers, IsOf, mine_opened}
+use Rattle.qg_kept.proofs.OpenedKept.{opened-kept}
+use Rattle.qg_kept.proofs.OpenedNames.{opened-names}
+use Rattle.qg_kept.proofs.OpenedRecords.{opened-recorded}
+use Rattle.qg_kept.proofs.SoundImage.{image-known, others-known}
+use Rattle.qg_kept.proofs.Short.{spaced-short}
 use Rattle.qg_kept.specs.declared.kept.Kept.{Kept}
 use Rattle.qg_kept.specs.Keeping.{HoldsPending, IsKeptOf}
 use Rattle.qg_store.specs.Opened.{snapshot_of}

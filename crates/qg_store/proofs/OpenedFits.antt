@@ -35,12 +35,12 @@ use Rattle.qg_image.specs.Walk.{is_owner}
 use Rattle.qg_contents.specs.Writable.{IsRootBy}
 use Rattle.qg_weighed.specs.Weight.{Books}
 use Rattle.qg_descent.specs.Tree.{Root}
-use Rattle.qg_fs_tree.specs.Standing.{AreNumbered, CanTurn, trees_of}
-use Rattle.qg_check.specs.declared.image.Image.{Image}
-use Rattle.qg_check.specs.IsImage.{IsEditable}
+use Rattle.qg_kept.specs.Standing.{AreNumbered, CanTurn, trees_of}
+use Rattle.qg_kept.specs.Types.{Image}
+use Rattle.qg_kept.specs.IsImage.{IsEditable}
 use Rattle.qg_groups.specs.declared.state.QuotaState.{QuotaState}
 use Rattle.qg_groups.specs.Tracked.{HoldsAll, IsTracked, quota_of}
-use Rattle.qg_check.specs.Editable.{AreGroupsOf}
+use Rattle.qg_kept.specs.Editable.{AreGroupsOf}
 use Rattle.qg_kept.specs.declared.kept.Kept.{Kept}
 use Rattle.qg_kept.specs.Keeping.{AreSubvolumesBy, IsFitted, most_reserved}
 use Rattle.qg_store.specs.Opened.{AreTreesIn, snapshot_of, tree_for}

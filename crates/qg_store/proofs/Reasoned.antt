@@ -30,7 +30,7 @@ use Rattle.qg_groups.proofs.Recounted.{groups-recounted, pairs-recounted, refusa
 use Rattle.qg_groups.proofs.Refused.{groups-told, pairs-told, refusal-is}
 use Rattle.qg_groups.proofs.Snapped.{snap-told}
 use Rattle.qg_extents.specs.Table.{IsTable}
-use Rattle.qg_fs_laws.specs.Keeping.{other_names}
+use Rattle.qg_kept.specs.FsLawsKeeping.{other_names}
 use Rattle.qg_kept.specs.declared.kept.Kept.{Kept}
 use Rattle.qg_kept.specs.Keeping.{IsFitted, IsKept, IsKeptOf, structural_need_of}
 use Rattle.qg_store.specs.Structural.{IsSettledFrom, commit_refusal, group_copies, number_next, too_many_refusal}

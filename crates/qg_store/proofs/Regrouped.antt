@@ -43,10 +43,10 @@ use Rattle.qg_groups.proofs.Fitted.{few-after, left-few, limit-kept, numbers-aft
 use Rattle.qg_groups.proofs.Fitted.{stamps-after}
 use Rattle.qg_groups.proofs.Refused.{changes-quota, free-change, none-of, refused-not}
 use Rattle.qg_groups.proofs.Reserved.{bound-more, holds-least}
-use Rattle.qg_fs_tree.proofs.Lists.{from-mapped}
-use Rattle.qg_check.specs.Editable.{AreGroups, AreGroupsOf}
-use Rattle.qg_other_trees.specs.Trees.{quota_tree_bytes, root_tree_bytes}
-use Rattle.qg_fs_laws.specs.Keeping.{KeepsState, other_names}
+use Rattle.qg_kept.proofs.Lists.{from-mapped}
+use Rattle.qg_kept.specs.Editable.{AreGroups, AreGroupsOf}
+use Rattle.qg_kept.specs.Trees.{quota_tree_bytes, root_tree_bytes}
+use Rattle.qg_kept.specs.FsLawsKeeping.{KeepsState, other_names}
 use Rattle.qg_kept.specs.declared.kept.Kept.{Kept}
 use Rattle.qg_kept.specs.Answering.{comes_to_disk, is_structural}
 use Rattle.qg_kept.specs.Keeping.{HoldsPending, IsFitted, IsKept, IsKeptOf, IsKeptWith, commit_need}

@@ -18,9 +18,9 @@ use Rattle.qg_image.specs.State.{Placed, State, Subvolume, next_generation}
 use Rattle.qg_machine.specs.Step.{Snapshots, copy_of}
 use Rattle.qg_descent.specs.Tree.{Reaches, Root}
 use Rattle.qg_snap.proofs.CopyWalked.{copy-items}
-use Rattle.qg_fs_tree.specs.declared.fs_tree.FsTree.{FsTree}
-use Rattle.qg_fs_tree.specs.Standing.{items_in, nodes_of}
-use Rattle.qg_file_edits.specs.Files.{HasFiles}
+use Rattle.qg_kept.specs.Types.{FsTree}
+use Rattle.qg_kept.specs.Standing.{items_in, nodes_of}
+use Rattle.qg_kept.specs.Files.{HasFiles}
 use Rattle.qg_store.proofs.Created.{AddsSubvolume}
 
 -- the snapshot's subvolume, and its root

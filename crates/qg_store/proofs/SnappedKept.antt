@@ -10,7 +10,7 @@ use Rattle.std.proofs.lemmas.Option.{same_Some}
 use Rattle.qg_node.specs.declared.node.Node.{Node}
 use Rattle.qg_node.specs.declared.node.Node.TheVariants.{Inner, Leaf}
 use Rattle.qg_node.specs.Nodes.{header_of}
-use Rattle.qg_file_edits.specs.Files.{HasFiles}
+use Rattle.qg_kept.specs.Files.{HasFiles}
 use Rattle.qg_device.specs.History.{Event}
 use Rattle.qg_num.specs.declared.answer.Answer.TheVariants.{Sub}
 use Rattle.qg_num.specs.declared.command.Command.TheVariants.{Snap}
@@ -37,14 +37,14 @@ use Rattle.qg_refs.specs.Book.{what_in}
 use Rattle.qg_extents.specs.Table.{IsTable, book_of}
 use Rattle.qg_weighed.specs.Weight.{weight_of}
 use Rattle.qg_descent.specs.Tree.{Reaches, Root}
-use Rattle.qg_tree_refs.specs.Heavier.{BookGetsHeavier, node_bytes}
-use Rattle.qg_tree_refs.proofs.Sums.{held-heavier}
-use Rattle.qg_tree_refs.specs.declared.tree_refs.TreeRefs.{TreeRefs}
-use Rattle.qg_forest.specs.Standing.{HoldsState, tree_of}
-use Rattle.qg_forest.proofs.Roots.{root_of-value}
-use Rattle.qg_fs_tree.specs.Standing.{IsReachedBy, nodes_of}
-use Rattle.qg_fs_tree.proofs.Lists.{has-mapped}
-use Rattle.qg_fs_laws.specs.Keeping.{AreYoung, other_names}
+use Rattle.qg_kept.specs.Heavier.{BookGetsHeavier, node_bytes}
+use Rattle.qg_kept.proofs.TreeRefsSums.{held-heavier}
+use Rattle.qg_kept.specs.Types.{TreeRefs}
+use Rattle.qg_kept.specs.ForestStanding.{HoldsState, tree_of}
+use Rattle.qg_kept.proofs.ForestRoots.{root_of-value}
+use Rattle.qg_kept.specs.Standing.{IsReachedBy, nodes_of}
+use Rattle.qg_kept.proofs.Lists.{has-mapped}
+use Rattle.qg_kept.specs.FsLawsKeeping.{AreYoung, other_names}
 use Rattle.qg_kept.specs.declared.kept.Kept.{Kept}
 use Rattle.qg_kept.specs.Keeping.{HoldsPending, IsKept, IsKeptOf, IsKeptWith, book_weight, quota_weight, root_weight}
 use Rattle.qg_store.specs.Structural.{HasRoom, IsChanged, number_next, too_many_refusal}

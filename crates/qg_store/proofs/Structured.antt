@@ -16,7 +16,7 @@ use Rattle.qg_machine.specs.Refusals.{is_pending, nodes_reached, refusal}
 use Rattle.qg_machine.specs.Step.{Changes, Commits, CommitsPending, DoesStructural}
 use Rattle.qg_machine.specs.Step as machine
 use Rattle.qg_groups.specs.Changing.{is_group_command}
-use Rattle.qg_commit.specs.Calls.{with_commit}
+use Rattle.qg_kept.specs.Calls.{with_commit}
 use Rattle.qg_kept.specs.declared.kept.Kept.{Kept}
 use Rattle.qg_kept.specs.Answering.{AnswersOn, IsDoneSoFar, comes_to_disk, is_structural}
 use Rattle.qg_kept.specs.Keeping.{IsKeptOf}

@@ -12,16 +12,16 @@ use Rattle.qg_image.proofs.Contained.{contains_cases, contains_here, contains_la
 use Rattle.qg_machine.specs.Refusals.{root_level}
 use Rattle.qg_contents.specs.Written.{items_of_file}
 use Rattle.qg_ground.specs.declared.ground.Ground.{Ground}
-use Rattle.qg_tree_refs.specs.declared.tree_refs.TreeRefs.{TreeRefs}
+use Rattle.qg_kept.specs.Types.{TreeRefs}
 use Rattle.qg_descent.specs.Tree.{Root}
-use Rattle.qg_forest.specs.Standing.{HoldsState, root_of, tree_of}
-use Rattle.qg_forest.proofs.Roots.{root_level-value, root_of-value}
-use Rattle.qg_forest.proofs.Snapshotted.{root_entry}
-use Rattle.qg_fs_tree.specs.Standing.{trees_of}
-use Rattle.qg_fs_tree.proofs.Lists.{from-mapped}
-use Rattle.qg_fs_layout.proofs.Trees.{root-level, roots-laid}
-use Rattle.qg_exchange.specs.Named.{named}
-use Rattle.qg_fs_laws.specs.Keeping.{AreTreesOf}
+use Rattle.qg_kept.specs.ForestStanding.{HoldsState, root_of, tree_of}
+use Rattle.qg_kept.proofs.ForestRoots.{root_level-value, root_of-value}
+use Rattle.qg_kept.proofs.Snapshotted.{root_entry}
+use Rattle.qg_kept.specs.Standing.{trees_of}
+use Rattle.qg_kept.proofs.Lists.{from-mapped}
+use Rattle.qg_kept.proofs.Trees.{root-level, roots-laid}
+use Rattle.qg_kept.specs.Named.{named}
+use Rattle.qg_kept.specs.FsLawsKeeping.{AreTreesOf}
 use Rattle.qg_kept.specs.declared.kept.Kept.{Kept}
 use Rattle.qg_kept.specs.Keeping.{IsKept, IsKeptWith}
 use Rattle.qg_kept.proofs.Looked.{hand-among, is-subvolume}

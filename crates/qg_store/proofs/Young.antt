@@ -17,10 +17,10 @@ use Rattle.qg_ground.specs.Land.{IsDrafted}
 use Rattle.qg_refs.specs.declared.kept.What.{What}
 use Rattle.qg_refs.specs.Book.{what_in}
 use Rattle.qg_extents.specs.Table.{book_of}
-use Rattle.qg_tree_refs.specs.declared.tree_refs.TreeRefs.{TreeRefs}
-use Rattle.qg_tree_refs.specs.Following.{references_to}
-use Rattle.qg_tree_refs.specs.Settled.{what_of}
-use Rattle.qg_forest.specs.Standing.{HoldsState}
+use Rattle.qg_kept.specs.Types.{TreeRefs}
+use Rattle.qg_kept.specs.Following.{references_to}
+use Rattle.qg_kept.specs.Settled.{what_of}
+use Rattle.qg_kept.specs.ForestStanding.{HoldsState}
 use Rattle.qg_snap.specs.Beginning.{BookGoesOn}
 use Rattle.qg_kept.specs.declared.kept.Kept.{Kept}
 

@@ -11,7 +11,7 @@ use Rattle.qg_blocks.specs.Told.{IsBacked}
 use Rattle.qg_space.specs.Holding.{Holding}
 use Rattle.qg_weighed.specs.Weight.{Books}
 use Rattle.qg_descent.specs.Tree.{Root}
-use Rattle.qg_fs_tree.specs.declared.fs_tree.FsTree.{FsTree}
+use Rattle.qg_kept.specs.Types.{FsTree}
 
 -- the generation of a subvolume's last snapshot, by its number
 abbrev pub snapshot_of : ℕ × RootItem → ℕ × ℕ

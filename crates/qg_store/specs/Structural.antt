@@ -21,7 +21,7 @@ use Rattle.qg_groups.specs.OnOrOff.{snap_refusal}
 use Rattle.qg_groups.specs.Tracked.{SameButCounts, quota_of}
 use Rattle.qg_space.specs.Holding.{free_slots}
 use Rattle.qg_descent.specs.Tree.{Root}
-use Rattle.qg_fs_laws.specs.Keeping.{other_names}
+use Rattle.qg_kept.specs.FsLawsKeeping.{other_names}
 use Rattle.qg_kept.specs.declared.kept.Kept.{Kept}
 use Rattle.qg_kept.specs.Keeping.{IsKeptOf, IsKeptWith, commit_need, filled_by, structural_need_of}
 use Rattle.qg_kept.specs.Making.{Makes, StartsCommit}

@@ -11,4 +11,5 @@ mod slots;
 mod store;
 mod structural;
 
+pub use qg_kept::{check, image_commit};
 pub use store::Store;

@@ -8,24 +8,24 @@ ghost use Rattle.qg_image.specs.Table.{has_key};
 ghost use Rattle.qg_image.specs.State.{State};
 ghost use Rattle.qg_image.specs.StateOf.{StateOf};
 ghost use Rattle.qg_blocks.specs.Told.{IsBacked};
-ghost use Rattle.qg_check.specs.IsImage.{IsEditable, IsImage};
+ghost use Rattle.qg_kept.specs.IsImage.{IsEditable, IsImage};
 ghost use Rattle.qg_kept.specs.Keeping.{IsFitted, IsKeptOf};
 ghost use Rattle.qg_store.specs.Opened.{AreTreesIn, snapshot_of, tree_for};
 
 use crate::holding::space_of;
 use qg_blocks::Blocks;
-use qg_check::Image;
 use qg_descent::Tree;
-use qg_fs_tree::FsTree;
 use qg_ground::Ground;
 use qg_items::RootItem;
 use qg_items::tree::TOP_LEVEL;
 use qg_kept::Kept;
+use qg_kept::check::Image;
+use qg_kept::fs_tree::FsTree;
+use qg_kept::tree_refs::TreeRefs;
 use qg_num::{Generation, NoMemory, RootId, Sequence};
 use qg_rules::root_of;
 use qg_space::Space;
 use qg_super::Super;
-use qg_tree_refs::TreeRefs;
 use qg_weighed::Weighed;
 use std::alloc::{AllocError, Global};
 

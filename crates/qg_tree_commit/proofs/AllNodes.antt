@@ -26,11 +26,11 @@ use Rattle.qg_tree.proofs.Frame.{AllByRecursion-append}
 use Rattle.qg_commit.specs.Calls.{IsReadBack, IsWritable, with_commit}
 use Rattle.qg_crashes.proofs.Between.{is_slot-IsBetween}
 use Rattle.qg_commit.proofs.Written.{AreCommittable, with_commit-HasCommit}
-use Rattle.qg_other_trees.specs.declared.laying.OtherTrees.{OtherTrees}
-use Rattle.qg_other_trees.specs.Holds.{HasCommit}
-use Rattle.qg_other_trees.specs.Trees.{nodes_laid}
+use Rattle.qg_commit.specs.Types.{OtherTrees}
+use Rattle.qg_commit.specs.Holds.{HasCommit}
+use Rattle.qg_commit.specs.Trees.{nodes_laid}
 use Rattle.qg_reach.proofs.Members.{one_mapped}
-use Rattle.qg_other_trees.proofs.Slots.{all_contained}
+use Rattle.qg_commit.proofs.Slots.{all_contained}
 use Rattle.qg_tree_commit.specs.Writing.{AreWritable, IsLaying, fresh_nodes, nodes_written}
 use Rattle.qg_tree_commit.proofs.Ascending.{sorted-distinct}
 use Rattle.qg_tree_commit.proofs.FreshNodes.{fresh-addresses, fresh-there, fresh-writable}

@@ -37,9 +37,9 @@ use Rattle.qg_tree.specs.Row.{address_of}
 use Rattle.qg_commit.specs.Calls.{IsFront, MadeFront, commit_calls}
 use Rattle.qg_commit.specs.CallEvents.{MakingCalls}
 use Rattle.qg_commit.proofs.CallEvents.{calls_are_whole, calls_write}
-use Rattle.qg_other_trees.specs.declared.laying.OtherTrees.{OtherTrees}
-use Rattle.qg_other_trees.specs.declared.laying.Told.{Told}
-use Rattle.qg_other_trees.specs.Trees.{nodes_laid}
+use Rattle.qg_commit.specs.Types.{OtherTrees}
+use Rattle.qg_commit.specs.Types.{Told}
+use Rattle.qg_commit.specs.Trees.{nodes_laid}
 use Rattle.qg_reach.proofs.Members.{contains_map}
 use Rattle.qg_tree_commit.specs.Writing.{AreWritable, IsLaying, IsLayingOf, fresh_nodes, nodes_written}
 use Rattle.qg_tree_commit.specs.Crashing.{HasWhole, IsFound, IsSpared, LeavesTrees}

@@ -23,11 +23,11 @@ use Rattle.qg_tree.specs.Build.{IsMadeFor}
 use Rattle.qg_tree.specs.Row.{address_of}
 use Rattle.qg_tree.proofs.Frame.{IsDistinct-front}
 use Rattle.qg_commit.specs.Calls.{IsReadBack}
-use Rattle.qg_other_trees.specs.declared.laying.OtherTrees.{OtherTrees}
-use Rattle.qg_other_trees.specs.Trees.{AreTrees, nodes_laid, quota_nodes_laid}
-use Rattle.qg_other_trees.proofs.QuotaTree.{quota_made, quota_placed}
+use Rattle.qg_commit.specs.Types.{OtherTrees}
+use Rattle.qg_commit.specs.Trees.{AreTrees, nodes_laid, quota_nodes_laid}
+use Rattle.qg_commit.proofs.QuotaTree.{quota_made, quota_placed}
 use Rattle.qg_reach.proofs.Members.{contains_map, each_contained}
-use Rattle.qg_other_trees.proofs.Slots.{LieFirst, LieFirst-more, LieFirst-placed, flips}
+use Rattle.qg_commit.proofs.Slots.{LieFirst, LieFirst-more, LieFirst-placed, flips}
 
 -- a node has a text, and its numbers fit their fields
 pub record IsTextual (nodesize : ℕ) (node : Node) : Type 0 where

@@ -9,9 +9,9 @@ use Rattle.qg_super.specs.declared.sizes.Sizes.{Sizes}
 use Rattle.qg_super.specs.Places.{is_slot}
 use Rattle.qg_super.specs.SuperText.{is_super}
 use Rattle.qg_blocks.specs.Held.{Draft}
-use Rattle.qg_other_trees.specs.declared.laying.OtherTrees.{OtherTrees}
-use Rattle.qg_other_trees.specs.declared.laying.Told.{Told}
-use Rattle.qg_other_trees.specs.Trees.{AreTreesOf}
+use Rattle.qg_commit.specs.Types.{OtherTrees}
+use Rattle.qg_commit.specs.Types.{Told}
+use Rattle.qg_commit.specs.Trees.{AreTreesOf}
 use Rattle.qg_tree_commit.specs.Writing.{IsLayingOf}
 
 -- the addresses that were listed ascend, so those of the fresh nodes do

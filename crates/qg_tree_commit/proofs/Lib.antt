@@ -1,3 +1,14 @@
+pub use Rattle.qg_commit.proofs.CallEvents
+pub use Rattle.qg_commit.proofs.CheckFound
+pub use Rattle.qg_commit.proofs.Fronts
+pub use Rattle.qg_commit.proofs.Moments
+pub use Rattle.qg_commit.proofs.OpeningCalls
+pub use Rattle.qg_commit.proofs.Owing
+pub use Rattle.qg_commit.proofs.QuotaTree
+pub use Rattle.qg_commit.proofs.Slots
+pub use Rattle.qg_commit.proofs.Sound
+pub use Rattle.qg_commit.proofs.Verdicts
+pub use Rattle.qg_commit.proofs.Weight
 pub mod Ascending
 pub mod FreshNodes
 pub mod Stays

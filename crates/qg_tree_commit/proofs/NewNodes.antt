@@ -31,12 +31,12 @@ use Rattle.qg_extents.specs.Table.{IsTable, book_of}
 use Rattle.qg_blocks.specs.Told.{fresh_at}
 use Rattle.qg_tree.specs.Row.{address_of}
 use Rattle.qg_ground.specs.Land.{IsDrafted}
-use Rattle.qg_other_trees.specs.declared.laying.OtherTrees.{OtherTrees}
-use Rattle.qg_other_trees.specs.Trees.{nodes_laid}
+use Rattle.qg_commit.specs.Types.{OtherTrees}
+use Rattle.qg_commit.specs.Trees.{nodes_laid}
 use Rattle.qg_reach.proofs.Members.{contains_map, one_mapped}
-use Rattle.qg_fs_tree.specs.declared.fs_tree.FsTree.{FsTree}
-use Rattle.qg_fs_tree.specs.Standing.{IsSubvolume, Stands, nodes_of}
-use Rattle.qg_fs_tree.proofs.Lying.{told-at}
+use Rattle.qg_fs_layout.specs.Types.{FsTree}
+use Rattle.qg_fs_layout.specs.Standing.{IsSubvolume, Stands, nodes_of}
+use Rattle.qg_fs_layout.proofs.Lying.{told-at}
 use Rattle.qg_fs_layout.specs.Laying.{HoldsSlots, IsMet, IsMetAs, nodes_in}
 use Rattle.qg_fs_layout.proofs.Moved.{fresh-told}
 use Rattle.qg_fs_layout.proofs.Nodes.{nodes-ascend, reached-by, value-reached}

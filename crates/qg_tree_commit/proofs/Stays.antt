@@ -26,7 +26,7 @@ use Rattle.qg_blocks.proofs.Walked.{standing-walked, walked}
 use Rattle.qg_blocks.proofs.Written.{slots-apart, standing-apart}
 use Rattle.qg_commit.specs.Calls.{with_commit, with_nodes}
 use Rattle.qg_commit.proofs.Written.{with_nodes-no_shorter}
-use Rattle.qg_fs_tree.proofs.Sound.{ok-there}
+use Rattle.qg_fs_layout.proofs.Sound.{ok-there}
 
 -- a node has a text of a node's size, and lies in a slot
 pub record LiesInSlot (sizes : Sizes) (node : Node) : Type 0 where

@@ -24,12 +24,12 @@ use Rattle.qg_tree.specs.Row.{address_of}
 use Rattle.qg_ground.specs.Land.{IsDrafted}
 use Rattle.qg_ground.proofs.Slots.{free-absent, free-apart, free-parts}
 use Rattle.qg_commit.specs.Calls.{IsReadBack}
-use Rattle.qg_other_trees.specs.declared.laying.OtherTrees.{OtherTrees}
-use Rattle.qg_fs_tree.specs.declared.fs_tree.FsTree.{FsTree}
-use Rattle.qg_fs_tree.specs.Standing.{IsSubvolume, Stands}
-use Rattle.qg_fs_tree.proofs.Before.{elsewhere-parts, first_tree, reached}
-use Rattle.qg_fs_tree.proofs.Beside.{elsewhere, own_ways}
-use Rattle.qg_fs_tree.proofs.Taken.{has-led}
+use Rattle.qg_commit.specs.Types.{OtherTrees}
+use Rattle.qg_fs_layout.specs.Types.{FsTree}
+use Rattle.qg_fs_layout.specs.Standing.{IsSubvolume, Stands}
+use Rattle.qg_fs_layout.proofs.Before.{elsewhere-parts, first_tree, reached}
+use Rattle.qg_fs_layout.proofs.Beside.{elsewhere, own_ways}
+use Rattle.qg_fs_layout.proofs.Taken.{has-led}
 use Rattle.qg_fs_layout.specs.Laying.{AreFit, IsMet}
 use Rattle.qg_fs_layout.proofs.Moved.{fresh-told}
 use Rattle.qg_fs_layout.proofs.Trees.{met-slot, tree-stands}

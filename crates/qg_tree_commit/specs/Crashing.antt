@@ -13,8 +13,8 @@ use Rattle.qg_crashes.specs.Committing.{Crashing}
 use Rattle.qg_crashes.specs.States.{IsMirrored, first_synced}
 use Rattle.qg_blocks.specs.Held.{Draft}
 use Rattle.qg_commit.specs.Calls.{with_commit}
-use Rattle.qg_other_trees.specs.declared.laying.OtherTrees.{OtherTrees}
-use Rattle.qg_other_trees.specs.declared.laying.Told.{Told}
+use Rattle.qg_commit.specs.Types.{OtherTrees}
+use Rattle.qg_commit.specs.Types.{Told}
 use Rattle.qg_tree_commit.specs.Writing.{IsLayingOf, nodes_written}
 
 -- ---- what a commit finds

@@ -9,10 +9,10 @@ use Rattle.qg_blocks.specs.Told.{IsBacked, clean_at}
 use Rattle.qg_blocks.specs.Writing.{AreWritten, Keeps}
 use Rattle.qg_ground.specs.declared.ground.Ground.{Ground}
 use Rattle.qg_commit.specs.Calls.{with_commit}
-use Rattle.qg_other_trees.specs.declared.laying.OtherTrees.{OtherTrees}
-use Rattle.qg_other_trees.specs.Holds.{HasCommit, HoldsLayout}
-use Rattle.qg_other_trees.specs.Trees.{nodes_laid}
-use Rattle.qg_fs_tree.specs.declared.fs_tree.FsTree.{FsTree}
+use Rattle.qg_commit.specs.Types.{OtherTrees}
+use Rattle.qg_commit.specs.Holds.{HasCommit, HoldsLayout}
+use Rattle.qg_commit.specs.Trees.{nodes_laid}
+use Rattle.qg_fs_layout.specs.Types.{FsTree}
 use Rattle.qg_fs_layout.specs.Laying.{nodes_in}
 use Rattle.qg_tree_commit.specs.Writing.{nodes_written}
 

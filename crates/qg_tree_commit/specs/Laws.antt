@@ -15,10 +15,10 @@ use Rattle.qg_refs.specs.declared.kept.Kept.{Kept}
 use Rattle.qg_extents.specs.Table.{IsTable}
 use Rattle.qg_blocks.specs.Told.{fresh_at}
 use Rattle.qg_commit.specs.Calls.{IsReadBack}
-use Rattle.qg_other_trees.specs.declared.laying.OtherTrees.{OtherTrees}
-use Rattle.qg_other_trees.specs.Trees.{nodes_laid}
-use Rattle.qg_fs_tree.specs.declared.fs_tree.FsTree.{FsTree}
-use Rattle.qg_fs_tree.specs.Standing.{IsSubvolume, Stands}
+use Rattle.qg_commit.specs.Types.{OtherTrees}
+use Rattle.qg_commit.specs.Trees.{nodes_laid}
+use Rattle.qg_fs_layout.specs.Types.{FsTree}
+use Rattle.qg_fs_layout.specs.Standing.{IsSubvolume, Stands}
 use Rattle.qg_fs_layout.specs.Laying.{AreFit, HoldsSlots, IsMet, nodes_in}
 use Rattle.qg_tree_commit.specs.Writing.{IsLaying, fresh_nodes, nodes_written}
 use Rattle.qg_tree_commit.specs.Holds.{AreForgotten, AreFree, IsFlushed, IsOnDisk, with_tree_commit}

@@ -15,9 +15,9 @@ use Rattle.qg_refs.specs.declared.kept.Kept.{Kept}
 use Rattle.qg_blocks.specs.Held.{Draft}
 use Rattle.qg_blocks.specs.Told.{IsNodeAt, fresh_at}
 use Rattle.qg_commit.specs.Calls.{MadeFront, commit_calls}
-use Rattle.qg_other_trees.specs.declared.laying.OtherTrees.{OtherTrees}
-use Rattle.qg_other_trees.specs.declared.laying.Told.{Told}
-use Rattle.qg_other_trees.specs.Trees.{AreTrees, nodes_laid}
+use Rattle.qg_commit.specs.Types.{OtherTrees}
+use Rattle.qg_commit.specs.Types.{Told}
+use Rattle.qg_commit.specs.Trees.{AreTrees, nodes_laid}
 
 -- ---- what is asked
 

@@ -6,15 +6,15 @@ ghost use Rattle.qg_device.specs.History.{Event, Synced, content};
 ghost use Rattle.qg_super.specs.Places.{is_slot, total_bytes};
 ghost use Rattle.qg_image.specs.State.{State};
 ghost use Rattle.qg_commit.specs.Calls.{IsReadBack, with_commit};
-ghost use Rattle.qg_other_trees.specs.Trees.{CanBeLaid};
+ghost use Rattle.qg_commit.specs.Trees.{CanBeLaid};
 ghost use Rattle.qg_tree_commit.specs.Crashing.{IsFound, LeavesTrees};
 ghost use Rattle.qg_tree_commit.specs.Writing.{AreWritable, IsLayingOf, StopsLaying, fresh_nodes, nodes_written};
 
 use crate::write::write_all;
 use qg_blocks::Blocks;
+use qg_commit::other_trees::{OtherTrees, Told, lay_other_trees};
 use qg_disk::{Disk, DiskFault};
 use qg_num::{Address, BlockFault, Generation};
-use qg_other_trees::{OtherTrees, Told, lay_other_trees};
 use qg_super::Sizes;
 use std::alloc::Global;
 

@@ -8,3 +8,5 @@ mod write;
 
 pub use committing::commit;
 pub use laws::{commit_is_on_disk, fresh_are_flushed, fresh_are_reached, written_are_new_nodes};
+pub use qg_commit as image_commit;
+pub use qg_commit::{check, other_trees};

@@ -21,11 +21,11 @@ ghost use Rattle.qg_commit.specs.Calls.{
 ghost use Rattle.qg_tree_commit.specs.Writing.{fresh_nodes, nodes_written};
 
 use qg_blocks::Blocks;
+use qg_commit::other_trees::OtherTrees;
 use qg_commit::{write_nodes, write_superblocks};
 use qg_disk::{Disk, DiskFault};
 use qg_node::write_node;
 use qg_num::Address;
-use qg_other_trees::OtherTrees;
 
 // Writes the fresh nodes, which lie at these addresses, one after the other, over a buffer of a node's size in bytes.
 fn write_fresh<D: Disk>(

@@ -7,7 +7,7 @@ use Rattle.qg_image.specs.Owed.{part_address}
 use Rattle.qg_image.specs.State.{layout_of}
 use Rattle.qg_image.specs.ImageState.{state_in}
 use Rattle.qg_direct.specs.declared.surveyed.Surveyed.{Surveyed}
-use Rattle.qg_gathered.specs.Gathered.{root_at}
+use Rattle.qg_shared_walk.specs.Gathered.{root_at}
 use Rattle.qg_groups.specs.declared.state.QuotaState.{QuotaState}
 use Rattle.qg_groups.specs.Tracked.{IsTracked}
 use Rattle.qg_check.proofs.Judging.{AreNamedBy}

@@ -7,8 +7,8 @@ use Rattle.qg_walk.proofs.Failures.{TellsFailure-of, told-no_disk}
 use Rattle.std.specs.List.Sorted.{IsStrictlyIncreasing}
 use Rattle.qg_reach.specs.Sets.{HaveSame}
 use Rattle.qg_direct.specs.Surveyed.{AreSurveyed}
-use Rattle.qg_gathered.specs.declared.judging.Judged.{Judged}
-use Rattle.qg_gathered.specs.Judged.{IfKept, failure_in}
+use Rattle.qg_shared_walk.specs.Types.{Judged}
+use Rattle.qg_shared_walk.specs.Judged.{IfKept, failure_in}
 use Rattle.qg_check.proofs.references.judge_recorded.Goals as goal
 
 pub returns-in-Breaks-clause-failure : goal.returns-in-Breaks-clause-failure

@@ -10,9 +10,9 @@ use Rattle.qg_groups.specs.OnOrOff.{path_in, refusal_in}
 use Rattle.qg_groups.specs.Tracked.{quota_of}
 use Rattle.qg_inodes.proofs.PiecesRead.{handed}
 use Rattle.qg_inodes.proofs.Whole.{handed-sound}
-use Rattle.qg_file_edits.specs.Files.{pieces_of}
+use Rattle.qg_kept.specs.Files.{pieces_of}
 use Rattle.qg_file_items.specs.Pieces.{pieces_met}
-use Rattle.qg_fs_laws.specs.Keeping.{other_names}
+use Rattle.qg_kept.specs.FsLawsKeeping.{other_names}
 use Rattle.qg_kept.specs.declared.kept.Kept.{Kept}
 use Rattle.qg_kept.specs.Editing.{clone_refusal}
 use Rattle.qg_file_commands.proofs.Accepting.{judged-node, listed-still, path-still, path-told, quota-read}

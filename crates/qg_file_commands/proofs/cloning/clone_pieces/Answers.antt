@@ -3,9 +3,9 @@ use Rattle.qg_image.specs.Need.{file_copies}
 use Rattle.qg_space.specs.Holding.{free_slots}
 use Rattle.qg_inodes.proofs.PiecesRead.{handed}
 use Rattle.qg_inodes.proofs.Whole.{handed-sound}
-use Rattle.qg_file_edits.specs.declared.found.Found.{Found}
-use Rattle.qg_file_edits.specs.Files.{pieces_of}
-use Rattle.qg_fs_laws.specs.Keeping.{other_names}
+use Rattle.qg_kept.specs.Types.{Found}
+use Rattle.qg_kept.specs.Files.{pieces_of}
+use Rattle.qg_kept.specs.FsLawsKeeping.{other_names}
 use Rattle.qg_kept.specs.declared.kept.Kept.{Kept}
 use Rattle.qg_kept.specs.Keeping.{need_of}
 use Rattle.qg_file_commands.proofs.Accepting.{node-small, path-still, quota-read, quota-turned}

@@ -3,7 +3,7 @@ use Rattle.std.specs.Prelude.{Option}
 use Rattle.qg_image.specs.declared.file.File.{File}
 use Rattle.qg_inodes.proofs.PiecesRead.{handed}
 use Rattle.qg_inodes.proofs.Whole.{handed-sound}
-use Rattle.qg_fs_laws.specs.Keeping.{other_names}
+use Rattle.qg_kept.specs.FsLawsKeeping.{other_names}
 use Rattle.qg_file_commands.proofs.Listed.{lists, lists-no-file, lists-no-sub}
 use Rattle.qg_kept.proofs.Looked.{is-near, is-readable, keeps-looked, kept-read, looked-read, tells-files}
 use Rattle.qg_kept.proofs.Looked.{with_blocks}

@@ -6,7 +6,7 @@ use Rattle.qg_image.specs.Need.{file_copies}
 use Rattle.qg_space.specs.Holding.{free_slots}
 use Rattle.qg_inodes.proofs.PiecesRead.{handed}
 use Rattle.qg_inodes.proofs.Whole.{handed-sound}
-use Rattle.qg_fs_laws.specs.Keeping.{other_names}
+use Rattle.qg_kept.specs.FsLawsKeeping.{other_names}
 use Rattle.qg_kept.specs.Editing.{size_refusal}
 use Rattle.qg_kept.specs.Keeping.{need_of}
 use Rattle.qg_file_commands.proofs.Edited.{if-none, kept-edited}

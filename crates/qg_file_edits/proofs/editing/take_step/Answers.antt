@@ -9,7 +9,7 @@ use Rattle.qg_edit.specs.Edits.{has_key, with_item, without_key}
 use Rattle.qg_exchange.specs.declared.step.Step.{Step}
 use Rattle.qg_exchange.specs.Applying.{CanApply, after_step, key_at}
 use Rattle.qg_file_edits.specs.Editing.{AreMade}
-use Rattle.qg_fs_tree.specs.Standing.{name_told}
+use Rattle.qg_fs_layout.specs.Standing.{name_told}
 use Rattle.qg_file_edits.specs.Naming.{AreCovered}
 use Rattle.qg_file_edits.proofs.Once.{put-as}
 use Rattle.qg_file_edits.proofs.editing.take_step.Goals as goal

@@ -8,7 +8,7 @@ use Rattle.qg_edit.proofs.Leaves.{ok-known}
 use Rattle.qg_refs.specs.declared.kept.Kept.{Kept}
 use Rattle.qg_extents.specs.Table.{IsTable}
 use Rattle.qg_exchange.specs.Named.{named, names_of}
-use Rattle.qg_fs_tree.specs.Standing.{Stands, name_told}
+use Rattle.qg_fs_layout.specs.Standing.{Stands, name_told}
 use Rattle.qg_file_edits.specs.Naming.{AreCovered, AreNamed}
 use Rattle.qg_file_edits.proofs.Edited.{made-not}
 use Rattle.qg_file_edits.proofs.Handed.{cause-other, handed, made-handed}

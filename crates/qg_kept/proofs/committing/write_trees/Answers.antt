@@ -1,8 +1,8 @@
 use Rattle.std.proofs.Common.{refl, subst}
 use Rattle.std.specs.Prelude.{All, IfOk}
 use Rattle.qg_super.specs.declared.sizes.Sizes.{Sizes}
-use Rattle.qg_commit.specs.Calls.{IsReadBack}
-use Rattle.qg_tree_commit.specs.Writing.{fresh_nodes}
+use Rattle.qg_fs_laws.specs.Calls.{IsReadBack}
+use Rattle.qg_fs_laws.specs.Writing.{fresh_nodes}
 use Rattle.qg_kept.proofs.CanWrite.{can-be-laid, can-be-written, slots-there, stops-so}
 use Rattle.qg_kept.proofs.committing.write_trees.Goals as goal
 

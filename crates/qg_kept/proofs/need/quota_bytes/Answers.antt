@@ -2,7 +2,7 @@ use Rattle.std.proofs.Common.{Option, sym, ap, ◌∙◌}
 use Rattle.std.proofs.lemmas.Result.{IfOk-weaker}
 use Rattle.qg_groups.specs.declared.state.QuotaState.{QuotaState}
 use Rattle.qg_groups.specs.Tracked.{quota_of}
-use Rattle.qg_other_trees.specs.Trees.{quota_tree_bytes}
+use Rattle.qg_fs_laws.specs.Trees.{quota_tree_bytes}
 use Rattle.qg_kept.proofs.need.quota_bytes.Goals as goal
 
 pub returns-in-None-clause-value : goal.returns-in-None-clause-value

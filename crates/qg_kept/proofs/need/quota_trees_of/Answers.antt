@@ -1,7 +1,7 @@
 use Rattle.std.proofs.Common.{Option, sym, ap}
 use Rattle.qg_groups.specs.declared.state.QuotaState.{QuotaState}
 use Rattle.qg_groups.specs.Tracked.{quota_of}
-use Rattle.qg_other_trees.specs.Trees.{quota_trees}
+use Rattle.qg_fs_laws.specs.Trees.{quota_trees}
 use Rattle.qg_kept.proofs.need.quota_trees_of.Goals as goal
 
 pub returns-in-None-clause-value : goal.returns-in-None-clause-value

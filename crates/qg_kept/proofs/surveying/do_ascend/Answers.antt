@@ -1,5 +1,5 @@
 use Rattle.std.proofs.Common.{sym, ◌∙◌, arith}
-use Rattle.qg_gathered.proofs.Sorted.{not_rising, numbers_rise}
+use Rattle.qg_fs_laws.proofs.Sorted.{not_rising, numbers_rise}
 use Rattle.qg_direct.specs.declared.surveyed.Surveyed.{Surveyed}
 use Rattle.qg_kept.proofs.surveying.do_ascend.Goals as goal
 

@@ -2,7 +2,7 @@ use Rattle.std.proofs.Common.{rules, ◌≡◌, ℕ, ◌+◌, List, map, ap, sub
 use Rattle.std.specs.Vec.{with_items}
 use Rattle.qg_refs.specs.declared.kept.Kept.{Kept}
 use Rattle.qg_extents.specs.Table.{IsTable}
-use Rattle.qg_fs_tree.specs.declared.fs_tree.FsTree.{FsTree}
+use Rattle.qg_fs_layout.specs.Types.{FsTree}
 use Rattle.qg_standing.specs.Committing.{IsCommitted, for_generation}
 use Rattle.qg_standing.proofs.Renewed.{others-renewed}
 use Rattle.qg_standing.proofs.Still.{stands-read, turns-still}

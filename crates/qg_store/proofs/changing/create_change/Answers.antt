@@ -6,16 +6,16 @@ use Rattle.qg_image.specs.State.{State}
 use Rattle.qg_extents.specs.Table.{IsTable}
 use Rattle.qg_ground.specs.declared.ground.Ground.{Ground}
 use Rattle.qg_ground.specs.Calls.{LeavesBe}
-use Rattle.qg_tree_edits.specs.Editing.{IsEditable}
-use Rattle.qg_tree_refs.specs.Heavier.{BookGetsHeavier, node_bytes}
-use Rattle.qg_tree_refs.specs.declared.tree_refs.TreeRefs.{TreeRefs}
-use Rattle.qg_forest.specs.Standing.{HoldsState}
+use Rattle.qg_kept.specs.TreeEditsEditing.{IsEditable}
+use Rattle.qg_kept.specs.Heavier.{BookGetsHeavier, node_bytes}
+use Rattle.qg_kept.specs.Types.{TreeRefs}
+use Rattle.qg_kept.specs.ForestStanding.{HoldsState}
 use Rattle.qg_groups.specs.declared.state.QuotaState.{QuotaState}
 use Rattle.qg_groups.specs.Tracked.{IsTracked}
 use Rattle.qg_inodes.proofs.PiecesRead.{handed}
 use Rattle.qg_inodes.proofs.Whole.{handed-sound}
 use Rattle.qg_descent.specs.Tree.{Root}
-use Rattle.qg_fs_laws.proofs.Runs.{state-held}
+use Rattle.qg_kept.proofs.Runs.{state-held}
 use Rattle.qg_kept.specs.declared.kept.Kept.{Kept}
 use Rattle.qg_kept.specs.Keeping.{IsKept, IsKeptOf}
 use Rattle.qg_store.proofs.Added.{group-may-come, number-good}

@@ -12,16 +12,16 @@ use Rattle.qg_machine.specs.Step.{deleted}
 use Rattle.qg_refs.specs.Book.{what_in}
 use Rattle.qg_extents.specs.Table.{IsTable, book_of}
 use Rattle.qg_ground.specs.declared.ground.Ground.{Ground}
-use Rattle.qg_tree_edits.specs.Editing.{IsEditable}
-use Rattle.qg_tree_refs.specs.Heavier.{BookGetsHeavier}
-use Rattle.qg_tree_refs.specs.declared.tree_refs.TreeRefs.{TreeRefs}
-use Rattle.qg_forest.specs.Standing.{HoldsState, tree_of}
+use Rattle.qg_kept.specs.TreeEditsEditing.{IsEditable}
+use Rattle.qg_kept.specs.Heavier.{BookGetsHeavier}
+use Rattle.qg_kept.specs.Types.{TreeRefs}
+use Rattle.qg_kept.specs.ForestStanding.{HoldsState, tree_of}
 use Rattle.qg_drop.specs.Dropping.{RestsButRuns}
 use Rattle.qg_inodes.proofs.PiecesRead.{handed}
 use Rattle.qg_inodes.proofs.Whole.{handed-sound}
 use Rattle.qg_descent.specs.Tree.{Root}
-use Rattle.qg_fs_laws.specs.Keeping.{other_names}
-use Rattle.qg_fs_laws.proofs.Runs.{state-held}
+use Rattle.qg_kept.specs.FsLawsKeeping.{other_names}
+use Rattle.qg_kept.proofs.Runs.{state-held}
 use Rattle.qg_kept.specs.declared.kept.Kept.{Kept}
 use Rattle.qg_kept.specs.Keeping.{IsKept, IsKeptOf, SameButClean}
 use Rattle.qg_store.proofs.DroppedKept.{changed-dropped, kept-dropped, rest-dropped, room-turned}

@@ -7,16 +7,16 @@ use Rattle.qg_image.specs.State.{State, has_subvolume}
 use Rattle.qg_machine.specs.Step.{Snapshots}
 use Rattle.qg_extents.specs.Table.{IsTable}
 use Rattle.qg_ground.specs.declared.ground.Ground.{Ground}
-use Rattle.qg_tree_refs.specs.Heavier.{BookGetsHeavier, node_bytes}
-use Rattle.qg_tree_refs.specs.declared.tree_refs.TreeRefs.{TreeRefs}
-use Rattle.qg_forest.specs.Standing.{HoldsState}
+use Rattle.qg_kept.specs.Heavier.{BookGetsHeavier, node_bytes}
+use Rattle.qg_kept.specs.Types.{TreeRefs}
+use Rattle.qg_kept.specs.ForestStanding.{HoldsState}
 use Rattle.qg_groups.specs.declared.state.QuotaState.{QuotaState}
 use Rattle.qg_groups.specs.Tracked.{IsTracked}
 use Rattle.qg_inodes.proofs.PiecesRead.{handed}
 use Rattle.qg_inodes.proofs.Whole.{handed-sound}
 use Rattle.qg_descent.specs.Tree.{Root}
-use Rattle.qg_fs_laws.specs.Keeping.{other_names}
-use Rattle.qg_fs_laws.proofs.Runs.{state-held}
+use Rattle.qg_kept.specs.FsLawsKeeping.{other_names}
+use Rattle.qg_kept.proofs.Runs.{state-held}
 use Rattle.qg_kept.specs.declared.kept.Kept.{Kept}
 use Rattle.qg_kept.specs.Keeping.{IsFitted, IsKept, IsKeptOf}
 use Rattle.qg_store.proofs.Added.{group-may-come, level-lowest, number-good}

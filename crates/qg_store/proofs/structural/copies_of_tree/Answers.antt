@@ -2,8 +2,8 @@ use Rattle.std.proofs.Common.{◌+◌, ℕ, ap, subst}
 use Rattle.qg_extents.specs.Table.{IsTable}
 use Rattle.qg_inodes.proofs.PiecesRead.{handed}
 use Rattle.qg_inodes.proofs.Whole.{handed-sound}
-use Rattle.qg_fs_laws.proofs.Runs.{state-held}
-use Rattle.qg_fs_laws.specs.Keeping.{other_names}
+use Rattle.qg_kept.proofs.Runs.{state-held}
+use Rattle.qg_kept.specs.FsLawsKeeping.{other_names}
 use Rattle.qg_kept.proofs.Looked.{hand-among, is-subvolume, kept-looked, looked-land}
 use Rattle.qg_file_commands.proofs.Stepped.{tree-kept}
 use Rattle.qg_kept.proofs.Tables.{key-of-value}

@@ -5,7 +5,7 @@ use Rattle.qg_num.specs.declared.refusal.Refusal.TheVariants as why
 use Rattle.qg_space.specs.Holding.{free_slots}
 use Rattle.qg_inodes.proofs.PiecesRead.{handed}
 use Rattle.qg_inodes.proofs.Whole.{handed-sound}
-use Rattle.qg_fs_laws.specs.Keeping.{other_names}
+use Rattle.qg_kept.specs.FsLawsKeeping.{other_names}
 use Rattle.qg_kept.specs.Keeping.{structural_need_of}
 use Rattle.qg_file_commands.proofs.Edited.{if-none}
 use Rattle.qg_kept.proofs.Looked.{node-size}

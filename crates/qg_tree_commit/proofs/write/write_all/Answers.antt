@@ -1,6 +1,6 @@
 use Rattle.std.proofs.Common.{◌++◌, length, refl, ◌∙◌}
 use Rattle.qg_commit.proofs.CommitCalls.{first_calls, two_calls}
-use Rattle.qg_other_trees.specs.Trees.{quota_nodes_laid}
+use Rattle.qg_commit.specs.Trees.{quota_nodes_laid}
 use Rattle.qg_tree_commit.specs.Writing.{fresh_nodes}
 use Rattle.qg_tree_commit.proofs.Calls.{all-calls, comes-extents, comes-fresh, comes-quotas, comes-roots}
 use Rattle.qg_tree_commit.proofs.Calls.{comes-superblocks, parts-writable}
