@@ -15,7 +15,7 @@ use Rattle.qg_groups.specs.Tracked.{quota_of}
 use Rattle.qg_kept.specs.declared.kept.Kept.{Kept}
 use Rattle.qg_kept.specs.Editing.{HasReadNodes, clone_reserves, write_reserves}
 use Rattle.qg_kept.specs.Keeping.{IsFitted, IsKeptOf, SameButClean, most_reserved}
-use Rattle.qg_file_commands.proofs.Known.{nodesize-known}
+use Rattle.qg_kept.proofs.Known.{nodesize-known}
 use Rattle.qg_kept.proofs.Looked.{node-size}
 
 -- ---- what stays

@@ -20,13 +20,13 @@ use Rattle.qg_kept.specs.declared.kept.Kept.{Kept}
 use Rattle.qg_kept.specs.Answering.{Answered}
 use Rattle.qg_kept.specs.Editing.{clone_refusal, clone_reserves, slots_refusal}
 use Rattle.qg_kept.specs.Keeping.{IsKept, IsKeptOf, need_of}
-use Rattle.qg_file_commands.proofs.Known.{sub-known}
+use Rattle.qg_kept.proofs.Known.{sub-known}
 use Rattle.qg_file_commands.proofs.Refused.{early-clone, late-clone, limit-clone}
-use Rattle.qg_file_commands.proofs.Changed.{clone-here, hand-short, short-files, short-pieces}
+use Rattle.qg_kept.proofs.Changed.{clone-here, hand-short, short-files, short-pieces}
 use Rattle.qg_file_commands.proofs.Leaves.{follows-edit}
 use Rattle.qg_kept.proofs.Short.{short-left}
-use Rattle.qg_file_commands.proofs.Stepped.{Follows, IsLate, Reserves, change_to, does_edit, does_nothing, edited}
-use Rattle.qg_file_commands.proofs.Stepped.{late-refusal, reserves-so}
+use Rattle.qg_kept.proofs.Stepped.{Follows, IsLate, Reserves, change_to, does_edit, does_nothing, edited}
+use Rattle.qg_kept.proofs.Stepped.{late-refusal, reserves-so}
 
 -- it is refused
 pub refuses-clone : (kept : Kept) (state : State) (history : Option (List Event))

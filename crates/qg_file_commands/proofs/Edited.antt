@@ -19,7 +19,7 @@ use Rattle.qg_kept.specs.Editable.{AreGroupsOf}
 use Rattle.qg_kept.specs.declared.kept.Kept.{Kept}
 use Rattle.qg_kept.specs.Keeping.{AreSubvolumesBy, HoldsPending, IsFitted, IsKept, most_reserved}
 use Rattle.qg_file_commands.proofs.ReservedBy.{bounded-more, later-more}
-use Rattle.qg_file_commands.proofs.Stepped.{Reserves, edited}
+use Rattle.qg_kept.proofs.Stepped.{Reserves, edited}
 
 -- what is said where nothing is refused
 pub if-none : (refused : Option Refusal) (P : Type 0) → refused ≡ None → IfNone refused P → P

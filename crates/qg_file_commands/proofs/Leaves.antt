@@ -23,8 +23,8 @@ use Rattle.qg_kept.specs.declared.kept.Kept.{Kept}
 use Rattle.qg_kept.specs.Keeping.{IsKept, IsKeptOf, book_weight, commit_need, filled_by, need_of, quota_weight}
 use Rattle.qg_kept.specs.Keeping.{root_weight}
 use Rattle.qg_kept.proofs.Looked.{node-size}
-use Rattle.qg_file_commands.proofs.Room.{fills-apart}
-use Rattle.qg_file_commands.proofs.Stepped.{Follows, edited, tree-kept}
+use Rattle.qg_kept.proofs.Room.{fills-apart}
+use Rattle.qg_kept.proofs.Stepped.{Follows, edited, tree-kept}
 
 wide : (nodesize : ℕ) → IsNodeSize nodesize → 4096 ≤ nodesize
 wide nodesize (inl is) = omega (arith, is)

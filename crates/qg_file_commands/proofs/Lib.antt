@@ -1,8 +1,4 @@
-pub mod Room
-pub mod Known
 pub mod Refused
-pub mod Stepped
-pub mod Changed
 pub mod Touched
 pub mod Leaves
 pub mod ReservedBy

@@ -16,8 +16,8 @@ use Rattle.qg_machine.specs.Step as machine
 use Rattle.qg_kept.specs.declared.kept.Kept.{Kept}
 use Rattle.qg_kept.specs.Answering.{Answered}
 use Rattle.qg_kept.specs.Keeping.{IsKeptOf}
-use Rattle.qg_file_commands.proofs.Known.{file-known, file-missing, hand-there, no-other}
-use Rattle.qg_file_commands.proofs.Stepped.{does_nothing}
+use Rattle.qg_kept.proofs.Known.{file-known, file-missing, hand-there, no-other}
+use Rattle.qg_kept.proofs.Stepped.{does_nothing}
 
 -- there is no such subvolume, which a tree was asked of before
 pub lists-no-sub : (old kept : Kept) (state : State) (history : Option (List Event)) (sub ino : ℕ)

@@ -21,7 +21,7 @@ use Rattle.qg_machine.specs.Refusals.{too_many_pending}
 use Rattle.qg_kept.specs.declared.kept.Kept.{Kept}
 use Rattle.qg_kept.specs.Editing.{clone_refusal, range_refusal, size_refusal, unlink_refusal}
 use Rattle.qg_kept.specs.Keeping.{IsKeptOf}
-use Rattle.qg_file_commands.proofs.Known.{file-missing, hand-there, many-pending, no-other, source-short, sub-there}
+use Rattle.qg_kept.proofs.Known.{file-missing, hand-there, many-pending, no-other, source-short, sub-there}
 
 -- ---- the INODE_ITEM that is told of a file
 

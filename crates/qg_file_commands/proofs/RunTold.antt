@@ -13,7 +13,7 @@ use Rattle.qg_extents.specs.Table.{IsTable}
 use Rattle.qg_kept.proofs.Free.{space-told}
 use Rattle.qg_kept.specs.declared.kept.Kept.{Kept}
 use Rattle.qg_kept.specs.Keeping.{IsKept, IsKeptOf}
-use Rattle.qg_file_commands.proofs.Stepped.{tree-kept}
+use Rattle.qg_kept.proofs.Stepped.{tree-kept}
 
 -- a length of whole sectors, by their number
 whole-sectors : (len : ℕ) → is_aligned len ≡ true → len / sector * sector ≡ len

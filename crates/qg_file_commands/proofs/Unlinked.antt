@@ -16,11 +16,11 @@ use Rattle.qg_kept.specs.Answering.{Answered}
 use Rattle.qg_kept.specs.Editing.{slots_refusal, unlink_refusal}
 use Rattle.qg_kept.specs.Keeping.{IsKept, IsKeptOf, need_of}
 use Rattle.qg_file_commands.proofs.Refused.{early-unlink, late-unlink}
-use Rattle.qg_file_commands.proofs.Changed.{changes-here, hand-short}
+use Rattle.qg_kept.proofs.Changed.{changes-here, hand-short}
 use Rattle.qg_file_commands.proofs.Leaves.{follows-edit}
 use Rattle.qg_kept.proofs.Short.{short-left}
-use Rattle.qg_file_commands.proofs.Stepped.{Follows, IsLate, change_to, does_edit, does_nothing, edited}
-use Rattle.qg_file_commands.proofs.Stepped.{late-refusal, reserves-nothing}
+use Rattle.qg_kept.proofs.Stepped.{Follows, IsLate, change_to, does_edit, does_nothing, edited}
+use Rattle.qg_kept.proofs.Stepped.{late-refusal, reserves-nothing}
 
 -- it is refused
 pub refuses-unlink : (kept : Kept) (state : State) (history : Option (List Event)) (sub ino : ℕ)

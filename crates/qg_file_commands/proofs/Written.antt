@@ -24,11 +24,11 @@ use Rattle.qg_kept.specs.Answering.{Answered}
 use Rattle.qg_kept.specs.Editing.{range_refusal, slots_refusal, write_reserves}
 use Rattle.qg_kept.specs.Keeping.{IsKept, IsKeptOf, need_of}
 use Rattle.qg_file_commands.proofs.Refused.{early-write, late-write, limit-write, runless-write}
-use Rattle.qg_file_commands.proofs.Changed.{changes-here, hand-short}
+use Rattle.qg_kept.proofs.Changed.{changes-here, hand-short}
 use Rattle.qg_file_commands.proofs.Leaves.{follows-edit}
 use Rattle.qg_kept.proofs.Short.{short-left}
-use Rattle.qg_file_commands.proofs.Stepped.{Follows, IsLate, Reserves, change_to, does_edit, does_nothing, edited}
-use Rattle.qg_file_commands.proofs.Stepped.{late-refusal, reserves-so}
+use Rattle.qg_kept.proofs.Stepped.{Follows, IsLate, Reserves, change_to, does_edit, does_nothing, edited}
+use Rattle.qg_kept.proofs.Stepped.{late-refusal, reserves-so}
 
 -- the range may not be written
 pub refuses-range : (kept : Kept) (state : State) (history : Option (List Event)) (sub ino off len : ℕ)

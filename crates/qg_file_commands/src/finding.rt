@@ -13,10 +13,10 @@ ghost use Rattle.qg_kept.specs.Editing.{HasReadNodes};
 ghost use Rattle.qg_kept.specs.Keeping.{IsKept};
 
 use qg_disk::Disk;
-use qg_inodes::{inode_of, pieces_meeting};
 use qg_items::InodeItem;
 use qg_kept::Kept;
 use qg_kept::file_edits::Found;
+use qg_kept::inodes::{inode_of, pieces_meeting};
 use qg_num::{BlockFault, Ino, Pieces, Steps};
 use std::sync::ledger::Ledger;
 

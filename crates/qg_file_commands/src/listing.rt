@@ -10,7 +10,7 @@ ghost use Rattle.qg_kept.specs.Editing.{HasLooked};
 ghost use Rattle.qg_kept.specs.Keeping.{IsKept, IsKeptOf};
 
 use qg_disk::Disk;
-use qg_inodes::file_of;
+use qg_kept::inodes::file_of;
 use qg_kept::{Kept, turn_to};
 use qg_num::{Answer, BlockFault, Ino, Refusal, RootId, Steps};
 use std::sync::ledger::Ledger;

@@ -11,8 +11,7 @@ use Rattle.qg_extents.specs.Table.{IsTable}
 use Rattle.qg_fs_laws.specs.Named.{named}
 use Rattle.qg_fs_laws.proofs.Known.{no-later}
 use Rattle.qg_kept.specs.declared.kept.Kept.{Kept}
-use Rattle.qg_kept.specs.Committing.{KnowsNoLater}
-use Rattle.qg_kept.specs.Keeping.{IsKept, IsKeptWith}
+use Rattle.qg_kept.specs.Keeping.{IsKept, IsKeptWith, KnowsNoLater}
 use Rattle.qg_kept.proofs.Looked.{is-subvolume}
 
 module _ (kept : Kept) (state : State) (history : Option (List Event)) (bytes : ℕ) (names : List Record)

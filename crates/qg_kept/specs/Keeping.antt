@@ -117,6 +117,10 @@ pub record SameButClean (old new : Kept) : Type 0 where
   }
   pub trees : IsPermutation (trees_of old.fs) (trees_of new.fs)
 
+-- a book knows nothing that is of a later generation than the one to come
+abbrev pub KnowsNoLater : Kept → Type 0
+KnowsNoLater kept = All (λ entry. entry.1.what.generation ≤ kept.fs.tree.next) kept.fs.refs.refs
+
 -- ---- over a disk that tells
 
 -- Over a disk with this history it is kept of a state, where the items of the last commit's root and quota trees name

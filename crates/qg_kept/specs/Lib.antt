@@ -2,12 +2,14 @@ pub use Rattle.qg_fs_laws.specs.Calls
 pub use Rattle.qg_fs_laws.specs.Changes
 pub use Rattle.qg_fs_laws.specs.CommitOpening
 pub use Rattle.qg_fs_laws.specs.Committing as FsLawsCommitting
+pub use Rattle.qg_fs_laws.specs.Counting
 pub use Rattle.qg_fs_laws.specs.Editable
 pub use Rattle.qg_fs_laws.specs.Files
 pub use Rattle.qg_fs_laws.specs.Following
 pub use Rattle.qg_fs_laws.specs.ForestStanding
 pub use Rattle.qg_fs_laws.specs.Fresh
 pub use Rattle.qg_fs_laws.specs.Heavier
+pub use Rattle.qg_fs_laws.specs.Holds
 pub use Rattle.qg_fs_laws.specs.IsImage
 pub use Rattle.qg_fs_laws.specs.Keeping as FsLawsKeeping
 pub use Rattle.qg_fs_laws.specs.Laying
@@ -18,6 +20,7 @@ pub use Rattle.qg_fs_laws.specs.Opened
 pub use Rattle.qg_fs_laws.specs.Opening
 pub use Rattle.qg_fs_laws.specs.Report
 pub use Rattle.qg_fs_laws.specs.Settled
+pub use Rattle.qg_fs_laws.specs.Sound
 pub use Rattle.qg_fs_laws.specs.Stale
 pub use Rattle.qg_fs_laws.specs.Standing
 pub use Rattle.qg_fs_laws.specs.StandingCommitting
@@ -25,13 +28,11 @@ pub use Rattle.qg_fs_laws.specs.StandingOpening
 pub use Rattle.qg_fs_laws.specs.TreeBook
 pub use Rattle.qg_fs_laws.specs.TreeEditsEditing
 pub use Rattle.qg_fs_laws.specs.Trees
+pub use Rattle.qg_fs_laws.specs.Writing
 pub mod Keeping
 pub mod Stored
 pub mod Making
 pub mod Answering
 pub mod Editing
 pub mod Slots
-pub mod Committing
-pub mod Planning
-pub mod Owning
 pub mod Types

@@ -83,7 +83,7 @@ pub fn structural_need(kept: &Kept, copies: u64) -> Result<u64, NoMemory>
 
 /// The slots that a commit may take for the root, extent and quota trees. More items than take 2^61 bytes are told in
 /// no memory.
-pub(crate) fn commit_need(kept: &Kept) -> Result<u64, NoMemory>
+pub fn commit_need(kept: &Kept) -> Result<u64, NoMemory>
     requires size { IsNodeSize kept.now.superblock.nodesize }
     ensures { IfOk result (λ need. need ≡ commit_need kept.now) }
 {

@@ -16,7 +16,7 @@ use Rattle.qg_store.specs.Calls.{commit_calls, with_commit}
 use Rattle.qg_store.specs.CommitOpened.{IsOpened, stale_of}
 use Rattle.qg_store.specs.CommitOpening.{with_repair}
 use Rattle.qg_store.specs.Crashes.{last_commit}
-use Rattle.qg_kept.specs.Making.{Makes}
+use Rattle.qg_store.specs.Making.{Makes}
 use Rattle.qg_store.proofs.Chained.{MakesSoFar, rests-behind}
 use Rattle.qg_store.proofs.LastCommits.{AreLater}
 use Rattle.qg_store.proofs.Synced.{held_after}

@@ -14,8 +14,8 @@ use Rattle.qg_script.specs.Lines.{LosesLine, TakesLine, pending, CountsTaken}
 use Rattle.qg_image.specs.State.{Committed, State}
 use Rattle.qg_machine.specs.Run.{Run}
 use Rattle.qg_store.specs.CommitOpened.{IsOpened}
-use Rattle.qg_kept.specs.Making.{Makes}
-use Rattle.qg_kept.specs.Stored.{Stored, IsStoreOf}
+use Rattle.qg_store.specs.Making.{Makes}
+use Rattle.qg_store.specs.Stored.{Stored, IsStoreOf}
 use Rattle.qg_store.proofs.Synced.{Makes-append, held_after, synced-Makes}
 use Rattle.qg_program.specs.declared.status.Status.{Status}
 use Rattle.qg_program.specs.declared.status.Status.TheVariants as status

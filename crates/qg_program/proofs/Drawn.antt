@@ -11,7 +11,7 @@ use Rattle.qg_edge.specs.Appended.{AppendsFront}
 use Rattle.qg_grammar.specs.ReplyText.{reply_text}
 use Rattle.qg_image.specs.State.{State}
 use Rattle.qg_crashes.specs.Outcomes.{Survives}
-use Rattle.qg_kept.specs.Answering.{IsDoneSoFar}
+use Rattle.qg_store.specs.Answering.{IsDoneSoFar}
 use Rattle.qg_store.proofs.Chained.{MakesSoFar}
 use Rattle.qg_store.proofs.LastCommits.{last-itself}
 use Rattle.qg_store.proofs.Outlived.{begun-so-far}

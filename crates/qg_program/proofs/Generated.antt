@@ -19,7 +19,7 @@ use Rattle.qg_script.specs.ReportText.{summary_text}
 use Rattle.qg_program.specs.declared.generate.Tally.{Tally}
 use Rattle.qg_program.specs.declared.status.Status.{Status}
 use Rattle.qg_program.specs.declared.status.Status.TheVariants as status
-use Rattle.qg_kept.specs.Stored.{Stored}
+use Rattle.qg_store.specs.Stored.{Stored}
 use Rattle.qg_program.specs.Ends.{is_generators, is_refusers, is_stop}
 use Rattle.qg_program.specs.Following.{StopsBefore}
 use Rattle.qg_program.specs.Generating.{Generates, GeneratesAll, GeneratesUntil, asked_lines, lines_of}

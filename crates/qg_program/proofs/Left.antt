@@ -13,9 +13,9 @@ use Rattle.qg_script.specs.Lines.{CountsTaken, pending}
 use Rattle.qg_image.specs.State.{State}
 use Rattle.qg_machine.specs.Run.{Run}
 use Rattle.qg_crashes.specs.Outcomes.{Rests, Survives}
-use Rattle.qg_kept.specs.Answering.{IsDoneSoFar}
-use Rattle.qg_kept.specs.Making.{Makes}
-use Rattle.qg_kept.specs.Stored.{Stored}
+use Rattle.qg_store.specs.Answering.{IsDoneSoFar}
+use Rattle.qg_store.specs.Making.{Makes}
+use Rattle.qg_store.specs.Stored.{Stored}
 use Rattle.qg_store.proofs.Chained.{MakesSoFar}
 use Rattle.qg_store.proofs.LastCommits.{last-itself}
 use Rattle.qg_store.proofs.Outlived.{begun-so-far}

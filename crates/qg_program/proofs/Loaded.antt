@@ -14,7 +14,7 @@ use Rattle.qg_grammar.specs.ReplyText.{reply_text}
 use Rattle.qg_grammar.specs.ScriptText.{command_text}
 use Rattle.qg_image.specs.State.{Committed, State}
 use Rattle.qg_machine.specs.Run.{Run}
-use Rattle.qg_kept.specs.Stored.{Stored, IsStoreOf}
+use Rattle.qg_store.specs.Stored.{Stored, IsStoreOf}
 use Rattle.qg_generator.specs.GeneratedScript.{generated_script, line_drawn, lines_drawn}
 use Rattle.qg_store.proofs.HeldAfter.{held_after-append, turn-held}
 use Rattle.qg_store.proofs.Synced.{held_after}

@@ -21,7 +21,7 @@ use Rattle.qg_store.specs.CommitOpened.{IsOpened, IsRepairing, stale_of}
 use Rattle.qg_store.specs.CommitOpening.{with_repair}
 use Rattle.qg_store.proofs.OpeningCalls.{opening_repairs}
 use Rattle.qg_store.specs.Crashes.{IsLastCommit, LeavesOneOf, last_commit}
-use Rattle.qg_kept.specs.Making.{Makes}
+use Rattle.qg_store.specs.Making.{Makes}
 use Rattle.qg_store.proofs.Chained.{ChainOf, MakesSoFar, chain-leaves, chained, dated-states, makes-then, rests-behind}
 use Rattle.qg_store.proofs.LastCommits.{AreLater, LeadTo, last-itself, lead-then, run-leads}
 use Rattle.qg_store.proofs.Synced.{held_after}

@@ -9,8 +9,8 @@ use Rattle.qg_grammar.specs.ReplyText.{reply_text}
 use Rattle.qg_generator.specs.GeneratedScript.{generated_script}
 use Rattle.qg_script.specs.ReportText.{summary_text}
 use Rattle.qg_image.specs.State.{State}
-use Rattle.qg_kept.specs.Answering.{AnswersOn, IsDoneSoFar}
-use Rattle.qg_kept.specs.Stored.{Stored, IsStoreOf}
+use Rattle.qg_store.specs.Answering.{AnswersOn, IsDoneSoFar}
+use Rattle.qg_store.specs.Stored.{Stored, IsStoreOf}
 use Rattle.qg_program.specs.declared.generate.Tally.{Tally}
 use Rattle.qg_program.specs.Generating.{asked_lines, lines_of}
 use Rattle.qg_program.specs.Loading.{AreRun, IsLoaded, StopsWithin}

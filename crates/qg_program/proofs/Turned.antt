@@ -9,8 +9,8 @@ use Rattle.qg_grammar.specs.ReplyText.{reply_text, no_line}
 use Rattle.qg_script.specs.Lines.{TakesLine}
 use Rattle.qg_grammar.specs.ScriptText.{IsLineOf}
 use Rattle.qg_image.specs.State.{State}
-use Rattle.qg_kept.specs.Answering.{AnswersOn, IsDoneSoFar}
-use Rattle.qg_kept.specs.Stored.{Stored, IsStoreOf}
+use Rattle.qg_store.specs.Answering.{AnswersOn, IsDoneSoFar}
+use Rattle.qg_store.specs.Stored.{Stored, IsStoreOf}
 use Rattle.qg_program.specs.declared.status.Status.{Status}
 use Rattle.qg_program.specs.declared.status.Status.TheVariants as status
 use Rattle.qg_program.specs.Ends.{is_stop}

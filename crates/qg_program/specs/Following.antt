@@ -10,8 +10,8 @@ use Rattle.qg_grammar.specs.ScriptText.{IsLineOf, script_lines, longest_script}
 use Rattle.qg_image.specs.State.{Committed, State}
 use Rattle.qg_machine.specs.Run.{Run}
 use Rattle.qg_store.specs.CommitOpened.{IsOpened, IsOpening}
-use Rattle.qg_kept.specs.Answering.{StartsCommits}
-use Rattle.qg_kept.specs.Making.{AreSynced, MadeCommits}
+use Rattle.qg_store.specs.Answering.{StartsCommits}
+use Rattle.qg_store.specs.Making.{AreSynced, MadeCommits}
 use Rattle.qg_program.specs.declared.status.Status.{Status}
 use Rattle.qg_program.specs.declared.status.Status.TheVariants.{Disk, Done, NoMemory, Sink, Source, TooLong}
 use Rattle.qg_program.specs.Running.{ended_lines}

@@ -6,8 +6,8 @@ use Rattle.qg_num.specs.declared.answer.Answer.{Answer}
 use Rattle.qg_grammar.specs.ReplyText.{reply_text}
 use Rattle.qg_image.specs.State.{State}
 use Rattle.qg_machine.specs.Run.{Run}
-use Rattle.qg_kept.specs.Making.{MadeCommits}
-use Rattle.qg_kept.specs.Stored.{Stored, IsStoreOf}
+use Rattle.qg_store.specs.Making.{MadeCommits}
+use Rattle.qg_store.specs.Stored.{Stored, IsStoreOf}
 use Rattle.qg_program.specs.declared.generate.Tally.{Tally}
 use Rattle.qg_program.specs.Following.{StopsBefore}
 use Rattle.qg_program.specs.Generating.{TellsRun, is_refused}

@@ -8,8 +8,8 @@ use Rattle.qg_script.specs.Feeding.{Feeding, IsTooLong, IsWithinLimit}
 use Rattle.qg_script.specs.Lines.{CountsTaken, TakesLine}
 use Rattle.qg_image.specs.State.{State}
 use Rattle.qg_machine.specs.Run.{Turn}
-use Rattle.qg_kept.specs.Making.{MadeCommits}
-use Rattle.qg_kept.specs.Stored.{Stored, IsStoreOf}
+use Rattle.qg_store.specs.Making.{MadeCommits}
+use Rattle.qg_store.specs.Stored.{Stored, IsStoreOf}
 use Rattle.qg_program.specs.declared.status.Status.{Status}
 use Rattle.qg_program.specs.declared.status.Status.TheVariants.{NoMemory, Image, Source, Sink, Disk, TooLong}
 use Rattle.qg_program.specs.Following.{StartsLine}

@@ -3,7 +3,7 @@ ghost use Rattle.std.specs.Prelude.{◌≡◌, ◌≢◌, List, Some, IfErr, OnO
 ghost use Rattle.qg_device.specs.Cause.{HasCause};
 ghost use Rattle.qg_device.specs.History.{Event};
 ghost use Rattle.qg_image.specs.State.{State};
-ghost use Rattle.qg_kept.specs.Stored.{IsReady, IsStoreOf};
+ghost use Rattle.qg_store.specs.Stored.{IsReady, IsStoreOf};
 ghost use Rattle.qg_program.specs.Ends.{is_stop};
 ghost use Rattle.qg_program.specs.Putting.{IsReplyText, TellsFailure};
 ghost use Rattle.qg_program.specs.Turning.{IsLineSoFar, IsReply};

@@ -10,7 +10,7 @@ ghost use Rattle.qg_image.specs.Verdict.{IsSound, verdict};
 ghost use Rattle.qg_image.specs.declared.failure.Failure.{Failure};
 ghost use Rattle.qg_crashes.specs.Outcomes.{Rests};
 ghost use Rattle.qg_store.specs.CommitOpened.{IsOpened};
-ghost use Rattle.qg_kept.specs.Stored.{IsReady, IsStoreOf};
+ghost use Rattle.qg_store.specs.Stored.{IsReady, IsStoreOf};
 ghost use Rattle.qg_program.specs.Ends.{is_generators, is_stop};
 ghost use Rattle.qg_program.specs.Generating.{Generates, asked_lines, is_refused, lines_of};
 ghost use Rattle.qg_program.specs.Leaving.{Drawn, LeavesBehind};

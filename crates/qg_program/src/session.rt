@@ -7,8 +7,8 @@ ghost use Rattle.qg_num.specs.declared.fault.Stop.TheVariants.{Aborted};
 ghost use Rattle.qg_grammar.specs.FailureText.{broken_text};
 ghost use Rattle.qg_grammar.specs.ScriptText.{is_in_grammar};
 ghost use Rattle.qg_image.specs.State.{State};
-ghost use Rattle.qg_kept.specs.Answering.{AnswersOn, IsDoneSoFar};
-ghost use Rattle.qg_kept.specs.Stored.{IsReady, IsStoreOf, is_of_image};
+ghost use Rattle.qg_store.specs.Answering.{AnswersOn, IsDoneSoFar};
+ghost use Rattle.qg_store.specs.Stored.{IsReady, IsStoreOf, is_of_image};
 ghost use Rattle.qg_program.specs.Ends.{is_stop};
 ghost use Rattle.qg_program.specs.Putting.{TellsFailure};
 

@@ -8,7 +8,7 @@ ghost use Rattle.qg_image.specs.State.{State};
 ghost use Rattle.qg_image.specs.StateOf.{StateOf};
 ghost use Rattle.qg_crashes.specs.Outcomes.{Rests};
 ghost use Rattle.qg_store.specs.CommitOpened.{IsOpened};
-ghost use Rattle.qg_kept.specs.Stored.{IsReady, IsStoreOf};
+ghost use Rattle.qg_store.specs.Stored.{IsReady, IsStoreOf};
 ghost use Rattle.qg_program.specs.Ends.{HasCauses, is_answerers};
 ghost use Rattle.qg_program.specs.Following.{Follows};
 ghost use Rattle.qg_program.specs.Leaving.{Input, LeavesBehind};

@@ -9,7 +9,6 @@ use Rattle.qg_num.specs.declared.answer.Answer.TheVariants as answer
 use Rattle.qg_num.specs.declared.command.Command.TheVariants as command
 use Rattle.qg_num.specs.declared.refusal.Refusal.{Refusal}
 use Rattle.qg_num.specs.declared.refusal.Refusal.TheVariants as why
-use Rattle.qg_node.specs.NodeText.{IsNodeSize}
 use Rattle.qg_super.specs.declared.sizes.Sizes.{Sizes}
 use Rattle.qg_super.specs.declared.superblock.Super.{Super}
 use Rattle.qg_super.specs.Places.{capacity}
@@ -21,7 +20,7 @@ use Rattle.qg_machine.specs.Refusals.{is_pending, last_generation, no_generation
 use Rattle.qg_machine.specs.Step.{Commits, CommitsPending}
 use Rattle.qg_machine.specs.Step as machine
 use Rattle.qg_refs.specs.declared.kept.Kept.{Kept as Reference}
-use Rattle.qg_kept.specs.Calls.{with_commit}
+use Rattle.qg_kept_commit.specs.Calls.{with_commit}
 use Rattle.qg_weighed.specs.Laws.{is_among}
 use Rattle.qg_weighed.specs.Weight.{records_in, weight_of}
 use Rattle.qg_weighed.proofs.Distinct.{bytes-alike}
@@ -30,15 +29,16 @@ use Rattle.qg_space.specs.Holding.{free_slots}
 use Rattle.qg_descent.specs.Tree.{Root}
 use Rattle.qg_groups.specs.Tracked.{quota_of}
 use Rattle.qg_groups.proofs.Recounted.{recounted-self}
-use Rattle.qg_kept.specs.declared.kept.Kept.{Kept}
-use Rattle.qg_kept.specs.Keeping.{IsFitted, IsKeptOf, book_weight, commit_need, filled_by, quota_weight}
-use Rattle.qg_kept.specs.Keeping.{root_weight, structural_need_of}
-use Rattle.qg_kept.specs.Planning.{CommitsOn, LeavesRoom, StartsCommitOf}
-use Rattle.qg_store.specs.Structural.{HasCommitted, HasRoom, IsDoneFirst, IsSettledFrom}
-use Rattle.qg_kept.proofs.Looked.{node-size}
-use Rattle.qg_kept.proofs.OnOff.{bytes-recounted, roots-recounted}
-use Rattle.qg_store.proofs.Reasoned.{generation-told}
-use Rattle.qg_file_commands.proofs.Room.{commit-few, fills-more, left-first, left-none, left-second}
+use Rattle.qg_kept_commit.specs.Types.{Kept}
+use Rattle.qg_kept_commit.specs.Keeping.{IsFitted, IsKeptOf, book_weight, commit_need, filled_by, quota_weight}
+use Rattle.qg_kept_commit.specs.Keeping.{root_weight, structural_need_of}
+use Rattle.qg_kept_commit.specs.Planning.{CommitsOn, LeavesRoom, StartsCommitOf}
+use Rattle.qg_store.specs.Structural.{HasCommitted, IsDoneFirst, IsSettledFrom}
+use Rattle.qg_kept_changes.specs.Changing.{HasRoom}
+use Rattle.qg_kept_commit.proofs.OnOff.{bytes-recounted, roots-recounted}
+use Rattle.qg_kept_changes.proofs.HowMany.{generation-told}
+use Rattle.qg_kept_commit.proofs.Room.{fills-more, left-first, left-none, left-second}
+use Rattle.qg_kept_changes.proofs.Fitting.{large, need-few}
 
 -- ---- what is weighed
 
@@ -98,17 +98,6 @@ module _ (old new : Kept) (leaves : LeavesRoom old new)
       omega (arith, by_old, same)
 
 -- ---- room
-
-wide : (nodesize : ℕ) → IsNodeSize nodesize → 4096 ≤ nodesize
-wide nodesize (inl is) = omega (arith, is)
-wide nodesize (inr is) = omega (arith, is)
-
-pub large : (kept : Kept) → IsFitted kept → 4096 ≤ kept.superblock.nodesize
-large kept fits = wide kept.superblock.nodesize (node-size kept fits)
-
-pub need-few : (kept : Kept) → IsFitted kept → commit_need kept ≤ 5 * filled_by kept + 13
-need-few kept fits =
-    commit-few kept.superblock.nodesize (book_weight kept) (root_weight kept) (quota_weight kept) (large kept fits)
 
 pub room-committed : (old new : Kept) (copies : ℕ) → IsFitted old → LeavesRoom old new
     → sizes_of new.superblock ≡ sizes_of old.superblock
@@ -236,10 +225,6 @@ module _ (kept : Kept) (state : State) (events : List Event) (history : Option (
   }
 
 -- ---- what is said of a result
-
-pub on-ok : {A E : Type 0} (P Q : Type 0) (result : Result A E) → (P → Q) → OnOk result P → OnOk result Q
-on-ok P Q (Ok value) then said = then said
-on-ok P Q (Err fault) then said = tt
 
 pub on-if : {A E : Type 0} (P Q : Type 0) (result : Result A E) → (P → Q) → IfOk result (λ done. P)
     → OnOk result Q

@@ -14,10 +14,10 @@ use Rattle.qg_machine.specs.Refusals.{refusal}
 use Rattle.qg_machine.specs.Step.{CommitsPending, Does, DoesStructural, Stays, Step}
 use Rattle.qg_crashes.specs.Committing.{begin_of}
 use Rattle.qg_crashes.specs.Outcomes.{Rests}
-use Rattle.qg_kept.specs.declared.kept.Kept.{Kept}
-use Rattle.qg_kept.specs.Answering.{AnswersOn, IsDoneSoFar, comes_to_disk}
+use Rattle.qg_kept_commit.specs.Types.{Kept}
+use Rattle.qg_kept_commit.specs.Answering.{AnswersOn, IsDoneSoFar, comes_to_disk}
 use Rattle.qg_store.specs.Crashes.{AreCommitsOf, CommitsBy, IsLastCommit, LeavesOneOf, OutlivesCommand, StillRests}
-use Rattle.qg_kept.specs.Making.{BringsTo, Makes, StartsCommit, StartsSecond}
+use Rattle.qg_kept_commit.specs.Making.{BringsTo, Makes, StartsCommit, StartsSecond}
 use Rattle.qg_store.proofs.Chained.{MakesSoFar, chain-leaves, chained, makes-all, makes-then, rests-behind}
 use Rattle.qg_store.proofs.LastCommits.{AreLater, changes-last, does-changes, step-leads, structural-leads}
 use Rattle.qg_store.proofs.Structured.{held-first}

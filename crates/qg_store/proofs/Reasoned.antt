@@ -1,6 +1,6 @@
 -- Why a structural command may be refused, told by what is kept.
-use Rattle.std.proofs.Common.{◌≡◌, ℕ, ◌+◌, ◌*◌, ◌^◌, Bool, true, false, List, [], ◌∷◌, ◌++◌, None, Some, Option, arith}
-use Rattle.std.proofs.Common.{refl, sym, ap, ◌∙◌}
+use Rattle.std.proofs.Common.{◌≡◌, ℕ, ◌+◌, ◌*◌, ◌^◌, Bool, true, false, List, [], ◌∷◌, ◌++◌, None, Some, Option, refl}
+use Rattle.std.proofs.Common.{sym, ap, ◌∙◌}
 use Rattle.std.specs.Prelude.{◌||◌, ◌&&◌, ◌==◌, is_some, length, nat_le, nat_lt, not}
 use Rattle.std.specs.List.{list_any}
 use Rattle.std.proofs.lemmas.Bool.{eq-eqb, ne_eqb, true≢false}
@@ -19,55 +19,25 @@ use Rattle.qg_image.specs.Members.{level_of_group, next_subvolume}
 use Rattle.qg_image.specs.Need.{nodes_filled, structural_need}
 use Rattle.qg_image.specs.State.{State, is_quota_on}
 use Rattle.qg_image.specs.Verdict.{most_groups, most_relations, most_subvolumes}
-use Rattle.qg_machine.specs.Refusals.{groups_of, last_generation, no_commit, no_nodes, no_parents, no_sub}
-use Rattle.qg_machine.specs.Refusals.{number_to_come}
-use Rattle.qg_machine.specs.Refusals.{pairs_of, refusal, refuse, structural_copies, too_many_subvolumes}
+use Rattle.qg_machine.specs.Refusals.{last_generation, no_commit, no_nodes, no_parents, no_sub, refusal, refuse}
+use Rattle.qg_machine.specs.Refusals.{structural_copies, too_many_subvolumes}
 use Rattle.qg_hier.specs.Groups.{has_number}
 use Rattle.qg_groups.specs.Changing.{change_refusal, change_refusals, groups_in, is_group_command, pairs_in}
 use Rattle.qg_groups.specs.OnOrOff.{parents_refusal, snap_refusal}
 use Rattle.qg_groups.specs.Tracked.{SameButCounts, quota_of}
 use Rattle.qg_groups.proofs.Recounted.{groups-recounted, pairs-recounted, refusal-recounted}
-use Rattle.qg_groups.proofs.Refused.{groups-told, pairs-told, refusal-is}
+use Rattle.qg_groups.proofs.Refused.{refusal-is}
 use Rattle.qg_groups.proofs.Snapped.{snap-told}
 use Rattle.qg_extents.specs.Table.{IsTable}
-use Rattle.qg_kept.specs.FsLawsKeeping.{other_names}
-use Rattle.qg_kept.specs.declared.kept.Kept.{Kept}
-use Rattle.qg_kept.specs.Keeping.{IsFitted, IsKept, IsKeptOf, structural_need_of}
-use Rattle.qg_store.specs.Structural.{IsSettledFrom, commit_refusal, group_copies, number_next, too_many_refusal}
-use Rattle.qg_file_commands.proofs.Known.{no-other, sub-there}
+use Rattle.qg_kept_commit.specs.FsLawsKeeping.{other_names}
+use Rattle.qg_kept_commit.specs.Types.{Kept}
+use Rattle.qg_kept_commit.specs.Keeping.{IsFitted, IsKept, IsKeptOf, structural_need_of}
+use Rattle.qg_store.specs.Structural.{IsSettledFrom, commit_refusal}
+use Rattle.qg_kept_changes.specs.Changing.{group_copies, number_next, too_many_refusal}
+use Rattle.qg_kept_commit.proofs.Known.{no-other, sub-there}
 use Rattle.qg_file_commands.proofs.Refused.{first_one}
-use Rattle.qg_file_commands.proofs.Stepped.{free-told, keys-kept, many-kept, nodesize-kept, weight-kept}
-
--- ---- how many there are
-
-module _ (kept : Kept) (state : State) (history : Option (List Event)) (fits : IsFitted kept)
-    (keeps : IsKeptOf kept state history) where
-  groups_kept : groups_of state ≡ groups_in (quota_of kept.quota)
-  groups_kept = groups-told state ∙ ap (λ (quota : Option Quota). groups_in quota) keeps.quota
-
-  pairs_kept : pairs_of state ≡ pairs_in (quota_of kept.quota)
-  pairs_kept = pairs-told state ∙ ap (λ (quota : Option Quota). pairs_in quota) keeps.quota
-
-  on_kept : is_quota_on state ≡ is_some (quota_of kept.quota)
-  on_kept = ap (λ (quota : Option Quota). is_some quota) keeps.quota
-
-  pub number-told : number_to_come state ≡ number_next kept
-  number-told =
-      λ i. next_subvolume (keys-kept kept state history (other_names state) fits keeps i) (groups_kept i)
-
-  pub too-many-told : (relations : ℕ) → too_many_subvolumes state relations ≡ too_many_refusal kept relations
-  too-many-told relations =
-      λ i. refuse
-      (nat_le most_subvolumes (many-kept kept state history (other_names state) fits keeps i)
-      || (on_kept i && nat_le most_groups (length (groups_kept i)))
-      || nat_lt most_relations (length (pairs_kept i) + relations) || nat_le (2 ^ 48) (number-told i)) why.TooMany
-
-  -- the generation of the last commit
-  pub generation-told : state.generation ≡ kept.superblock.generation
-  generation-told =
-      let come = keeps.keeps.laid.generation in
-      let next = fits.next in
-      omega (arith, come, next)
+use Rattle.qg_kept_commit.proofs.Stepped.{free-told, keys-kept, many-kept, nodesize-kept, weight-kept}
+use Rattle.qg_kept_changes.proofs.HowMany.{generation-told, too-many-told}
 
 -- ---- the first of some
 

@@ -15,16 +15,16 @@ use Rattle.qg_image.proofs.Contained.{contains_later}
 use Rattle.qg_contents.specs.Written.{items_of_file}
 use Rattle.qg_blocks.specs.Writing.{Keeps}
 use Rattle.qg_blocks.proofs.Written.{Keeps-then}
-use Rattle.qg_kept.specs.Stale.{stale_place}
-use Rattle.qg_kept.specs.CommitOpening.{with_repair}
-use Rattle.qg_kept.specs.Types.{FsTree}
-use Rattle.qg_kept.specs.Standing.{nodes_of}
-use Rattle.qg_kept.specs.StandingCommitting.{StandsStill}
-use Rattle.qg_kept.proofs.Alike.{stands-alike, superblocks-keep, syncs-keep, told-alike}
-use Rattle.qg_kept.specs.Named.{named}
-use Rattle.qg_kept.specs.FsLawsKeeping.{KeepsState}
-use Rattle.qg_kept.specs.declared.kept.Kept.{Kept}
-use Rattle.qg_kept.specs.Keeping.{IsFitted, IsKeptOf}
+use Rattle.qg_kept_commit.specs.Stale.{stale_place}
+use Rattle.qg_kept_commit.specs.CommitOpening.{with_repair}
+use Rattle.qg_kept_commit.specs.Types.{FsTree}
+use Rattle.qg_kept_commit.specs.Standing.{nodes_of}
+use Rattle.qg_kept_commit.specs.StandingCommitting.{StandsStill}
+use Rattle.qg_kept_commit.proofs.Alike.{stands-alike, superblocks-keep, syncs-keep, told-alike}
+use Rattle.qg_kept_commit.specs.Named.{named}
+use Rattle.qg_kept_commit.specs.FsLawsKeeping.{KeepsState}
+use Rattle.qg_kept_commit.specs.Types.{Kept}
+use Rattle.qg_kept_commit.specs.Keeping.{IsFitted, IsKeptOf}
 
 -- ---- where the same is told
 

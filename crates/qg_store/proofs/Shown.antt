@@ -13,9 +13,9 @@ use Rattle.qg_machine.specs.Refusals.{refusal, refuse}
 use Rattle.qg_machine.specs.Step.{rows_of}
 use Rattle.qg_machine.specs.Step as machine
 use Rattle.qg_groups.specs.Tracked.{quota_of}
-use Rattle.qg_kept.specs.declared.kept.Kept.{Kept}
-use Rattle.qg_kept.specs.Answering.{Answered, shown}
-use Rattle.qg_kept.specs.Keeping.{IsKeptOf}
+use Rattle.qg_kept_commit.specs.Types.{Kept}
+use Rattle.qg_kept_commit.specs.Answering.{Answered, shown}
+use Rattle.qg_kept_commit.specs.Keeping.{IsKeptOf}
 
 -- it is refused while quota is off
 refused_so : (state : State) (quota : Option Quota) → state.quota ≡ quota

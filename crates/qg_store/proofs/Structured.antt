@@ -16,14 +16,15 @@ use Rattle.qg_machine.specs.Refusals.{is_pending, nodes_reached, refusal}
 use Rattle.qg_machine.specs.Step.{Changes, Commits, CommitsPending, DoesStructural}
 use Rattle.qg_machine.specs.Step as machine
 use Rattle.qg_groups.specs.Changing.{is_group_command}
-use Rattle.qg_kept.specs.Calls.{with_commit}
-use Rattle.qg_kept.specs.declared.kept.Kept.{Kept}
-use Rattle.qg_kept.specs.Answering.{AnswersOn, IsDoneSoFar, comes_to_disk, is_structural}
-use Rattle.qg_kept.specs.Keeping.{IsKeptOf}
-use Rattle.qg_kept.specs.Making.{MadeFirst, Makes, StartsCommit, StartsSecond}
-use Rattle.qg_kept.specs.Planning.{CommitsOn, StartsCommitOf}
-use Rattle.qg_kept.specs.Stored.{KnowsLast}
-use Rattle.qg_store.specs.Structural.{HasCommitted, IsChanged, IsDoneFirst, IsSettledFrom}
+use Rattle.qg_kept_commit.specs.Calls.{with_commit}
+use Rattle.qg_kept_commit.specs.Types.{Kept}
+use Rattle.qg_kept_commit.specs.Answering.{AnswersOn, IsDoneSoFar, comes_to_disk, is_structural}
+use Rattle.qg_kept_commit.specs.Keeping.{IsKeptOf}
+use Rattle.qg_kept_commit.specs.Making.{MadeFirst, Makes, StartsCommit, StartsSecond}
+use Rattle.qg_kept_commit.specs.Planning.{CommitsOn, StartsCommitOf}
+use Rattle.qg_kept_commit.specs.Stored.{KnowsLast}
+use Rattle.qg_store.specs.Structural.{HasCommitted, IsDoneFirst, IsSettledFrom}
+use Rattle.qg_kept_changes.specs.Changing.{IsChanged}
 use Rattle.qg_store.proofs.Synced.{Makes-append, held_after}
 
 -- ---- what is held meanwhile

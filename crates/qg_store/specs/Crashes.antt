@@ -8,9 +8,9 @@ use Rattle.qg_image.specs.State.{State}
 use Rattle.qg_machine.specs.Refusals.{refusal}
 use Rattle.qg_machine.specs.Step.{CommitsPending, Step}
 use Rattle.qg_crashes.specs.Outcomes.{Chain, Commit, Rests, Survives, dated_by}
-use Rattle.qg_kept.specs.declared.kept.Kept.{Kept}
-use Rattle.qg_kept.specs.Answering.{Answered, comes_to_disk}
-use Rattle.qg_kept.specs.Making.{MadeCommits}
+use Rattle.qg_kept_commit.specs.Types.{Kept}
+use Rattle.qg_kept_commit.specs.Answering.{Answered, comes_to_disk}
+use Rattle.qg_kept_commit.specs.Making.{MadeCommits}
 
 -- ---- the last commit
 

@@ -14,23 +14,23 @@ ghost use Rattle.qg_image.specs.Verdict.{verdict};
 ghost use Rattle.qg_blocks.specs.Told.{BreaksNone};
 ghost use Rattle.qg_walk.specs.Fault.{TellsFailure};
 ghost use Rattle.qg_crashes.specs.Outcomes.{Rests};
-ghost use Rattle.qg_kept.specs.Opened.{IsOpened, IsOpening, OutlivesCrashes};
-ghost use Rattle.qg_kept.specs.CommitOpening.{IsUntouched};
-ghost use Rattle.qg_kept.specs.Answering.{AnswersOn, IsDoneSoFar, comes_to_disk, is_unchanging};
+ghost use Rattle.qg_kept_commit.specs.Opened.{IsOpened, IsOpening, OutlivesCrashes};
+ghost use Rattle.qg_kept_commit.specs.CommitOpening.{IsUntouched};
+ghost use Rattle.qg_kept_commit.specs.Answering.{AnswersOn, IsDoneSoFar, comes_to_disk, is_unchanging};
 ghost use Rattle.qg_store.specs.Crashes.{IsLastCommit, OutlivesCommand};
-ghost use Rattle.qg_kept.specs.Editing.{HasLooked};
-ghost use Rattle.qg_kept.specs.Keeping.{IsKept, IsKeptOf};
-ghost use Rattle.qg_kept.specs.Stored.{ComesToDisk, DoesCommand, GoesOn, IsReady, IsStoreOf, IsStoreOver, IsUnchanged};
-ghost use Rattle.qg_kept.specs.Stored.{KnowsLast, RunsOrStops, sizes_stored};
+ghost use Rattle.qg_kept_commit.specs.Editing.{HasLooked};
+ghost use Rattle.qg_kept_commit.specs.Keeping.{IsKept, IsKeptOf};
+ghost use Rattle.qg_kept_commit.specs.Stored.{ComesToDisk, DoesCommand, GoesOn, IsReady, IsStoreOf, IsStoreOver};
+ghost use Rattle.qg_kept_commit.specs.Stored.{IsUnchanged, KnowsLast, RunsOrStops, sizes_stored};
 
 use crate::grouping::regroup;
-use crate::opening::kept_of;
-use crate::showing::show;
 use crate::structural::{create, delete, snap};
 use qg_disk::Disk;
 use qg_file_commands::{clone, list, truncate, unlink, write};
-use qg_kept::image_commit::{OpenFault, open};
-use qg_kept::{Kept, commit, owners};
+use qg_kept_changes::{kept_of, show};
+use qg_kept_commit::kept::Kept;
+use qg_kept_commit::kept::image_commit::{OpenFault, open};
+use qg_kept_commit::{commit, owners};
 use qg_num::{Address, Answer, BlockFault, Command, Generation, Steps, Stop};
 use std::alloc::Global;
 use std::marker::Model;
@@ -44,7 +44,7 @@ pub struct Store {
 }
 
 impl Model for Store {
-    ghost use Rattle.qg_kept.specs.Stored.{Stored, IsStore};
+    ghost use Rattle.qg_kept_commit.specs.Stored.{Stored, IsStore};
 
     ghost Value = { Stored };
 

@@ -10,18 +10,19 @@ ghost use Rattle.qg_machine.specs.Refusals.{nodes_reached};
 ghost use Rattle.qg_blocks.specs.Told.{BreaksNone};
 ghost use Rattle.qg_extents.specs.Table.{IsTable};
 ghost use Rattle.qg_space.specs.Holding.{free_slots};
-ghost use Rattle.qg_kept.specs.Answering.{AnswersOn, IsDoneSoFar, is_unchanging};
-ghost use Rattle.qg_kept.specs.Editing.{HasLooked, HasReadNodes};
-ghost use Rattle.qg_kept.specs.Keeping.{IsKept, IsKeptOf, structural_need_of};
-ghost use Rattle.qg_kept.specs.Stored.{KnowsLast};
-ghost use Rattle.qg_store.specs.Structural.{HasCommitted, HasRoom, IsDoneFirst, IsSettledFrom, commit_refusal};
+ghost use Rattle.qg_kept_commit.specs.Answering.{AnswersOn, IsDoneSoFar, is_unchanging};
+ghost use Rattle.qg_kept_commit.specs.Editing.{HasLooked, HasReadNodes};
+ghost use Rattle.qg_kept_commit.specs.Keeping.{IsKept, IsKeptOf, structural_need_of};
+ghost use Rattle.qg_kept_commit.specs.Stored.{KnowsLast};
+ghost use Rattle.qg_store.specs.Structural.{HasCommitted, IsDoneFirst, IsSettledFrom, commit_refusal};
+ghost use Rattle.qg_kept_changes.specs.Changing.{HasRoom};
 
-use crate::changing::{create_change, delete_change, snap_change};
-use crate::numbering::{are_too_many, number_next};
 use qg_disk::Disk;
 use qg_groups::refusal_of_parents;
 use qg_items::tree::TOP_LEVEL;
-use qg_kept::{Kept, LAST_GENERATION, commit_now, structural_need, turn_to};
+use qg_kept_changes::{are_too_many, create_change, delete_change, number_next, snap_change};
+use qg_kept_commit::kept::{Kept, structural_need, turn_to};
+use qg_kept_commit::{LAST_GENERATION, commit_now};
 use qg_num::{Answer, BlockFault, GroupId, NoMemory, Refusal, RootId, Steps};
 use std::sync::ledger::Ledger;
 
@@ -175,7 +176,13 @@ fn copies_of_tree<D: Disk, L: Ledger>(
     ensures cause { HasCause BlockFault.Disk (D.faults disk.old) (D.faults disk.new) result }
 {
     let _ascending = kept.fs.refs.refs().len();
-    let nodes = qg_drop::count_nodes(kept.alloc, &mut kept.fs.land, disk, &kept.fs.tree, reads)?;
+    let nodes = qg_kept_changes::drop::count_nodes(
+        kept.alloc,
+        &mut kept.fs.land,
+        disk,
+        &kept.fs.tree,
+        reads,
+    )?;
     if nodes > MOST_NODES {
         return Err(BlockFault::NoMemory);
     }

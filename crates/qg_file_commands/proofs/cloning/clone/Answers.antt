@@ -8,8 +8,8 @@ use Rattle.qg_image.specs.Table.{value_at}
 use Rattle.qg_machine.specs.Refusals.{share_a_byte}
 use Rattle.qg_groups.specs.OnOrOff.{path_in, refusal_in}
 use Rattle.qg_groups.specs.Tracked.{quota_of}
-use Rattle.qg_inodes.proofs.PiecesRead.{handed}
-use Rattle.qg_inodes.proofs.Whole.{handed-sound}
+use Rattle.qg_kept.proofs.PiecesRead.{handed}
+use Rattle.qg_kept.proofs.Whole.{handed-sound}
 use Rattle.qg_kept.specs.Files.{pieces_of}
 use Rattle.qg_file_items.specs.Pieces.{pieces_met}
 use Rattle.qg_kept.specs.FsLawsKeeping.{other_names}

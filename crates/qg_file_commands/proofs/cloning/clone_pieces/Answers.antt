@@ -1,8 +1,8 @@
 use Rattle.std.proofs.Common.{◌+◌, ◌*◌, ◌<◌, ◌∙◌, ◌≤◌, ℕ, subst, sym}
 use Rattle.qg_image.specs.Need.{file_copies}
 use Rattle.qg_space.specs.Holding.{free_slots}
-use Rattle.qg_inodes.proofs.PiecesRead.{handed}
-use Rattle.qg_inodes.proofs.Whole.{handed-sound}
+use Rattle.qg_kept.proofs.PiecesRead.{handed}
+use Rattle.qg_kept.proofs.Whole.{handed-sound}
 use Rattle.qg_kept.specs.Types.{Found}
 use Rattle.qg_kept.specs.Files.{pieces_of}
 use Rattle.qg_kept.specs.FsLawsKeeping.{other_names}

@@ -1,7 +1,7 @@
 use Rattle.std.proofs.Common.{List}
 use Rattle.qg_num.specs.declared.piece.Piece.{Piece}
-use Rattle.qg_inodes.proofs.PiecesRead.{handed}
-use Rattle.qg_inodes.proofs.Whole.{handed-sound}
+use Rattle.qg_kept.proofs.PiecesRead.{handed}
+use Rattle.qg_kept.proofs.Whole.{handed-sound}
 use Rattle.qg_kept.proofs.Looked.{holds-looked}
 use Rattle.qg_file_commands.proofs.finding.found_in.Goals as goal
 

@@ -1,8 +1,8 @@
 use Rattle.std.proofs.Common.{refl, sym, ◌∙◌}
 use Rattle.std.specs.Prelude.{Option}
 use Rattle.qg_image.specs.declared.file.File.{File}
-use Rattle.qg_inodes.proofs.PiecesRead.{handed}
-use Rattle.qg_inodes.proofs.Whole.{handed-sound}
+use Rattle.qg_kept.proofs.PiecesRead.{handed}
+use Rattle.qg_kept.proofs.Whole.{handed-sound}
 use Rattle.qg_kept.specs.FsLawsKeeping.{other_names}
 use Rattle.qg_file_commands.proofs.Listed.{lists, lists-no-file, lists-no-sub}
 use Rattle.qg_kept.proofs.Looked.{is-near, is-readable, keeps-looked, kept-read, looked-read, tells-files}

@@ -4,8 +4,8 @@ use Rattle.qg_items.specs.declared.file.InodeItem.{InodeItem}
 use Rattle.qg_image.specs.Table.{value_at}
 use Rattle.qg_image.specs.Need.{file_copies}
 use Rattle.qg_space.specs.Holding.{free_slots}
-use Rattle.qg_inodes.proofs.PiecesRead.{handed}
-use Rattle.qg_inodes.proofs.Whole.{handed-sound}
+use Rattle.qg_kept.proofs.PiecesRead.{handed}
+use Rattle.qg_kept.proofs.Whole.{handed-sound}
 use Rattle.qg_kept.specs.FsLawsKeeping.{other_names}
 use Rattle.qg_kept.specs.Editing.{size_refusal}
 use Rattle.qg_kept.specs.Keeping.{need_of}

@@ -6,8 +6,8 @@ use Rattle.qg_machine.specs.FileChange.{pieces_meeting}
 use Rattle.qg_groups.specs.OnOrOff.{path_in, refusal_in}
 use Rattle.qg_groups.specs.Tracked.{quota_of}
 use Rattle.qg_space.specs.Holding.{free_slots, is_free_run}
-use Rattle.qg_inodes.proofs.PiecesRead.{handed}
-use Rattle.qg_inodes.proofs.Whole.{handed-sound}
+use Rattle.qg_kept.proofs.PiecesRead.{handed}
+use Rattle.qg_kept.proofs.Whole.{handed-sound}
 use Rattle.qg_kept.specs.Types.{Found}
 use Rattle.qg_kept.specs.Files.{pieces_of}
 use Rattle.qg_kept.specs.FsLawsKeeping.{other_names}

@@ -1,7 +1,7 @@
 use Rattle.std.proofs.Common.{◌≡◌, ◌+◌, ◌≤◌, List, [], Some, length}
 use Rattle.qg_device.specs.History.{Event}
 use Rattle.qg_image.specs.State.{State}
-use Rattle.qg_kept.specs.Stored.{IsReady, IsStoreOf}
+use Rattle.qg_store.specs.Stored.{IsReady, IsStoreOf}
 use Rattle.qg_program.proofs.Loaded.{HasRun}
 use Rattle.qg_program.proofs.generate.answer_generated.Given as goal
 

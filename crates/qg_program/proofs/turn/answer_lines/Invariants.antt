@@ -3,7 +3,7 @@ use Rattle.qg_device.specs.History.{Event}
 use Rattle.qg_script.specs.Feeding.{IsWithinLimit, most_to_come}
 use Rattle.qg_script.specs.Lines.{CountsTaken, pending}
 use Rattle.qg_image.specs.State.{State}
-use Rattle.qg_kept.specs.Stored.{IsReady, IsStoreOf}
+use Rattle.qg_store.specs.Stored.{IsReady, IsStoreOf}
 use Rattle.qg_program.specs.Putting.{PutsReplies}
 use Rattle.qg_program.specs.Turning.{StandsOver}
 use Rattle.qg_program.proofs.Answered.{HasAnswered}

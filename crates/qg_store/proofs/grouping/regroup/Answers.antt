@@ -2,21 +2,22 @@ use Rattle.std.proofs.Common.{◌∙◌, ◌≤◌, ℕ, None, Some, ap, inl, re
 use Rattle.qg_num.specs.declared.answer.Answer.TheVariants.{Done, Refused}
 use Rattle.qg_space.specs.Holding.{free_slots}
 use Rattle.qg_groups.specs.Tracked.{quota_of}
-use Rattle.qg_inodes.proofs.PiecesRead.{handed}
-use Rattle.qg_inodes.proofs.Whole.{handed-sound}
-use Rattle.qg_kept.specs.FsLawsKeeping.{other_names}
-use Rattle.qg_kept.specs.Keeping.{structural_need_of}
-use Rattle.qg_store.specs.Structural.{HasRoom, commit_refusal, group_copies}
+use Rattle.qg_kept_commit.proofs.PiecesRead.{handed}
+use Rattle.qg_kept_commit.proofs.Whole.{handed-sound}
+use Rattle.qg_kept_commit.specs.FsLawsKeeping.{other_names}
+use Rattle.qg_kept_commit.specs.Keeping.{structural_need_of}
+use Rattle.qg_kept_changes.specs.Changing.{HasRoom, group_copies}
+use Rattle.qg_store.specs.Structural.{commit_refusal}
 use Rattle.qg_file_commands.proofs.Edited.{if-none}
-use Rattle.qg_kept.proofs.Looked.{node-size}
-use Rattle.qg_kept.proofs.OnDisk.{last-any, on-disk}
+use Rattle.qg_kept_commit.proofs.Looked.{node-size}
+use Rattle.qg_kept_commit.proofs.OnDisk.{last-any, on-disk}
 use Rattle.qg_store.proofs.Reasoned.{copies-same, group-early, group-late, group-same}
-use Rattle.qg_store.proofs.Regrouped.{asked-so, comes-group, does-group, kept-regrouped, structural-group}
-use Rattle.qg_store.proofs.Regrouped.{superblock-regrouped}
-use Rattle.qg_file_commands.proofs.Stepped.{does_nothing}
+use Rattle.qg_kept_changes.proofs.Regrouped.{asked-so, comes-group, does-group, kept-regrouped, structural-group}
+use Rattle.qg_kept_changes.proofs.Regrouped.{superblock-regrouped}
+use Rattle.qg_kept_commit.proofs.Stepped.{does_nothing}
 use Rattle.qg_store.proofs.Structured.{does-structural, early-second, held-regrouped, last-settled, made-first}
 use Rattle.qg_store.proofs.Structured.{made-second, so-far-first, so-far-second}
-use Rattle.qg_kept.proofs.Turned.{looked-refl}
+use Rattle.qg_kept_commit.proofs.Turned.{looked-refl}
 use Rattle.qg_store.proofs.grouping.regroup.Goals as goal
 
 pub refusal_of-requires : goal.refusal_of-requires

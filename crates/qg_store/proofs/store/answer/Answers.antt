@@ -4,10 +4,10 @@ use Rattle.qg_num.specs.declared.command.Command.{Command}
 use Rattle.qg_num.specs.declared.command.Command.TheVariants.{Clone, Delete, Ls, Owners, Show, Snap, SubCreate}
 use Rattle.qg_num.specs.declared.command.Command.TheVariants.{Truncate, Unlink, Write}
 use Rattle.qg_grammar.specs.ScriptText.{is_in_grammar}
-use Rattle.qg_kept.specs.declared.kept.Kept.{Kept}
-use Rattle.qg_kept.specs.Answering.{Answered, AnswersOn, IsDoneSoFar}
-use Rattle.qg_kept.proofs.OnDisk.{each-given, last-always, last-given, last-same, on-disk, so-far-commit}
-use Rattle.qg_kept.proofs.OnDisk.{still-commit, still-structural, unchanged-looked}
+use Rattle.qg_kept_commit.specs.Types.{Kept}
+use Rattle.qg_kept_commit.specs.Answering.{Answered, AnswersOn, IsDoneSoFar}
+use Rattle.qg_kept_commit.proofs.OnDisk.{each-given, last-always, last-given, last-same, on-disk, so-far-commit}
+use Rattle.qg_kept_commit.proofs.OnDisk.{still-commit, still-structural, unchanged-looked}
 use Rattle.qg_store.proofs.Served.{inode_told, target_told}
 use Rattle.qg_store.proofs.Shown.{does_show}
 use Rattle.qg_store.proofs.store.answer.Goals as goal

@@ -1,6 +1,7 @@
 use Rattle.std.proofs.Common.{arith, inl}
-use Rattle.qg_kept.specs.FsLawsKeeping.{other_names}
-use Rattle.qg_store.proofs.Committed.{committed-none, committed-some, on-if, on-ok, room-committed, room-same}
+use Rattle.qg_kept_commit.specs.FsLawsKeeping.{other_names}
+use Rattle.qg_store.proofs.Committed.{committed-none, committed-some, on-if, room-committed, room-same}
+use Rattle.qg_kept_changes.proofs.Fitting.{on-ok}
 use Rattle.qg_store.proofs.Committed.{settled-committed, settled-same, some-number, starts-pending}
 use Rattle.qg_store.proofs.structural.commit_pending.Goals as goal
 

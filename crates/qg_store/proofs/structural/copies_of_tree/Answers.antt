@@ -1,13 +1,13 @@
 use Rattle.std.proofs.Common.{◌+◌, ℕ, ap, subst}
 use Rattle.qg_extents.specs.Table.{IsTable}
-use Rattle.qg_inodes.proofs.PiecesRead.{handed}
-use Rattle.qg_inodes.proofs.Whole.{handed-sound}
-use Rattle.qg_kept.proofs.Runs.{state-held}
-use Rattle.qg_kept.specs.FsLawsKeeping.{other_names}
-use Rattle.qg_kept.proofs.Looked.{hand-among, is-subvolume, kept-looked, looked-land}
-use Rattle.qg_file_commands.proofs.Stepped.{tree-kept}
-use Rattle.qg_kept.proofs.Tables.{key-of-value}
-use Rattle.qg_store.proofs.Trees.{tree-is}
+use Rattle.qg_kept_commit.proofs.PiecesRead.{handed}
+use Rattle.qg_kept_commit.proofs.Whole.{handed-sound}
+use Rattle.qg_kept_commit.proofs.Runs.{state-held}
+use Rattle.qg_kept_commit.specs.FsLawsKeeping.{other_names}
+use Rattle.qg_kept_commit.proofs.Looked.{hand-among, is-subvolume, kept-looked, looked-land}
+use Rattle.qg_kept_commit.proofs.Stepped.{tree-kept}
+use Rattle.qg_kept_commit.proofs.Tables.{key-of-value}
+use Rattle.qg_kept_changes.proofs.Trees.{tree-is}
 use Rattle.qg_store.proofs.structural.copies_of_tree.Goals as goal
 
 pub count_nodes-requires : goal.count_nodes-requires

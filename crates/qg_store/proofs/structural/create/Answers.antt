@@ -3,18 +3,18 @@ use Rattle.qg_num.specs.declared.answer.Answer.TheVariants.{Refused, Sub}
 use Rattle.qg_num.specs.declared.command.Command.TheVariants.{SubCreate}
 use Rattle.qg_num.specs.declared.refusal.Refusal.TheVariants as why
 use Rattle.qg_space.specs.Holding.{free_slots}
-use Rattle.qg_inodes.proofs.PiecesRead.{handed}
-use Rattle.qg_inodes.proofs.Whole.{handed-sound}
-use Rattle.qg_kept.specs.FsLawsKeeping.{other_names}
-use Rattle.qg_kept.specs.Keeping.{structural_need_of}
+use Rattle.qg_kept_commit.proofs.PiecesRead.{handed}
+use Rattle.qg_kept_commit.proofs.Whole.{handed-sound}
+use Rattle.qg_kept_commit.specs.FsLawsKeeping.{other_names}
+use Rattle.qg_kept_commit.specs.Keeping.{structural_need_of}
 use Rattle.qg_file_commands.proofs.Edited.{if-none}
-use Rattle.qg_kept.proofs.Looked.{node-size}
-use Rattle.qg_kept.proofs.OnDisk.{last-any, on-disk}
+use Rattle.qg_kept_commit.proofs.Looked.{node-size}
+use Rattle.qg_kept_commit.proofs.OnDisk.{last-any, on-disk}
 use Rattle.qg_store.proofs.Reasoned.{create-early, create-late, number-same, too-many-by, too-many-same}
-use Rattle.qg_file_commands.proofs.Stepped.{does_nothing}
+use Rattle.qg_kept_commit.proofs.Stepped.{does_nothing}
 use Rattle.qg_store.proofs.Structured.{does-structural, early-second, held-created, last-settled, made-first}
 use Rattle.qg_store.proofs.Structured.{made-second, so-far-first, so-far-second}
-use Rattle.qg_kept.proofs.Turned.{looked-refl}
+use Rattle.qg_kept_commit.proofs.Turned.{looked-refl}
 use Rattle.qg_store.proofs.structural.create.Goals as goal
 
 pub number_next-number-requires : goal.number_next-number-requires

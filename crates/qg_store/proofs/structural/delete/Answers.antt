@@ -5,20 +5,20 @@ use Rattle.qg_num.specs.declared.refusal.Refusal.TheVariants as why
 use Rattle.qg_image.specs.Table.{has_key}
 use Rattle.qg_machine.specs.Refusals.{nodes_reached}
 use Rattle.qg_space.specs.Holding.{free_slots}
-use Rattle.qg_inodes.proofs.PiecesRead.{handed}
-use Rattle.qg_inodes.proofs.Whole.{handed-sound}
-use Rattle.qg_kept.specs.FsLawsKeeping.{other_names}
-use Rattle.qg_kept.specs.declared.kept.Kept.{Kept}
-use Rattle.qg_kept.specs.Keeping.{structural_need_of}
+use Rattle.qg_kept_commit.proofs.PiecesRead.{handed}
+use Rattle.qg_kept_commit.proofs.Whole.{handed-sound}
+use Rattle.qg_kept_commit.specs.FsLawsKeeping.{other_names}
+use Rattle.qg_kept_commit.specs.Types.{Kept}
+use Rattle.qg_kept_commit.specs.Keeping.{structural_need_of}
 use Rattle.qg_file_commands.proofs.Cloned.{target-listed}
 use Rattle.qg_file_commands.proofs.Edited.{if-none}
-use Rattle.qg_kept.proofs.Looked.{keeps-looked, node-size, superblock-read}
-use Rattle.qg_kept.proofs.OnDisk.{last-any, on-disk}
+use Rattle.qg_kept_commit.proofs.Looked.{keeps-looked, node-size, superblock-read}
+use Rattle.qg_kept_commit.proofs.OnDisk.{last-any, on-disk}
 use Rattle.qg_store.proofs.Reasoned.{delete-late, delete-no-sub, delete-top}
-use Rattle.qg_file_commands.proofs.Stepped.{does_nothing}
+use Rattle.qg_kept_commit.proofs.Stepped.{does_nothing}
 use Rattle.qg_store.proofs.Structured.{does-structural, early-second, held-deleted, last-settled, made-first}
 use Rattle.qg_store.proofs.Structured.{made-second, reached-settled, so-far-first, so-far-second}
-use Rattle.qg_kept.proofs.Turned.{looked-refl, looked-turned}
+use Rattle.qg_kept_commit.proofs.Turned.{looked-refl, looked-turned}
 use Rattle.qg_store.proofs.structural.delete.Goals as goal
 
 pub turn_to-requires : goal.turn_to-requires

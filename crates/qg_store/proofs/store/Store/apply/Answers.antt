@@ -9,9 +9,9 @@ use Rattle.qg_num.specs.declared.fault.BlockFault.{BlockFault}
 use Rattle.qg_num.specs.declared.fault.BlockFault.TheVariants.{Disk, Image, NoMemory}
 use Rattle.qg_image.specs.State.{State}
 use Rattle.qg_blocks.specs.Told.{BreaksNone}
-use Rattle.qg_kept.specs.Answering.{comes_to_disk}
-use Rattle.qg_kept.specs.Keeping.{IsKeptOf}
-use Rattle.qg_kept.specs.Stored.{ComesToDisk, IsStoreOf, Stored, is_of_image}
+use Rattle.qg_kept_commit.specs.Answering.{comes_to_disk}
+use Rattle.qg_kept_commit.specs.Keeping.{IsKeptOf}
+use Rattle.qg_kept_commit.specs.Stored.{ComesToDisk, IsStoreOf, Stored, is_of_image}
 use Rattle.qg_store.proofs.Outlived.{outlives}
 use Rattle.qg_store.proofs.store.Store.apply.Goals as goal
 

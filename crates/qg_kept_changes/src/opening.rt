@@ -1,0 +1,123 @@
+// What is kept of an image that was just opened.
+ghost use Rattle.std.specs.Prelude.{◌≡◌, ◌==◌, List, Option, Some, IfOk, IsTrue, map, not};
+ghost use Rattle.std.specs.List.{filter};
+ghost use Rattle.qg_device.specs.History.{Event, content};
+ghost use Rattle.qg_items.specs.declared.tree.TheConstants.{TOP_LEVEL as TOP};
+ghost use Rattle.qg_super.specs.SuperText.{is_super};
+ghost use Rattle.qg_image.specs.Table.{has_key};
+ghost use Rattle.qg_image.specs.State.{State};
+ghost use Rattle.qg_image.specs.StateOf.{StateOf};
+ghost use Rattle.qg_blocks.specs.Told.{IsBacked};
+ghost use Rattle.qg_kept.specs.IsImage.{IsEditable, IsImage};
+ghost use Rattle.qg_kept.specs.Keeping.{IsFitted, IsKeptOf};
+ghost use Rattle.qg_kept_changes.specs.Opened.{AreTreesIn, snapshot_of, tree_for};
+
+use crate::holding::space_of;
+use qg_blocks::Blocks;
+use qg_descent::Tree;
+use qg_ground::Ground;
+use qg_items::RootItem;
+use qg_items::tree::TOP_LEVEL;
+use qg_kept::Kept;
+use qg_kept::check::Image;
+use qg_kept::fs_tree::FsTree;
+use qg_kept::tree_refs::TreeRefs;
+use qg_num::{Generation, NoMemory, RootId, Sequence};
+use qg_rules::root_of;
+use qg_space::Space;
+use qg_super::Super;
+use qg_weighed::Weighed;
+use std::alloc::{AllocError, Global};
+
+/// What is kept of an image. Nothing is pending and no node is in memory; the present state holds what the subvolumes
+/// reach, and the last commit the nodes of the other trees too.
+pub fn kept_of(alloc: Global, image: Image) -> Result<Kept, NoMemory>
+    requires { IsEditable image }
+    ensures fitted { IfOk result (λ kept. IsFitted kept) }
+    ensures backed { (history : Option (List Event)) → IfOk result (λ kept. IsBacked kept.fs.land.blocks history) }
+    ensures keeps { (events : List Event) (state : State) → IsImage (content events) image
+        → StateOf (content events) state
+        → IfOk result (λ kept. IsKeptOf kept state (Some events)) }
+    ensures superblock { IfOk result (λ kept. kept.superblock ≡ image.superblock) }
+    ensures idle { IfOk result (λ kept. kept.pending ≡ 0) }
+{
+    let superblock = image.superblock;
+    let space = space_of(
+        alloc,
+        &superblock,
+        image.others.as_slice(),
+        image.nodes.as_slice(),
+        image.extents.as_slice(),
+    )?;
+    let _ascending = image.book.len();
+    let refs = Weighed::new(image.book)?;
+    let fs = trees_in(alloc, &superblock, image.roots.as_slice(), space, refs)?;
+    Ok(Kept {
+        alloc,
+        superblock,
+        snapshots: snapshots_of(alloc, image.roots.as_slice())?,
+        quota: image.quota,
+        fs,
+        pending: 0,
+    })
+}
+
+// The trees of an image's subvolumes, that of the top-level one at hand, for the generation to come. No node is in
+// memory.
+fn trees_in(
+    alloc: Global,
+    superblock: &Super,
+    roots: &[(RootId, RootItem)],
+    space: Space,
+    refs: Weighed,
+) -> Result<FsTree, NoMemory>
+    requires superblock { IsTrue (is_super superblock.now) }
+    requires top_level { IsTrue (has_key TOP roots.now) }
+    ensures { IfOk result (λ fs. AreTreesIn superblock.now roots.now space refs fs) }
+{
+    let owner = RootId::new(TOP_LEVEL);
+    let next = Generation::new(superblock.generation.value() + 1);
+    let blocks = Blocks::new(alloc, superblock.nodesize, superblock.slots)?;
+    let Some(root) = root_of(owner, roots) else {
+        unreachable!()
+    };
+    Ok(FsTree {
+        tree: Tree::at(root.bytenr, root.level, owner, next),
+        others: others_of(alloc, roots, owner, next)?,
+        land: Ground { blocks, space },
+        refs: TreeRefs::new(refs, owner, u64::from(superblock.nodesize), next),
+    })
+}
+
+// The trees of the other subvolumes than the one of a number, in their order, for a generation to come.
+fn others_of(
+    alloc: Global,
+    roots: &[(RootId, RootItem)],
+    number: RootId,
+    next: Generation,
+) -> Result<Vec<Tree>, AllocError>
+    ensures { IfOk result (λ trees. trees.items
+        ≡ map (tree_for next) (filter (λ entry. not (entry.0 == number)) roots.now)) }
+{
+    let mut trees = Vec::new(alloc);
+    for entry in roots {
+        if entry.0 != number {
+            trees.push(Tree::at(entry.1.bytenr, entry.1.level, entry.0, next))?;
+        }
+    }
+    Ok(trees)
+}
+
+// The generation of each subvolume's last snapshot, by number.
+fn snapshots_of(
+    alloc: Global,
+    roots: &[(RootId, RootItem)],
+) -> Result<Sequence<(RootId, Generation)>, AllocError>
+    ensures { IfOk result (λ snapshots. snapshots ≡ map snapshot_of roots.now) }
+{
+    let mut snapshots = Sequence::new(alloc);
+    for entry in roots {
+        snapshots.push((entry.0, entry.1.last_snapshot))?;
+    }
+    Ok(snapshots)
+}

@@ -1,0 +1,265 @@
+use Rattle.std.proofs.Common.{arith, ap, inl, inr, ◌∙◌}
+use Rattle.qg_super.specs.SuperText.{sizes_of}
+use Rattle.qg_kept.proofs.PiecesRead.{handed}
+use Rattle.qg_kept.proofs.Whole.{handed-sound}
+use Rattle.qg_kept.specs.declared.kept.Kept.{Kept}
+use Rattle.qg_kept_commit.specs.declared.planning.Plan.{Plan}
+use Rattle.qg_kept_commit.proofs.Cleaned.{surveyed-keeps}
+use Rattle.qg_kept_commit.proofs.CommitKeeps.{plan-still}
+use Rattle.qg_kept_commit.proofs.CommitOver.{backed-then, committed-on, kept-forgotten, kept-then, room-back, room-then}
+use Rattle.qg_kept_commit.proofs.CommitOver.{started, stopped-so, unfresh, written-then}
+use Rattle.qg_kept_commit.proofs.OnDisk.{on-error}
+use Rattle.qg_kept_commit.proofs.committing.commit_now.Goals as goal
+
+-- ---- what is asked
+
+pub forget_slots-requires : goal.forget_slots-requires
+forget_slots-requires g c = record {
+  clean = unfresh c.plan_of.new.kept c.in_ok-plan.plan.slots c.as_slice.result.now c.as_slice.ensures
+      c.in_ok-plan.ensures.kept.fitted c.in_ok-plan.ensures.plan.is.free;
+}
+
+pub write_trees-requires-clause-kept : goal.write_trees-requires-clause-kept
+write_trees-requires-clause-kept g c =
+    kept-forgotten c.plan_of.new.kept _ c.forget_slots.ensures.same (g.D.Disk.history c.plan_of.new.disk)
+    (g.D.Disk.size c.plan_of.new.disk)
+    c.in_ok-plan.ensures.kept
+    (c.forget_slots.ensures.backed (g.D.Disk.history c.plan_of.new.disk) c.in_ok-plan.ensures.kept.backed)
+
+pub write_trees-requires-clause-early : goal.write_trees-requires-clause-early
+write_trees-requires-clause-early g c =
+    let same = ap (λ (kept : Kept). kept.superblock.generation) c.in_ok-plan.ensures.looked.rest in
+    omega (arith, same, c.requires.early)
+
+pub write_trees-requires-clause-plan : goal.write_trees-requires-clause-plan
+write_trees-requires-clause-plan g c =
+    plan-still c.plan_of.new.kept _ c.in_ok-plan.plan c.in_ok-plan.ensures.plan
+
+pub keep_commit-requires-clause-fitted : goal.keep_commit-requires-clause-fitted
+keep_commit-requires-clause-fitted g c =
+    (kept-forgotten c.plan_of.new.kept _ c.forget_slots.ensures.same (g.D.Disk.history c.plan_of.new.disk)
+    (g.D.Disk.size c.plan_of.new.disk)
+    c.in_ok-plan.ensures.kept
+    (c.forget_slots.ensures.backed (g.D.Disk.history c.plan_of.new.disk) c.in_ok-plan.ensures.kept.backed)).fitted
+
+pub keep_commit-requires-clause-early : goal.keep_commit-requires-clause-early
+keep_commit-requires-clause-early g c =
+    let same = ap (λ (kept : Kept). kept.superblock.generation) c.in_ok-plan.ensures.looked.rest in
+    omega (arith, same, c.requires.early)
+
+pub keep_commit-requires-clause-plan : goal.keep_commit-requires-clause-plan
+keep_commit-requires-clause-plan g c =
+    plan-still c.plan_of.new.kept _ c.in_ok-plan.plan c.in_ok-plan.ensures.plan
+
+pub keep_commit-requires-clause-backed : goal.keep_commit-requires-clause-backed
+keep_commit-requires-clause-backed g c =
+    backed-then c.plan_of.new.kept _ c.in_ok-plan.plan c.in_ok-trees.trees c.as_slice.result.now
+    (g.D.Disk.history c.plan_of.new.disk)
+    (g.D.Disk.history c.write_trees.new.disk) (g.D.Disk.size c.plan_of.new.disk)
+    (record {
+      same = c.forget_slots.ensures.same;
+      fits = c.in_ok-plan.ensures.kept;
+      backed = c.forget_slots.ensures.backed (g.D.Disk.history c.plan_of.new.disk) c.in_ok-plan.ensures.kept.backed;
+      plan_is = c.in_ok-plan.ensures.plan;
+      given = c.as_slice.ensures;
+      gone = c.forget_slots.ensures.forgotten;
+      laid = c.in_ok-trees.ensures.laid;
+      read = c.in_ok-trees.ensures.read;
+      sized = g.met.D.Disk.sized c.plan_of.new.disk;
+      calls = c.in_ok-trees.ensures.calls;
+    })
+
+pub keep_commit-requires-clause-written : goal.keep_commit-requires-clause-written
+keep_commit-requires-clause-written g c =
+    written-then c.plan_of.new.kept _ c.in_ok-plan.plan c.in_ok-trees.trees c.as_slice.result.now
+    (g.D.Disk.history c.plan_of.new.disk)
+    (g.D.Disk.history c.write_trees.new.disk) (g.D.Disk.size c.plan_of.new.disk)
+    (record {
+      same = c.forget_slots.ensures.same;
+      fits = c.in_ok-plan.ensures.kept;
+      backed = c.forget_slots.ensures.backed (g.D.Disk.history c.plan_of.new.disk) c.in_ok-plan.ensures.kept.backed;
+      plan_is = c.in_ok-plan.ensures.plan;
+      given = c.as_slice.ensures;
+      gone = c.forget_slots.ensures.forgotten;
+      laid = c.in_ok-trees.ensures.laid;
+      read = c.in_ok-trees.ensures.read;
+      sized = g.met.D.Disk.sized c.plan_of.new.disk;
+      calls = c.in_ok-trees.ensures.calls;
+    })
+
+-- ---- what was done
+
+pub returns-clause-kept : goal.returns-clause-kept
+returns-clause-kept g c =
+    kept-then c.plan_of.new.kept _ c.in_ok-plan.plan c.in_ok-trees.trees c.as_slice.result.now
+    (g.D.Disk.history c.plan_of.new.disk)
+    (g.D.Disk.history c.write_trees.new.disk) (g.D.Disk.size c.plan_of.new.disk)
+    (record {
+      same = c.forget_slots.ensures.same;
+      fits = c.in_ok-plan.ensures.kept;
+      backed = c.forget_slots.ensures.backed (g.D.Disk.history c.plan_of.new.disk) c.in_ok-plan.ensures.kept.backed;
+      plan_is = c.in_ok-plan.ensures.plan;
+      given = c.as_slice.ensures;
+      gone = c.forget_slots.ensures.forgotten;
+      laid = c.in_ok-trees.ensures.laid;
+      read = c.in_ok-trees.ensures.read;
+      sized = g.met.D.Disk.sized c.plan_of.new.disk;
+      calls = c.in_ok-trees.ensures.calls;
+    })
+    c.keep_commit.new.kept (g.D.Disk.size c.write_trees.new.disk) c.in_ok-keep_commit.ensures.keeps.0
+    c.in_ok-trees.ensures.no_less c.in_ok-keep_commit.ensures.subvolume c.in_ok-keep_commit.ensures.keeps.1
+
+pub returns-clause-commits : goal.returns-clause-commits
+returns-clause-commits g c = λ state events names keeps enough told.
+    committed-on c.plan_of.new.kept _ c.in_ok-plan.plan c.in_ok-trees.trees c.as_slice.result.now
+    (g.D.Disk.history c.plan_of.new.disk)
+    (g.D.Disk.history c.write_trees.new.disk) (g.D.Disk.size c.plan_of.new.disk)
+    (record {
+      same = c.forget_slots.ensures.same;
+      fits = c.in_ok-plan.ensures.kept;
+      backed = c.forget_slots.ensures.backed (g.D.Disk.history c.plan_of.new.disk) c.in_ok-plan.ensures.kept.backed;
+      plan_is = c.in_ok-plan.ensures.plan;
+      given = c.as_slice.ensures;
+      gone = c.forget_slots.ensures.forgotten;
+      laid = c.in_ok-trees.ensures.laid;
+      read = c.in_ok-trees.ensures.read;
+      sized = g.met.D.Disk.sized c.plan_of.new.disk;
+      calls = c.in_ok-trees.ensures.calls;
+    })
+    events (c.in_ok-plan.ensures.looked.read.history ∙ told) state names
+    (surveyed-keeps c.args.kept.now c.plan_of.new.kept (g.D.Disk.history c.args.disk.now)
+    (g.D.Disk.history c.plan_of.new.disk)
+    (g.D.Disk.size c.args.disk.now) (g.D.Disk.size c.plan_of.new.disk) c.in_ok-plan.ensures.looked state names keeps)
+    (c.in_ok-plan.ensures.told state names keeps) c.keep_commit.new.kept c.in_ok-keep_commit.ensures.keeps.0
+    (λ items pieces. c.in_ok-keep_commit.ensures.stands events (g.D.Disk.size c.plan_of.new.disk) items pieces)
+
+pub returns-clause-so_far : goal.returns-clause-so_far
+returns-clause-so_far g c = λ state events names keeps enough told.
+    inr (started c.plan_of.new.kept _ c.in_ok-plan.plan c.in_ok-trees.trees c.as_slice.result.now
+    (g.D.Disk.history c.plan_of.new.disk)
+    (g.D.Disk.history c.write_trees.new.disk) (g.D.Disk.size c.plan_of.new.disk)
+    (record {
+      same = c.forget_slots.ensures.same;
+      fits = c.in_ok-plan.ensures.kept;
+      backed = c.forget_slots.ensures.backed (g.D.Disk.history c.plan_of.new.disk) c.in_ok-plan.ensures.kept.backed;
+      plan_is = c.in_ok-plan.ensures.plan;
+      given = c.as_slice.ensures;
+      gone = c.forget_slots.ensures.forgotten;
+      laid = c.in_ok-trees.ensures.laid;
+      read = c.in_ok-trees.ensures.read;
+      sized = g.met.D.Disk.sized c.plan_of.new.disk;
+      calls = c.in_ok-trees.ensures.calls;
+    })
+    events (c.in_ok-plan.ensures.looked.read.history ∙ told) state names
+    (surveyed-keeps c.args.kept.now c.plan_of.new.kept (g.D.Disk.history c.args.disk.now)
+    (g.D.Disk.history c.plan_of.new.disk)
+    (g.D.Disk.size c.args.disk.now) (g.D.Disk.size c.plan_of.new.disk) c.in_ok-plan.ensures.looked state names keeps)
+    (c.in_ok-plan.ensures.told state names keeps))
+
+pub returns-clause-leaves : goal.returns-clause-leaves
+returns-clause-leaves g c =
+    room-back c.args.kept.now c.plan_of.new.kept c.keep_commit.new.kept (g.D.Disk.history c.args.disk.now)
+    (g.D.Disk.history c.plan_of.new.disk) (g.D.Disk.size c.args.disk.now) (g.D.Disk.size c.plan_of.new.disk)
+    c.in_ok-plan.ensures.looked
+    (room-then c.plan_of.new.kept _ c.in_ok-plan.plan c.in_ok-trees.trees c.as_slice.result.now
+    (g.D.Disk.history c.plan_of.new.disk)
+    (g.D.Disk.history c.write_trees.new.disk) (g.D.Disk.size c.plan_of.new.disk)
+    (record {
+      same = c.forget_slots.ensures.same;
+      fits = c.in_ok-plan.ensures.kept;
+      backed = c.forget_slots.ensures.backed (g.D.Disk.history c.plan_of.new.disk) c.in_ok-plan.ensures.kept.backed;
+      plan_is = c.in_ok-plan.ensures.plan;
+      given = c.as_slice.ensures;
+      gone = c.forget_slots.ensures.forgotten;
+      laid = c.in_ok-trees.ensures.laid;
+      read = c.in_ok-trees.ensures.read;
+      sized = g.met.D.Disk.sized c.plan_of.new.disk;
+      calls = c.in_ok-trees.ensures.calls;
+    })
+    c.keep_commit.new.kept c.in_ok-keep_commit.ensures.keeps.0)
+
+pub returns-clause-sizes : goal.returns-clause-sizes
+returns-clause-sizes g c = (
+  ap sizes_of c.in_ok-keep_commit.ensures.keeps.0.superblock ∙ ap sizes_of c.in_ok-trees.ensures.laid.laid.leads
+      ∙ ap (λ (kept : Kept). sizes_of kept.superblock) c.in_ok-plan.ensures.looked.rest,
+  let size = c.in_ok-plan.ensures.looked.read.size in omega (arith, size, c.in_ok-trees.ensures.no_less),
+)
+
+-- ---- where it did not end
+
+pub returns-in_err-plan-clause-so_far : goal.returns-in_err-plan-clause-so_far
+returns-in_err-plan-clause-so_far g c = λ state events names keeps enough told.
+    inl (c.in_err-plan.ensures.looked.read.history ∙ told)
+
+pub returns-in_err-plan-clause-sound : goal.returns-in_err-plan-clause-sound
+returns-in_err-plan-clause-sound g c = λ state events names keeps enough told.
+    handed-sound Plan c.from_residual.result _ (handed c.from_residual.result _ c.from_residual.ensures.1)
+    (c.in_err-plan.ensures.sound state events names told keeps enough)
+
+pub returns-in_err-plan-clause-err : goal.returns-in_err-plan-clause-err
+returns-in_err-plan-clause-err g c =
+    on-error _ _ (ap (λ (kept : Kept). kept.superblock) c.in_err-plan.ensures.looked.rest)
+
+pub returns-in_err-plan-clause-sizes : goal.returns-in_err-plan-clause-sizes
+returns-in_err-plan-clause-sizes g c = (
+  ap (λ (kept : Kept). sizes_of kept.superblock) c.in_err-plan.ensures.looked.rest,
+  let size = c.in_err-plan.ensures.looked.read.size in omega (arith, size),
+)
+
+pub returns-in_err-trees-clause-so_far : goal.returns-in_err-trees-clause-so_far
+returns-in_err-trees-clause-so_far g c = λ state events names keeps enough told.
+    stopped-so c.plan_of.new.kept _ c.in_ok-plan.plan events (g.D.Disk.history c.plan_of.new.disk)
+    (g.D.Disk.history c.write_trees.new.disk)
+    (g.D.Disk.size c.plan_of.new.disk) state names c.forget_slots.ensures.same c.in_ok-plan.ensures.kept
+    (c.forget_slots.ensures.backed (g.D.Disk.history c.plan_of.new.disk) c.in_ok-plan.ensures.kept.backed)
+    (surveyed-keeps c.args.kept.now c.plan_of.new.kept (g.D.Disk.history c.args.disk.now)
+    (g.D.Disk.history c.plan_of.new.disk)
+    (g.D.Disk.size c.args.disk.now) (g.D.Disk.size c.plan_of.new.disk) c.in_ok-plan.ensures.looked state names keeps)
+    (c.in_ok-plan.ensures.told state names keeps) (c.in_ok-plan.ensures.looked.read.history ∙ told)
+    (g.met.D.Disk.sized c.plan_of.new.disk events (c.in_ok-plan.ensures.looked.read.history ∙ told))
+    (c.in_err-trees.ensures.stopped events (c.in_ok-plan.ensures.looked.read.history ∙ told))
+
+pub returns-in_err-trees-clause-err : goal.returns-in_err-trees-clause-err
+returns-in_err-trees-clause-err g c =
+    on-error _ _ (ap (λ (kept : Kept). kept.superblock) c.in_ok-plan.ensures.looked.rest)
+
+pub returns-in_err-trees-clause-sizes : goal.returns-in_err-trees-clause-sizes
+returns-in_err-trees-clause-sizes g c = (
+  ap (λ (kept : Kept). sizes_of kept.superblock) c.in_ok-plan.ensures.looked.rest,
+  let size = c.in_ok-plan.ensures.looked.read.size in omega (arith, size, c.in_err-trees.ensures.no_less),
+)
+
+pub returns-in_err-keep_commit-clause-so_far : goal.returns-in_err-keep_commit-clause-so_far
+returns-in_err-keep_commit-clause-so_far g c = λ state events names keeps enough told.
+    inr (started c.plan_of.new.kept _ c.in_ok-plan.plan c.in_ok-trees.trees c.as_slice.result.now
+    (g.D.Disk.history c.plan_of.new.disk)
+    (g.D.Disk.history c.write_trees.new.disk) (g.D.Disk.size c.plan_of.new.disk)
+    (record {
+      same = c.forget_slots.ensures.same;
+      fits = c.in_ok-plan.ensures.kept;
+      backed = c.forget_slots.ensures.backed (g.D.Disk.history c.plan_of.new.disk) c.in_ok-plan.ensures.kept.backed;
+      plan_is = c.in_ok-plan.ensures.plan;
+      given = c.as_slice.ensures;
+      gone = c.forget_slots.ensures.forgotten;
+      laid = c.in_ok-trees.ensures.laid;
+      read = c.in_ok-trees.ensures.read;
+      sized = g.met.D.Disk.sized c.plan_of.new.disk;
+      calls = c.in_ok-trees.ensures.calls;
+    })
+    events (c.in_ok-plan.ensures.looked.read.history ∙ told) state names
+    (surveyed-keeps c.args.kept.now c.plan_of.new.kept (g.D.Disk.history c.args.disk.now)
+    (g.D.Disk.history c.plan_of.new.disk)
+    (g.D.Disk.size c.args.disk.now) (g.D.Disk.size c.plan_of.new.disk) c.in_ok-plan.ensures.looked state names keeps)
+    (c.in_ok-plan.ensures.told state names keeps))
+
+pub returns-in_err-keep_commit-clause-err : goal.returns-in_err-keep_commit-clause-err
+returns-in_err-keep_commit-clause-err g c =
+    on-error _ _ (ap (λ (kept : Kept). kept.superblock) c.in_err-keep_commit.ensures.err
+    ∙ ap (λ (kept : Kept). kept.superblock) c.in_ok-plan.ensures.looked.rest)
+
+pub returns-in_err-keep_commit-clause-sizes : goal.returns-in_err-keep_commit-clause-sizes
+returns-in_err-keep_commit-clause-sizes g c = (
+  ap (λ (kept : Kept). sizes_of kept.superblock) c.in_err-keep_commit.ensures.err
+      ∙ ap (λ (kept : Kept). sizes_of kept.superblock) c.in_ok-plan.ensures.looked.rest,
+  let size = c.in_ok-plan.ensures.looked.read.size in omega (arith, size, c.in_ok-trees.ensures.no_less),
+)

@@ -1,0 +1,70 @@
+-- What a commit lays out and leaves of what is kept (this project's own). Addresses and lengths are in bytes.
+use Rattle.std.specs.Prelude.{◌≡◌, ℕ, ◌≤◌, List, [], length, map, Option, Some, IfSome}
+use Rattle.std.specs.List.{Contains}
+use Rattle.qg_device.specs.History.{Event}
+use Rattle.qg_num.specs.declared.counters.Counters.{Counters}
+use Rattle.qg_node.specs.Nodes.{header_of}
+use Rattle.qg_items.specs.declared.root.RootItem.{RootItem}
+use Rattle.qg_super.specs.SuperText.{sizes_of}
+use Rattle.qg_image.specs.Table.{keys_of, value_at}
+use Rattle.qg_extents.specs.Table.{IsTable}
+use Rattle.qg_kept.specs.Calls.{MadeFront, commit_calls}
+use Rattle.qg_descent.specs.Tree.{Root}
+use Rattle.qg_kept.specs.Standing.{trees_of}
+use Rattle.qg_kept.specs.StandingCommitting.{IsCommitted}
+use Rattle.qg_kept.specs.Types.{OtherTrees}
+use Rattle.qg_kept.specs.Trees.{nodes_laid}
+use Rattle.qg_kept.specs.Holds.{AreFree}
+use Rattle.qg_kept.specs.Writing.{IsLaying, nodes_written}
+use Rattle.qg_groups.specs.Tracked.{HoldsAll, IsTracked, quota_of}
+use Rattle.qg_kept.specs.FsLawsKeeping.{quota_laid}
+use Rattle.qg_kept.specs.FsLawsCommitting.{IsInOrder, IsRootNow}
+use Rattle.qg_kept_commit.specs.declared.planning.Plan.{Plan}
+use Rattle.qg_kept.specs.declared.kept.Kept.{Kept}
+use Rattle.qg_kept.specs.Keeping.{KnowsNoLater, commit_need}
+
+-- ---- what a commit tells
+
+-- ROOT_ITEMs are those of the subvolumes, by number, each that of its tree
+pub record AreRootsOf (kept : Kept) (roots : List (ℕ × RootItem)) : Type 0 where
+  pub numbers : keys_of roots ≡ keys_of kept.snapshots
+  pub each : (tree : Root) (snapshot : ℕ) (root : RootItem) → Contains (trees_of kept.fs) tree
+      → value_at tree.owner kept.snapshots ≡ Some snapshot → value_at tree.owner roots ≡ Some root
+      → IsRootNow kept.fs tree snapshot root
+
+-- what a commit of what is kept tells besides the references, where these are the groups' counters, and slots that are
+-- as many as it may take and free
+pub record IsPlanOf (kept : Kept) (counters : ℕ → Counters) (plan : Plan) : Type 0 where
+  pub roots : AreRootsOf kept plan.roots
+  pub quota : plan.quota ≡ quota_laid kept.fs.tree.next counters (quota_of kept.quota)
+  pub order : IsInOrder kept.fs.land.space
+  pub table : IsTable kept.fs.refs.refs
+  pub earlier : KnowsNoLater kept
+  pub free : AreFree kept.fs.land.space plan.slots
+  pub few : length plan.slots ≤ 16128
+  pub enough : commit_need kept ≤ length plan.slots
+  pub most : length plan.slots ≤ commit_need kept
+
+-- the three other trees of such a commit
+abbrev pub IsLaidBy : Kept → Plan → OtherTrees → Type 0
+IsLaidBy kept plan trees =
+    IsLaying (sizes_of kept.superblock) kept.fs.tree.next plan.roots kept.fs.refs.refs plan.quota plan.slots
+    kept.fs.land.blocks.draft trees
+
+-- the calls of such a commit came so far
+pub record LaysSoFar (kept : Kept) (plan : Plan) (events : List Event) (history : Option (List Event)) : Type 0 where
+  pub trees : OtherTrees
+  pub laid : IsLaidBy kept plan trees
+  pub made : MadeFront (commit_calls trees.superblock (nodes_written kept.fs.land.blocks.draft trees)) events history
+
+-- ---- what it leaves
+
+-- These trees are committed: what is known of the last commit is told by them and the plan, the subvolumes' trees are
+-- those of the next generation, nothing is pending, and nothing is held for the groups
+pub record KeepsCommit (old : Kept) (plan : Plan) (trees : OtherTrees) (new : Kept) : Type 0 where
+  pub superblock : new.superblock ≡ trees.superblock
+  pub snapshots : new.snapshots ≡ old.snapshots
+  pub quota : quota_of new.quota ≡ plan.quota
+  pub settled : IfSome new.quota (λ quota. IsTracked quota × HoldsAll quota [])
+  pub fs : IsCommitted old.fs new.fs (map (λ node. (header_of node).address) (nodes_laid trees))
+  pub pending : new.pending ≡ 0

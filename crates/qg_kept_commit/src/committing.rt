@@ -1,0 +1,216 @@
+// What is pending is committed.
+ghost use Rattle.std.specs.Prelude.{◌≡◌, ◌⊎◌, ◌+◌, ◌≤◌, ◌^◌, ℕ, All, List, None, Option, Some, [], IfOk, IfErr, IfSome};
+ghost use Rattle.std.specs.Prelude.{IsTrue, OnErr, OnOk};
+ghost use Rattle.std.specs.Option.{option_map};
+ghost use Rattle.qg_device.specs.Cause.{HasCause};
+ghost use Rattle.qg_device.specs.History.{Event};
+ghost use Rattle.qg_num.specs.declared.command.Command.TheVariants.{Commit};
+ghost use Rattle.qg_num.specs.declared.piece.Piece.{Piece};
+ghost use Rattle.qg_node.specs.declared.item.Item.{Item};
+ghost use Rattle.qg_super.specs.SuperText.{sizes_of};
+ghost use Rattle.qg_image.specs.Record.{Record};
+ghost use Rattle.qg_image.specs.State.{State};
+ghost use Rattle.qg_blocks.specs.Told.{BreaksNone, IsBacked, fresh_at};
+ghost use Rattle.qg_blocks.specs.Writing.{AreWritten};
+ghost use Rattle.qg_kept.specs.Calls.{IsReadBack};
+ghost use Rattle.qg_space.specs.Holding.{free_slots};
+ghost use Rattle.qg_kept.specs.Standing.{CanTurn, IsSubvolume, Stands};
+ghost use Rattle.qg_kept.specs.StandingCommitting.{StandsStill, WritesTree};
+ghost use Rattle.qg_kept.specs.Holds.{AreForgotten, with_tree_commit};
+ghost use Rattle.qg_kept.specs.Writing.{fresh_nodes};
+ghost use Rattle.qg_groups.specs.Tracked.{HoldsAll, IsTracked, SameButCounts, quota_of};
+ghost use Rattle.qg_kept.specs.Answering.{AnswersOn, is_unchanging};
+ghost use Rattle.qg_kept_commit.specs.Committing.{IsLaidBy, KeepsCommit, LaysSoFar};
+ghost use Rattle.qg_kept.specs.Editing.{HasLooked};
+ghost use Rattle.qg_kept.specs.Keeping.{IsFitted, IsKept, IsKeptOf, IsKeptWith, commit_need};
+ghost use Rattle.qg_kept.specs.Making.{StartsCommit};
+ghost use Rattle.qg_kept_commit.specs.Planning.{CommitsOn, IsPlanSo, LeavesRoom, StartsCommitOf};
+
+use crate::planning::{Plan, plan_of};
+use qg_blocks::Blocks;
+use qg_disk::Disk;
+use qg_groups::QuotaState;
+use qg_image::Quota;
+use qg_kept::Kept;
+use qg_kept::other_trees::{OtherTrees, Told};
+use qg_kept::standing::committed;
+use qg_num::{Address, Answer, BlockFault, NoMemory, Refusal, Steps};
+use std::sync::ledger::Ledger;
+
+/// The greatest committed generation that a commit may meet.
+pub const LAST_GENERATION: u64 = 1 << 63;
+
+/// Commits what is pending, or refuses to. Where nothing is pending, nothing is done.
+pub fn commit<D: Disk, L: Ledger>(
+    kept: &mut Kept,
+    disk: &mut D,
+    reads: &mut Steps<L>,
+) -> Result<Answer, BlockFault>
+    requires kept { IsKept kept.old (D.history disk.old) (D.size disk.old) }
+    ensures kept { IfOk result (λ answer. IsKept kept.new (D.history disk.new) (D.size disk.new)) }
+    ensures step { (state : State) (events : List Event) → IsKeptOf kept.old state (D.history disk.old)
+        → D.history disk.old ≡ Some events
+        → IfOk result (λ answer. AnswersOn state Commit answer kept.new events (D.history disk.new)) }
+    ensures so_far { (state : State) (events : List Event) → IsKeptOf kept.old state (D.history disk.old)
+        → D.history disk.old ≡ Some events
+        → (D.history disk.new ≡ Some events) ⊎ StartsCommit state events (D.history disk.new) }
+    ensures sound { (state : State) (events : List Event) → D.history disk.old ≡ Some events
+        → IsKeptOf kept.old state (D.history disk.old) → BreaksNone result }
+    ensures idle { kept.old.pending ≡ 0 → HasLooked kept.old kept.new (D.history disk.old) (D.history disk.new)
+        (D.size disk.old) (D.size disk.new) }
+    ensures refused { IfOk result (λ answer. IsTrue (is_unchanging answer) → HasLooked kept.old kept.new
+        (D.history disk.old) (D.history disk.new) (D.size disk.old) (D.size disk.new)) }
+    ensures err { IfErr result (λ fault. kept.new.superblock ≡ kept.old.superblock) }
+    ensures sizes { (sizes_of kept.new.superblock ≡ sizes_of kept.old.superblock)
+        × (D.size disk.old ≤ D.size disk.new) }
+    ensures cause { HasCause BlockFault.Disk (D.faults disk.old) (D.faults disk.new) result }
+{
+    if kept.pending == 0 {
+        return Ok(Answer::Commit(kept.superblock.generation));
+    }
+    if kept.superblock.generation.value() > LAST_GENERATION {
+        return Ok(Answer::Refused(Refusal::NoGeneration));
+    }
+    commit_now(kept, disk, reads)?;
+    Ok(Answer::Commit(kept.superblock.generation))
+}
+
+/// Commits what is kept, whatever is pending, and refuses nothing. The second commit of a structural command begins one
+/// generation later than any that is let in.
+pub fn commit_now<D: Disk, L: Ledger>(
+    kept: &mut Kept,
+    disk: &mut D,
+    reads: &mut Steps<L>,
+) -> Result<(), BlockFault>
+    requires kept { IsKept kept.old (D.history disk.old) (D.size disk.old) }
+    requires early { kept.old.superblock.generation ≤ 2 ^ 63 + 1 }
+    ensures kept { IfOk result (λ done. IsKept kept.new (D.history disk.new) (D.size disk.new)) }
+    ensures commits { (state : State) (events : List Event) (names : List Record)
+        → IsKeptWith kept.old state (D.history disk.old) names
+        → commit_need kept.old ≤ free_slots kept.old.fs.land.space → D.history disk.old ≡ Some events
+        → IfOk result (λ done. CommitsOn state kept.new events (D.history disk.new)) }
+    ensures so_far { (state : State) (events : List Event) (names : List Record)
+        → IsKeptWith kept.old state (D.history disk.old) names
+        → commit_need kept.old ≤ free_slots kept.old.fs.land.space → D.history disk.old ≡ Some events
+        → (D.history disk.new ≡ Some events) ⊎ StartsCommitOf state events (D.history disk.new) }
+    ensures sound { (state : State) (events : List Event) (names : List Record)
+        → IsKeptWith kept.old state (D.history disk.old) names
+        → commit_need kept.old ≤ free_slots kept.old.fs.land.space → D.history disk.old ≡ Some events
+        → BreaksNone result }
+    ensures leaves { OnOk result (LeavesRoom kept.old kept.new) }
+    ensures err { IfErr result (λ fault. kept.new.superblock ≡ kept.old.superblock) }
+    ensures sizes { (sizes_of kept.new.superblock ≡ sizes_of kept.old.superblock)
+        × (D.size disk.old ≤ D.size disk.new) }
+    ensures cause { HasCause BlockFault.Disk (D.faults disk.old) (D.faults disk.new) result }
+{
+    let plan = plan_of(kept, disk, reads)?;
+    forget_slots(&mut kept.fs.land.blocks, plan.slots.as_slice());
+    let trees = write_trees(kept, disk, &plan)?;
+    keep_commit(kept, disk, plan, &trees)?;
+    Ok(())
+}
+
+// Forgets what is in memory at slots where no fresh node lies.
+fn forget_slots(blocks: &mut Blocks, slots: &[Address])
+    requires clean { All (λ slot. fresh_at blocks.old.draft slot ≡ None) slots.now }
+    ensures same { blocks.new ≡ record blocks.old { clean = blocks.new.clean } }
+    ensures forgotten { AreForgotten blocks.new slots.now }
+    ensures backed { (history : Option (List Event)) → IsBacked blocks.old history → IsBacked blocks.new history }
+{
+    for slot in slots {
+        blocks.forget(*slot);
+    }
+}
+
+// Lays the root, extent and quota trees out in the slots of a plan, and writes them and the fresh nodes.
+fn write_trees<D: Disk>(kept: &Kept, disk: &mut D, plan: &Plan) -> Result<OtherTrees, BlockFault>
+    requires kept { IsKept kept.now (D.history disk.old) (D.size disk.old) }
+    requires early { kept.now.superblock.generation ≤ 2 ^ 63 + 1 }
+    requires plan { IsPlanSo kept.now plan.now }
+    ensures laid { IfOk result (λ trees. IsLaidBy kept.now plan.now trees) }
+    ensures calls { IfOk result (λ trees. D.history disk.new
+        ≡ option_map (with_tree_commit kept.now.fs trees) (D.history disk.old)) }
+    ensures read { IfOk result (λ trees. All (IsReadBack kept.now.superblock.nodesize)
+        (fresh_nodes kept.now.fs.land.blocks.draft)) }
+    ensures stopped { (events : List Event) → D.history disk.old ≡ Some events
+        → IfErr result (λ fault. (D.history disk.new ≡ Some events)
+        ⊎ LaysSoFar kept.now plan.now events (D.history disk.new)) }
+    ensures no_less { D.size disk.old ≤ D.size disk.new }
+    ensures no_image { IfErr result (λ fault. (fault ≡ BlockFault.Disk) ⊎ (fault ≡ BlockFault.NoMemory)) }
+    ensures cause { HasCause BlockFault.Disk (D.faults disk.old) (D.faults disk.new) result }
+{
+    let told = Told {
+        roots: plan.roots.as_slice(),
+        book: kept.fs.refs.refs(),
+        quota: &plan.quota,
+    };
+    qg_kept::tree_commit::commit(
+        kept.alloc,
+        disk,
+        &kept.fs.land.blocks,
+        kept.superblock.sizes(),
+        kept.fs.tree.next(),
+        &told,
+        plan.slots.as_slice(),
+    )
+}
+
+// What was laid out is committed, and takes the place of the last commit. It is done whole, or memory is refused and
+// nothing changes.
+fn keep_commit<D: Disk>(
+    kept: &mut Kept,
+    disk: &D,
+    plan: Plan,
+    trees: &OtherTrees,
+) -> Result<(), NoMemory>
+    requires fitted { IsFitted kept.old }
+    requires early { kept.old.superblock.generation ≤ 2 ^ 63 + 1 }
+    requires plan { IsPlanSo kept.old plan }
+    requires laid { IsLaidBy kept.old plan trees.now }
+    requires backed { IsBacked kept.old.fs.land.blocks (D.history disk.now) }
+    requires written { AreWritten kept.old.fs.land.blocks.draft (D.history disk.now) }
+    ensures keeps { OnOk result (KeepsCommit kept.old plan trees.now kept.new × CanTurn kept.new.fs) }
+    ensures subvolume { (before : Option (List Event)) (bytes : ℕ) → IsSubvolume kept.old.fs before bytes
+        → bytes ≤ D.size disk.now
+        → OnOk result (IsSubvolume kept.new.fs (D.history disk.now) (D.size disk.now)) }
+    ensures stands { (events : List Event) (bytes : ℕ) (items : List Item) (names : List (ℕ × Piece))
+        → IsSubvolume kept.old.fs (Some events) bytes → Stands kept.old.fs (Some events) items names
+        → WritesTree kept.old.fs (Some events) (D.history disk.now) → (later : List Event)
+        → D.history disk.now ≡ Some later
+        → OnOk result (StandsStill kept.old.fs kept.new.fs (Some events) (D.history disk.now) items names) }
+    ensures err { OnErr result (kept.new ≡ kept.old) }
+{
+    let (others, _) = plan.slots.as_slice().split_at(trees.len());
+    committed(&mut kept.fs, disk, others)?;
+    kept.superblock = trees.superblock;
+    settle_quota(&mut kept.quota, plan.quota);
+    kept.pending = 0;
+    Ok(())
+}
+
+// What is tracked takes over quota as a commit counted it anew, and nothing is held any more.
+fn settle_quota(tracked: &mut Option<QuotaState>, counted: Option<Quota>)
+    requires tracked { IfSome tracked.old IsTracked }
+    requires counted { SameButCounts (quota_of tracked.old) counted }
+    ensures quota { quota_of tracked.new ≡ counted }
+    ensures settled { IfSome tracked.new (λ now. IsTracked now × HoldsAll now []) }
+{
+    match tracked {
+        None => {}
+        Some(state) => settle_state(state, counted),
+    }
+}
+
+// The same while quota is on.
+fn settle_state(state: &mut QuotaState, counted: Option<Quota>)
+    requires tracked { IsTracked state.old }
+    requires counted { SameButCounts (Some state.old.quota) counted }
+    ensures quota { Some state.new.quota ≡ counted }
+    ensures tracked { IsTracked state.new }
+    ensures none { HoldsAll state.new [] }
+{
+    match counted {
+        None => unreachable!(),
+        Some(quota) => state.settle(quota),
+    }
+}

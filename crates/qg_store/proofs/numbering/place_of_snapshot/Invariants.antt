@@ -1,6 +1,0 @@
-use Rattle.std.specs.Prelude.{◌≢◌, ◌<◌, ℕ, slice_index_or}
-use Rattle.qg_store.proofs.numbering.place_of_snapshot.Given as goal
-
--- none of those in front is of the number
-abbrev pub invariant-loop-i : goal.invariant-loop-i
-invariant-loop-i l = (k : ℕ) (d : ℕ × ℕ) → k < l.i → (slice_index_or l.snapshots k d).0 ≢ l.sub
