@@ -1,5 +1,5 @@
-//! Runs the cases that lie in the files of the folder where it runs: it prints what came in place of what was wanted,
-//! and how many hold.
+//! Runs the cases that lie in the files of the folder where it runs, or those of them that its file `case` lists: it
+//! prints what came in place of what was wanted, and how many hold.
 #![tactic(auto)]
 
 use anyhow::{Context, Result, anyhow};
@@ -8,8 +8,12 @@ use qg_cases::{CaseDisk, Cases, Program, Report, judge_case};
 use qg_edge::{MemSink, MemSource};
 use qg_program::run_program;
 use std::alloc::Global;
+use std::fs;
 use std::process::ExitCode;
 use std::rt::Files;
+
+/// The file that lists the cases to be run, a name a line. Where there is none, all are.
+const LIST: &str = "case";
 
 /// The program itself.
 #[derive(Drop)]
@@ -45,11 +49,23 @@ fn read_files<R: Files + AllocGlobal + Clone + Drop>(rt: &R) -> Result<Cases> {
     Ok(cases)
 }
 
-// Runs all cases.
-fn judge(alloc: Global, cases: &Cases) -> Result<Report> {
+// Whether a case of this name is to be run.
+fn is_asked(list: &Option<String>, name: &str) -> bool {
+    match list {
+        Some(list) => list.lines().any(|line| line == name),
+        None => true,
+    }
+}
+
+// Runs the cases that are asked for.
+fn judge(alloc: Global, cases: &Cases, list: &Option<String>) -> Result<Report> {
     let mut report = Report::new(alloc);
     let program = Whole { alloc };
-    for case in cases.all() {
+    for case in cases
+        .all()
+        .iter()
+        .filter(|case| is_asked(list, case.name.as_str()))
+    {
         judge_case(alloc, &program, cases, case, &mut report).map_err(|_| anyhow!(
             "memory was refused"
         ))?;
@@ -59,7 +75,8 @@ fn judge(alloc: Global, cases: &Cases) -> Result<Report> {
 
 fn main(rt: HostRuntime) -> Result<ExitCode> {
     let cases = read_files(&rt)?;
-    let report = judge(rt.alloc(), &cases)?;
+    let list = fs::read_to_string(&rt, LIST).ok();
+    let report = judge(rt.alloc(), &cases, &list)?;
     print!(rt; "{}", report.text())?;
     let held = report.held();
     println!(rt; "{held} hold")?;
