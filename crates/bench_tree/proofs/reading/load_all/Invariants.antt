@@ -1,6 +1,0 @@
-use Rattle.qg_blocks.specs.Told.{IsBacked}
-use Rattle.bench_tree.proofs.reading.load_all.Given as goal
-
--- clean nodes are the disk's
-abbrev pub invariant-loop-address : goal.invariant-loop-address
-invariant-loop-address g l = IsBacked l.blocks (g.D.Disk.history l.disk)
