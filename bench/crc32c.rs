@@ -1,4 +1,4 @@
-//! CRC-32C by slicing sixteen tables, over the same text as crates/bench_crc32c. Build it by `rustc -O`.
+//! CRC-32C by slicing sixteen tables, over the same text as `crc32c` of crates/bench. Build it by `rustc -O`.
 use std::time::Instant;
 
 /// Bytes of the text.

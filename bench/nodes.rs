@@ -1,4 +1,4 @@
-//! The checksum alone, over the same leaves as crates/bench_nodes writes and reads. Build it by `rustc -O`.
+//! The checksum alone, over the same leaves as `nodes` of crates/bench writes and reads. Build it by `rustc -O`.
 use checksum::crc32c;
 use std::time::Instant;
 

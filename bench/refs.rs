@@ -1,5 +1,5 @@
 //! A book of references in plain Rust, a `BTreeMap` of small vectors: loaded from items, edited and written, as
-//! crates/bench_refs does. Build it by `rustc -O`.
+//! `refs` of crates/bench does. Build it by `rustc -O`.
 use std::collections::BTreeMap;
 use std::time::Instant;
 

@@ -1,5 +1,5 @@
-//! A map from keys to bodies in plain Rust, a `BTreeMap`, edited and read as crates/bench_tree does with a tree of
-//! nodes. Build it by `rustc -O`.
+//! A map from keys to bodies in plain Rust, a `BTreeMap`, edited and read as `tree` of crates/bench does with a tree
+//! of nodes. Build it by `rustc -O`.
 use std::collections::BTreeMap;
 use std::time::Instant;
 
