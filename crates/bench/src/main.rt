@@ -5,6 +5,7 @@
 mod crc32c;
 mod nodes;
 mod numbers;
+mod order;
 mod owed;
 mod refs;
 mod report;

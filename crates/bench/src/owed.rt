@@ -1,16 +1,16 @@
 // The rules `refs` and `home`, over what is told of images that are made to be slow.
 mod image;
-pub(crate) mod order;
 mod shapes;
 
+use crate::order::{do_nodes_ascend, do_parts_ascend, do_roots_ascend};
 use crate::owed::image::Image;
-use crate::owed::order::{do_nodes_ascend, do_parts_ascend, do_roots_ascend};
 use crate::owed::shapes::{FEW, HALF, SHAPES, Shape, Sizes, WHOLE, image_of};
 use crate::report::{Report, failed, timed};
 use qg_home::homeless;
 use qg_owed::{references_failure, sort_things};
 use std::alloc::Global;
 use std::io;
+use std::io::ErrorKind;
 use std::rt::Clock;
 
 /// Prints what the rules answer of images: of the greatest size and of half of it with times, or of small ones.
@@ -49,7 +49,7 @@ fn ask(rt: &(impl Clock + Print), alloc: Global, report: Report, image: Image) -
     } = image;
     sort_things(&mut things).map_err(failed)?;
     if !do_roots_ascend(&roots) || !do_nodes_ascend(&nodes) || !do_parts_ascend(&parts) {
-        return Err(failed(()));
+        return Err(io::Error::from(ErrorKind::InvalidData));
     }
     for _ in 0..report.rounds() {
         let (found, took) = timed(rt, || Ok(homeless(alloc, &roots, &nodes)?))?;

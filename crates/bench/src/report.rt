@@ -30,7 +30,7 @@ pub(crate) type Row<'a> = (&'a str, u64, u128);
 #[derive(Clone, Copy)]
 pub(crate) struct Report<'a> {
     pub is_timed: bool,
-    pub prefix: &'a str,
+    prefix: &'a str,
 }
 
 impl<'a> Report<'a> {
@@ -54,17 +54,17 @@ impl<'a> Report<'a> {
         if self.is_timed { 5 } else { 1 }
     }
 
-    /// Prints rows, each on a line of its own. Without times they stand on one line.
+    /// Prints rows: each on a line of its own with its time, or all on one line.
     pub(crate) fn print(self, rt: &impl Print, rows: &[Row]) -> io::Result<()> {
         let prefix = self.prefix;
-        let mut end = "";
+        let mut between = "";
         for (what, gave, took) in rows {
             if self.is_timed {
                 println!(rt; "{prefix}{what} {gave} {took}")?;
             } else {
-                print!(rt; "{end}{prefix}{what} {gave}")?;
+                print!(rt; "{between}{prefix}{what} {gave}")?;
             }
-            end = ", ";
+            between = ", ";
         }
         if self.is_timed {
             return Ok(());

@@ -60,23 +60,13 @@ fn measure_over<D: Disk + Drop, L: Ledger>(
     for count in [20000, 20000, 20000, 20000, 20000, 200000] {
         setting = measure_orders(rt, alloc, report, setting, count)?;
     }
-    work_all(
-        &mut setting,
-        ascending(alloc, 200000)?.as_slice(),
-        Work::Insert,
-    )
-    .map_err(failed)?;
+    let numbers = ascending(alloc, 200000)?;
+    work_all(&mut setting, &numbers, Work::Insert).map_err(failed)?;
     let addresses = setting.fresh().map_err(failed)?;
     let setting = setting.commit().map_err(failed)?;
     let (disk, reads) = setting.into_parts();
-    measure_reads(
-        rt,
-        alloc,
-        report.under("nodes/"),
-        disk,
-        addresses.as_slice(),
-        reads,
-    )
+    let report = report.under("nodes/");
+    measure_reads(rt, alloc, report, disk, addresses.as_slice(), reads)
 }
 
 /// Measures an empty tree with so many items, which come in ascending order and then in one that is drawn.

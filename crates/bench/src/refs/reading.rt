@@ -1,5 +1,5 @@
 // A book that is read from items, as an opening reads it.
-use crate::owed::order::do_parts_ascend;
+use crate::order::do_parts_ascend;
 use qg_extents::Extents;
 use qg_image::ExtentPart;
 use qg_node::Items;

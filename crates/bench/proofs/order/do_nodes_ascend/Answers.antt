@@ -1,6 +1,6 @@
 use Rattle.std.proofs.Common.{rules}
 use Rattle.bench.proofs.Ascending.{rising_from}
-use Rattle.bench.proofs.owed.order.do_nodes_ascend.Goals as goal
+use Rattle.bench.proofs.order.do_nodes_ascend.Goals as goal
 
 pub returns : goal.returns
 returns c = rising_from (λ node. node.address) _ _ c.is_sorted_by.ensures.cases (λ a b f called. search rules)
