@@ -15,7 +15,7 @@ use std::io;
 use std::marker::Brand;
 use std::rt::Clock;
 use std::sync::ledger::{Blank, Ledger};
-use tests_of_trees::Setting;
+use tree_setting::Setting;
 
 /// Prints what works give: with times over a file of this path as the disk, and else over a disk in memory.
 pub(crate) fn measure<R: Clock + Print + Files>(

@@ -2,7 +2,6 @@
 // Answers were worked out by hand.
 ghost use Rattle.std.specs.Prelude.{◌≡◌, ◌<◌};
 
-use crate::Setting;
 use crate::plain::{Entry, all_items, are, empty_tree, key_of};
 use qg_disk::{Disk, MemDisk};
 use qg_node::{Body, Item};
@@ -12,6 +11,7 @@ use std::marker::Brand;
 use std::process::Abort;
 use std::sync::ledger::{Blank, Ledger};
 use std::test::Fail;
+use tree_setting::Setting;
 
 const SECOND: Entry = Entry {
     number: 2,

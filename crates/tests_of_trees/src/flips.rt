@@ -5,7 +5,6 @@ ghost use Rattle.std.specs.Prelude.{◌≡◌, ◌<◌};
 
 mod disk;
 
-use crate::Setting;
 use crate::floors::{NODES, entry_of, even_items, three_levels};
 use crate::plain::{Plain, all_items, are, key_of, put, take};
 use disk::FlipDisk;
@@ -15,6 +14,7 @@ use std::marker::Brand;
 use std::process::Abort;
 use std::sync::ledger::{Blank, Ledger};
 use std::test::Fail;
+use tree_setting::Setting;
 
 // What is called.
 #[derive(Clone, Copy, Debug)]

@@ -2,7 +2,6 @@
 // and which nodes an edit copies, which no clause says. All numbers were worked out by hand.
 ghost use Rattle.std.specs.Prelude.{◌≡◌, ◌<◌};
 
-use crate::Setting;
 use crate::plain::{Entry, Plain, all_items, are, empty_tree, key_of, put, take};
 use qg_disk::{Disk, MemDisk};
 use qg_num::BlockFault;
@@ -11,6 +10,7 @@ use std::marker::Brand;
 use std::process::Abort;
 use std::sync::ledger::{Blank, Ledger};
 use std::test::Fail;
+use tree_setting::Setting;
 
 /// How many items the tree has: with the even numbers from 2 on.
 const ITEMS: u64 = 244;

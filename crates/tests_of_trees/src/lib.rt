@@ -1,13 +1,9 @@
-//! A tree that is edited with all that its calls are lent, and tests of such trees: what no clause says, and answers
-//! worked out by hand.
+//! Tests of trees that are edited, and of trees that are built of items: what no clause says, and answers worked out by
+//! hand.
 #![tactic(auto)]
 
-mod buildable;
-mod setting;
-mod writing;
-
-pub use setting::Setting;
-
+#[cfg(test)]
+mod built;
 #[cfg(test)]
 mod calls;
 #[cfg(test)]

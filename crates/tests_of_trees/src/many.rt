@@ -4,7 +4,6 @@
 ghost use Rattle.std.specs.Prelude.{◌≡◌, ◌≤◌, ◌<◌};
 ghost use Rattle.qg_blocks.specs.Held.{most_clean};
 
-use crate::Setting;
 use crate::plain::{Entry, Plain, all_items, are, bytes_of, empty_tree, put, take};
 use qg_disk::{Disk, SureDisk};
 use qg_num::BlockFault;
@@ -13,6 +12,7 @@ use std::marker::Brand;
 use std::process::Abort;
 use std::sync::ledger::{Blank, Ledger};
 use std::test::Fail;
+use tree_setting::Setting;
 
 // What items or pointers may take of a node of 4096 bytes behind its header, and must where it is not the root: a
 // quarter.

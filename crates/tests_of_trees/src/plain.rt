@@ -2,12 +2,12 @@
 ghost use Rattle.std.specs.Prelude.{◌≡◌, ◌≤◌, ◌<◌, length};
 ghost use Rattle.qg_blocks.specs.Held.{most_clean};
 
-use crate::Setting;
 use qg_disk::Disk;
 use qg_node::{Body, Item, Items};
 use qg_num::{BlockFault, Key};
 use std::alloc::{AllocError, Global};
 use std::sync::ledger::{Blank, Ledger};
+use tree_setting::Setting;
 
 /// The bytes that an item takes of a leaf beside its body.
 const ITEM_BYTES: u64 = 25;
