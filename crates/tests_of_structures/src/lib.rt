@@ -1,17 +1,18 @@
-//! Tests of the structures of one image: what no clause says, and answers worked out by hand.
+//! Tests of nodes by address, of books of references, and of what groups count: what no clause says, and answers worked
+//! out by hand.
 #![tactic(auto)]
 
 #[cfg(test)]
 mod blocks;
 #[cfg(test)]
-mod cow;
+mod counted;
 #[cfg(test)]
-mod edit;
+mod direct;
 #[cfg(test)]
-mod files;
+mod extents;
 #[cfg(test)]
-mod refs;
+mod file_parts;
 #[cfg(test)]
-mod shape;
+mod home;
 #[cfg(test)]
-mod space;
+mod tree_refs;

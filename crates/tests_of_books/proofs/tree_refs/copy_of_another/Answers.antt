@@ -1,4 +1,0 @@
-use Rattle.tests_of_books.proofs.tree_refs.copy_of_another.Goals as goal
-
-pub own-requires-clause-drafted : goal.own-requires-clause-drafted
-own-requires-clause-drafted g c = c.in_ok-land.ensures.drafted 2

@@ -1,0 +1,4 @@
+use Rattle.tests_of_structures.proofs.tree_refs.share_and_leave.Goals as goal
+
+pub own-requires-clause-drafted : goal.own-requires-clause-drafted
+own-requires-clause-drafted g c = c.in_ok-land.ensures.drafted 2
