@@ -1,6 +1,5 @@
 // Calls of which references change where a node that subvolume 5 made is copied or left.
-use crate::fault::Fault;
-use crate::words::told;
+use call_lines::{Fault, told};
 use qg_cow::{Edits, Leaving, edits, leaving};
 use qg_num::RootId;
 use std::alloc::Global;

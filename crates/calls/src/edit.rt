@@ -2,11 +2,11 @@
 // on, as pointers have.
 ghost use Rattle.qg_edit.specs.Edits.{IsShort};
 
-use crate::fault::Fault;
 use crate::nodes::{
     body_of, count_pointers, even_from, inner, key_of, leaf, pointer_of, told_span,
 };
 use crate::shape::told_joined;
+use call_lines::Fault;
 use qg_edit::{Change, Edit, edit_leaf, merge, splice};
 use qg_node::Node;
 use qg_shape::is_thin;

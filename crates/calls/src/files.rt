@@ -4,8 +4,7 @@ ghost use Rattle.std.specs.List.{All};
 ghost use Rattle.qg_image.specs.FilesOf.{piece_end};
 ghost use Rattle.qg_files.specs.Apart.{AreApart, AreApartFrom, IsWithinSizes};
 
-use crate::fault::Fault;
-use crate::words::{add_word, told};
+use call_lines::{Fault, add_word, told};
 use qg_files::{cut_range, put_piece, replace_range, split_range, take_range, truncate};
 use qg_num::{Address, Generation, Piece, Pieces};
 use std::alloc::Global;

@@ -1,9 +1,16 @@
 // Calls on groups and their relations.
-use crate::fault::Fault;
-use crate::words::{add_group, add_word, told};
+use call_lines::{Fault, add_group, add_word, told};
 use qg_hier::{HierFault, Hierarchy};
 use qg_num::GroupId;
 use std::alloc::Global;
+
+/// What a call gives that cannot be refused here.
+fn given<T: Drop>(answer: Result<T, HierFault>) -> Result<T, Fault> {
+    match answer {
+        Ok(value) => Ok(value),
+        Err(_) => Err(Fault::Failed),
+    }
+}
 
 /// The answer of a change.
 fn told_change(alloc: Global, change: Result<(), HierFault>) -> Result<String, Fault> {
@@ -25,7 +32,7 @@ fn told_groups(alloc: Global, groups: &[GroupId]) -> Result<String, Fault> {
 /// All relations, each as a member and its parent.
 fn told_pairs(alloc: Global, hierarchy: &Hierarchy) -> Result<String, Fault> {
     let mut answer = String::new(alloc);
-    for (member, parent) in hierarchy.pairs()?.as_slice() {
+    for (member, parent) in given(hierarchy.pairs())?.as_slice() {
         if !answer.is_empty() {
             add_word(&mut answer, "/")?;
         }
@@ -38,7 +45,7 @@ fn told_pairs(alloc: Global, hierarchy: &Hierarchy) -> Result<String, Fault> {
 /// The subvolumes below a group.
 fn told_members(alloc: Global, hierarchy: &Hierarchy, group: GroupId) -> Result<String, Fault> {
     let mut answer = String::new(alloc);
-    for sub in hierarchy.members(group)?.as_slice() {
+    for sub in given(hierarchy.members(group))?.as_slice() {
         add_word(&mut answer, format!(in alloc; "{}", sub.value())?.as_str())?;
     }
     Ok(answer)
@@ -52,10 +59,10 @@ pub(crate) fn answer(
     numbers: &[u64],
 ) -> Result<String, Fault> {
     match (verb, numbers) {
-        ("groups", []) => told_groups(alloc, hierarchy.groups()?.as_slice()),
+        ("groups", []) => told_groups(alloc, given(hierarchy.groups())?.as_slice()),
         ("relations", []) => told_pairs(alloc, hierarchy),
         ("above", [group]) => {
-            let above = hierarchy.above(GroupId::from_number(*group))?;
+            let above = given(hierarchy.above(GroupId::from_number(*group)))?;
             told_groups(alloc, above.as_slice())
         }
         ("members", [group]) => told_members(alloc, hierarchy, GroupId::from_number(*group)),

@@ -1,6 +1,5 @@
 // Calls on the limits of groups.
-use crate::fault::Fault;
-use crate::words::{add_group, add_word, told, told_number};
+use call_lines::{Fault, add_group, add_word, told, told_number};
 use qg_limits::Limits;
 use qg_num::{Counters, GroupId, Which};
 use std::alloc::Global;

@@ -6,8 +6,7 @@ ghost use Rattle.qg_node.specs.NodeText.{IsNodeSize};
 ghost use Rattle.qg_shape.specs.Filled.{HasShortBodies};
 ghost use Rattle.qg_shape.specs.Parts.{IsInner, IsLeaf};
 
-use crate::fault::Fault;
-use crate::words::{add_word, told};
+use call_lines::{Fault, add_word, told};
 use qg_node::{Body, Header, Item, Items, Keyed, Node, Pointer, Pointers};
 use qg_num::{Address, Generation, Key, RootId};
 use std::alloc::Global;

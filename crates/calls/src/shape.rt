@@ -3,12 +3,11 @@ ghost use Rattle.std.specs.Prelude.{◌≡◌};
 ghost use Rattle.qg_node.specs.NodeText.{IsNodeSize};
 ghost use Rattle.qg_shape.specs.Parts.{AreAlike, IsInner, IsLeaf};
 
-use crate::fault::Fault;
 use crate::nodes::{
     THERE, body_of, count_items, count_pointers, even_from, has_short_bodies, inner, key_of, leaf,
     node_size, pointer_of, told_items, told_pointers, told_span,
 };
-use crate::words::{numbers_of, told, told_number};
+use call_lines::{Fault, numbers_of, told, told_number};
 use qg_node::{Item, Node};
 use qg_num::{Address, Key};
 use qg_shape::{

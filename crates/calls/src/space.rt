@@ -1,8 +1,7 @@
 // Calls on the runs and slots of an image.
 ghost use Rattle.std.specs.Prelude.{◌≡◌, IfOk};
 
-use crate::fault::Fault;
-use crate::words::{told, told_if, told_number};
+use call_lines::{Fault, told, told_if, told_number};
 use qg_num::Address;
 use qg_space::Space;
 use std::alloc::Global;

@@ -5,9 +5,8 @@ ghost use Rattle.qg_image.specs.Owed.{part_address};
 ghost use Rattle.qg_image.specs.Table.{keys_of};
 
 use crate::books::told_item;
-use crate::fault::Fault;
 use crate::refs::reference_of;
-use crate::words::{add_word, first_word, numbers_of, told, told_if, told_number};
+use call_lines::{Fault, add_word, first_word, numbers_of, told, told_if, told_number};
 use qg_extents::{Extents, RefsFault};
 use qg_gathered::{Judged, NodesRead, judge_references};
 use qg_home::{Linked, homeless, linked_of};

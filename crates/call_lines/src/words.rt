@@ -1,5 +1,5 @@
 // Words of calls and of answers.
-use crate::fault::Fault;
+use crate::Fault;
 use qg_num::GroupId;
 use std::alloc::{AllocError, Global};
 
@@ -12,7 +12,7 @@ pub(crate) fn without_comment(line: &str) -> &str {
 }
 
 /// What is before the first space, and what behind it.
-pub(crate) fn first_word(text: &str) -> (&str, &str) {
+pub fn first_word(text: &str) -> (&str, &str) {
     match text.split_once(' ') {
         Some((word, rest)) => (word, rest),
         None => (text, ""),
@@ -35,7 +35,7 @@ fn number_of(word: &str) -> Result<u64, Fault> {
 }
 
 /// The numbers of a text. What stands alone as `/` only parts them.
-pub(crate) fn numbers_of(alloc: Global, text: &str) -> Result<Vec<u64>, Fault> {
+pub fn numbers_of(alloc: Global, text: &str) -> Result<Vec<u64>, Fault> {
     let mut numbers = Vec::new(alloc);
     for word in text.split(' ') {
         if !word.is_empty() && word != "/" {
@@ -46,22 +46,22 @@ pub(crate) fn numbers_of(alloc: Global, text: &str) -> Result<Vec<u64>, Fault> {
 }
 
 /// The bytes of a text in hex.
-pub(crate) fn bytes_of(alloc: Global, text: &str) -> Result<Vec<u8>, Fault> {
+pub fn bytes_of(alloc: Global, text: &str) -> Result<Vec<u8>, Fault> {
     hex::decode(alloc, text).map_err(|_| Fault::Number)
 }
 
 /// An answer of one word.
-pub(crate) fn told(alloc: Global, word: &str) -> Result<String, Fault> {
+pub fn told(alloc: Global, word: &str) -> Result<String, Fault> {
     Ok(String::from_str(alloc, word)?)
 }
 
 /// The answer `yes` or `no`.
-pub(crate) fn told_if(alloc: Global, is_so: bool) -> Result<String, Fault> {
+pub fn told_if(alloc: Global, is_so: bool) -> Result<String, Fault> {
     told(alloc, if is_so { "yes" } else { "no" })
 }
 
 /// A number, or `none`.
-pub(crate) fn told_number(alloc: Global, number: Option<u64>) -> Result<String, Fault> {
+pub fn told_number(alloc: Global, number: Option<u64>) -> Result<String, Fault> {
     match number {
         Some(number) => Ok(format!(in alloc; "{number}")?),
         None => told(alloc, "none"),
@@ -69,7 +69,7 @@ pub(crate) fn told_number(alloc: Global, number: Option<u64>) -> Result<String, 
 }
 
 /// Adds a word to an answer.
-pub(crate) fn add_word(answer: &mut String, word: &str) -> Result<(), AllocError> {
+pub fn add_word(answer: &mut String, word: &str) -> Result<(), AllocError> {
     if !answer.is_empty() {
         answer.push(' ')?;
     }
@@ -77,7 +77,7 @@ pub(crate) fn add_word(answer: &mut String, word: &str) -> Result<(), AllocError
 }
 
 /// Adds a group to an answer.
-pub(crate) fn add_group(alloc: Global, answer: &mut String, group: GroupId) -> Result<(), Fault> {
+pub fn add_group(alloc: Global, answer: &mut String, group: GroupId) -> Result<(), Fault> {
     let word = format!(in alloc; "{}/{}", group.level(), group.id())?;
     Ok(add_word(answer, word.as_str())?)
 }

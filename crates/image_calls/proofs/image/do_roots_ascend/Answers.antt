@@ -1,6 +1,6 @@
 use Rattle.std.proofs.Common.{ℕ, arith}
 use Rattle.qg_gathered.proofs.Sorted.{numbers_rise}
-use Rattle.calls.proofs.image.do_roots_ascend.Goals as goal
+use Rattle.image_calls.proofs.image.do_roots_ascend.Goals as goal
 
 pub returns : goal.returns
 returns c = λ holds. numbers_rise (λ (root : ℕ × ℕ). root.0) c.args.roots.now

@@ -5,7 +5,7 @@ use Rattle.std.proofs.lemmas.List.Elements.{pair_read}
 use Rattle.std.proofs.lemmas.List.Sorted.{all_adjacent_more, IsNonDecreasingBy-from_all_adjacent}
 use Rattle.qg_image.specs.declared.part.ExtentPart.{ExtentPart}
 use Rattle.qg_image.specs.Owed.{part_address}
-use Rattle.calls.proofs.image.do_parts_ascend.Goals as goal
+use Rattle.image_calls.proofs.image.do_parts_ascend.Goals as goal
 
 not_less : (a b : ℕ) → is_lt (nat_cmp a b) ≡ false → b ≤ a
 not_less a b h = grind (arith, nat_tests)

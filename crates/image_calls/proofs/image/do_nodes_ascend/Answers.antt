@@ -1,7 +1,7 @@
 use Rattle.std.proofs.Common.{arith}
 use Rattle.qg_home.specs.declared.linked.Linked.{Linked}
 use Rattle.qg_gathered.proofs.Sorted.{numbers_rise}
-use Rattle.calls.proofs.image.do_nodes_ascend.Goals as goal
+use Rattle.image_calls.proofs.image.do_nodes_ascend.Goals as goal
 
 pub returns : goal.returns
 returns c = λ holds. numbers_rise (λ (node : Linked). node.address) c.args.nodes.now

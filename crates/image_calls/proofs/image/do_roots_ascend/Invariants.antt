@@ -1,6 +1,6 @@
 use Rattle.std.proofs.Common.{◌<◌}
 use Rattle.std.specs.List.{AllAdjacentBelow}
-use Rattle.calls.proofs.image.do_roots_ascend.Given as goal
+use Rattle.image_calls.proofs.image.do_roots_ascend.Given as goal
 
 -- those that were passed ascend
 abbrev pub invariant-loop-i : goal.invariant-loop-i

@@ -4,9 +4,8 @@ ghost use Rattle.qg_refs.specs.Book.{count_at};
 ghost use Rattle.qg_refs.specs.Counts.{greatest_count};
 ghost use Rattle.qg_extents.specs.Table.{book_of};
 
-use crate::fault::Fault;
 use crate::refs::reference_of;
-use crate::words::{numbers_of, told, told_number};
+use call_lines::{Fault, numbers_of, told, told_number};
 use qg_extents::{Extents, fresh_records};
 use qg_node::Items;
 use qg_num::{Address, Generation};

@@ -1,12 +1,11 @@
 // Why a call was not made.
-use qg_hier::HierFault;
 use qg_num::{BlockFault, NoMemory};
 use std::alloc::{AllocError, AllocFailed};
 use thiserror::Error;
 
 /// Why a call was not made (this project's own).
 #[derive(Clone, Copy, Debug, PartialEq, Eq, Error)]
-pub(crate) enum Fault {
+pub enum Fault {
     /// No call of the file begins so, or it has not so many words.
     #[error("no call has these words")]
     Call,
@@ -39,12 +38,6 @@ impl From<AllocError> for Fault {
 impl<T: Drop> From<AllocFailed<T>> for Fault {
     fn from(_: AllocFailed<T>) -> Fault {
         Fault::NoMemory
-    }
-}
-
-impl From<HierFault> for Fault {
-    fn from(_: HierFault) -> Fault {
-        Fault::Failed
     }
 }
 

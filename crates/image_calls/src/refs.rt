@@ -1,6 +1,5 @@
 // Calls on a list of references.
-use crate::fault::Fault;
-use crate::words::{first_word, numbers_of, told, told_if, told_number};
+use call_lines::{Fault, first_word, numbers_of, told, told_if, told_number};
 use qg_num::{Address, Ino, RootId};
 use qg_refs::{RefList, Reference, is_before};
 use std::alloc::Global;
