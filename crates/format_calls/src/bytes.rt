@@ -92,8 +92,8 @@ pub(crate) fn told_pieces(
 pub(crate) fn told_ranges(alloc: Global, flags: &[bool]) -> Result<String, Fault> {
     let mut answer = String::new(alloc);
     let mut begin = None;
-    for (place, flag) in flags.iter().enumerate() {
-        match (*flag, begin) {
+    for place in 0..=flags.len() {
+        match (place < flags.len() && flags[place], begin) {
             (true, None) => begin = Some(place),
             (false, Some(from)) => {
                 add_word(&mut answer, format!(in alloc; "{from}..{place}")?.as_str())?;
@@ -101,10 +101,6 @@ pub(crate) fn told_ranges(alloc: Global, flags: &[bool]) -> Result<String, Fault
             }
             _ => {}
         }
-    }
-    if let Some(from) = begin {
-        let end = flags.len();
-        add_word(&mut answer, format!(in alloc; "{from}..{end}")?.as_str())?;
     }
     Ok(answer)
 }

@@ -4,14 +4,8 @@ use call_lines::{Fault, numbers_of};
 use qg_crc32c::{Running, crc32c};
 use std::alloc::Global;
 
-/// The most bytes that are made of their places.
-const MOST_BYTES: u64 = 16384;
-
 /// So many bytes, each a seventh of the square of its place, modulo 256.
 fn squares(alloc: Global, count: u64) -> Result<Vec<u8>, Fault> {
-    if count > MOST_BYTES {
-        return Err(Fault::Unmet);
-    }
     let mut bytes = Vec::new(alloc);
     for place in 0..count {
         bytes.push((place.wrapping_mul(place) / 7 % 256) as u8)?;
@@ -31,6 +25,11 @@ fn checksum_in_pieces(bytes: &[u8], size: usize) -> Result<u32, Fault> {
     Ok(running.finish())
 }
 
+/// A checksum in hex.
+pub(crate) fn told_checksum(alloc: Global, checksum: u32) -> Result<String, Fault> {
+    Ok(format!(in alloc; "{checksum:08x}")?)
+}
+
 /// Makes a call.
 pub(crate) fn answer(
     alloc: Global,
@@ -38,17 +37,15 @@ pub(crate) fn answer(
     verb: &str,
     text: &str,
 ) -> Result<String, Fault> {
-    let checksum = if verb == "checksum" {
-        crc32c(&fresh(alloc, text)?)
-    } else {
-        match (verb, numbers_of(alloc, text)?.as_slice()) {
-            ("squares", [count]) => {
-                *bytes = squares(alloc, *count)?;
-                crc32c(bytes)
-            }
-            ("in-pieces", [size]) => checksum_in_pieces(bytes, *size as usize)?,
-            _ => return Err(Fault::Call),
+    if verb == "checksum" {
+        return told_checksum(alloc, crc32c(&fresh(alloc, text)?));
+    }
+    match (verb, numbers_of(alloc, text)?.as_slice()) {
+        ("squares", [count]) => {
+            *bytes = squares(alloc, *count)?;
+            told_checksum(alloc, crc32c(bytes))
         }
-    };
-    Ok(format!(in alloc; "{checksum:08x}")?)
+        ("in-pieces", [size]) => told_checksum(alloc, checksum_in_pieces(bytes, *size as usize)?),
+        _ => Err(Fault::Call),
+    }
 }

@@ -1,66 +1,27 @@
 // Calls on the generator.
+use crate::checksums::told_checksum;
 use crate::commands::told_command;
-use call_lines::{Fault, numbers_of, told, told_number};
+use call_lines::{Fault, numbers_of, told};
+use qg_crc32c::Running;
 use qg_generator::Generator;
-use qg_num::{Command, Which};
 use std::alloc::Global;
 
-/// The numbers of a line, that of its kind first, 16 and 17 for kinds that are not drawn; 0 where there are fewer.
-fn numbers(command: &Command) -> [u64; 8] {
-    match command {
-        Command::Write { sub, ino, off, len } => {
-            [0, sub.value(), ino.value(), *off, *len, 0, 0, 0]
-        }
-        Command::Clone {
-            sub,
-            ino,
-            off,
-            len,
-            to_sub,
-            to_ino,
-            to_off,
-        } => [
-            7,
-            sub.value(),
-            ino.value(),
-            *off,
-            *len,
-            to_sub.value(),
-            to_ino.value(),
-            *to_off,
-        ],
-        Command::Truncate { sub, ino, size } => [9, sub.value(), ino.value(), *size, 0, 0, 0, 0],
-        Command::Unlink { sub, ino } => [10, sub.value(), ino.value(), 0, 0, 0, 0, 0],
-        Command::Snap { sub, groups } if groups.is_empty() => [11, sub.value(), 0, 0, 0, 0, 0, 0],
-        Command::Delete { sub } => [12, sub.value(), 0, 0, 0, 0, 0, 0],
-        Command::Assign { member, parent } => {
-            [13, member.number(), parent.number(), 0, 0, 0, 0, 0]
-        }
-        Command::Limit {
-            group,
-            which: Which::Rfer,
-            max: Some(max),
-        } => [14, group.number(), *max, 0, 0, 0, 0, 0],
-        Command::Commit => [15, 0, 0, 0, 0, 0, 0, 0],
-        Command::GroupCreate { group } => [16, group.number(), 0, 0, 0, 0, 0, 0],
-        _ => [17, 0, 0, 0, 0, 0, 0, 0],
+/// The next line, or `none`.
+fn told_next(alloc: Global, generator: &mut Generator) -> Result<String, Fault> {
+    match generator.next() {
+        Some(command) => told_command(alloc, &command),
+        None => told(alloc, "none"),
     }
 }
 
-/// The numbers of so many lines, folded into one; a line that isn't there has 18.
-fn folded(generator: &mut Generator, lines: u64) -> u64 {
-    let mut sum: u64 = 0;
-    for _ in 0..lines {
-        let line = match generator.next() {
-            Some(command) => numbers(&command),
-            None => [18, 0, 0, 0, 0, 0, 0, 0],
-        };
-        sum = line.iter().fold(
-            sum,
-            |sum, number| sum.wrapping_mul(31).wrapping_add(*number),
-        );
+/// The checksum of so many lines as they are told, a newline behind each.
+fn checksum_of_lines(alloc: Global, generator: &mut Generator, count: u64) -> Result<u32, Fault> {
+    let mut running = Running::new();
+    for _ in 0..count {
+        running.update(told_next(alloc, generator)?.as_bytes());
+        running.update(b"\n");
     }
-    sum
+    Ok(running.finish())
 }
 
 /// Makes a call.
@@ -75,11 +36,8 @@ pub(crate) fn answer(
             *generator = Generator::new(alloc, *seed, *count);
             told(alloc, "done")
         }
-        ("next", []) => match generator.next() {
-            Some(command) => told_command(alloc, &command),
-            None => told(alloc, "none"),
-        },
-        ("folded", [lines]) => told_number(alloc, Some(folded(generator, *lines))),
+        ("next", []) => told_next(alloc, generator),
+        ("checksum", [count]) => told_checksum(alloc, checksum_of_lines(alloc, generator, *count)?),
         _ => Err(Fault::Call),
     }
 }

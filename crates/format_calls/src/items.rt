@@ -124,11 +124,10 @@ fn reference_bytes(alloc: Global, kind: &str, numbers: &[u64]) -> Result<Vec<u8>
 fn quota_bytes(alloc: Global, kind: &str, numbers: &[u64]) -> Result<Vec<u8>, Fault> {
     match (kind, numbers) {
         ("status", [generation, flags, cursor]) => {
-            let (generation, flags, cursor) = (Generation::new(*generation), *flags, *cursor);
             let status = QgroupStatus {
-                generation,
-                flags,
-                cursor,
+                generation: Generation::new(*generation),
+                flags: *flags,
+                cursor: *cursor,
             };
             let mut bytes = [0xee; QGROUP_STATUS_BYTES];
             write_status(&status, &mut bytes);
@@ -147,11 +146,10 @@ fn quota_bytes(alloc: Global, kind: &str, numbers: &[u64]) -> Result<Vec<u8>, Fa
             kept_if(alloc, read_info(&bytes) == Some(info), &bytes)
         }
         ("limit", [flags, max_rfer, max_excl]) => {
-            let (flags, max_rfer, max_excl) = (*flags, *max_rfer, *max_excl);
             let limit = QgroupLimit {
-                flags,
-                max_rfer,
-                max_excl,
+                flags: *flags,
+                max_rfer: *max_rfer,
+                max_excl: *max_excl,
             };
             let mut bytes = [0xee; QGROUP_LIMIT_BYTES];
             write_limit(&limit, &mut bytes);

@@ -55,11 +55,10 @@ fn add(alloc: Global, node: &mut Node, text: &str) -> Result<(), Fault> {
         }
         (Node::Inner { pointers, .. }, [objectid, kind, offset, child, generation]) => {
             let key = key_of(*objectid, *kind, *offset)?;
-            let (child, generation) = (Address::new(*child), Generation::new(*generation));
             pointers.push(Pointer {
                 key,
-                child,
-                generation,
+                child: Address::new(*child),
+                generation: Generation::new(*generation),
             })?;
         }
         _ => return Err(Fault::Call),

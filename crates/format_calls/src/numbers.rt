@@ -1,4 +1,6 @@
 // Calls on fields of bytes, on keys and on the numbers of groups.
+ghost use Rattle.std.specs.Prelude.{◌≤◌, length};
+
 use crate::bytes::told_pieces;
 use call_lines::{Fault, bytes_of, numbers_of, told_if, told_number};
 use qg_num::{GroupId, Key, is_zero, put_u32, put_u64, put_zeros, u32_at, u64_at};
@@ -6,11 +8,9 @@ use std::alloc::Global;
 use std::cmp::Ordering;
 
 /// Writes a number, or zeros, from a place on.
-fn put_field(bytes: &mut [u8], verb: &str, place: u64, number: u64) -> Result<(), Fault> {
-    if place > bytes.len() as u64 {
-        return Err(Fault::Unmet);
-    }
-    let place = place as usize;
+fn put_field(bytes: &mut [u8], verb: &str, place: usize, number: u64) -> Result<(), Fault>
+    requires { place ≤ length bytes.old }
+{
     let room = bytes.len() - place;
     match verb {
         "put-u64" if room >= 8 => put_u64(bytes, place, number),
@@ -25,11 +25,9 @@ fn put_field(bytes: &mut [u8], verb: &str, place: u64, number: u64) -> Result<()
 }
 
 /// The number of some bytes from a place on.
-fn field(bytes: &[u8], verb: &str, place: u64) -> Result<u64, Fault> {
-    if place > bytes.len() as u64 {
-        return Err(Fault::Unmet);
-    }
-    let place = place as usize;
+fn field(bytes: &[u8], verb: &str, place: usize) -> Result<u64, Fault>
+    requires { place ≤ length bytes.now }
+{
     let room = bytes.len() - place;
     match verb {
         "u64" if room >= 8 => Ok(u64_at(bytes, place)),
@@ -98,13 +96,16 @@ pub(crate) fn answer(
         return read_key(alloc, text);
     }
     let numbers = numbers_of(alloc, text)?;
+    let length = bytes.len() as u64;
     match (verb, numbers.as_slice()) {
-        ("put-u64" | "put-u32" | "put-zeros", [place, number]) => {
-            put_field(bytes, verb, *place, *number)?;
-            told_pieces(alloc, bytes, 0, bytes.len() as u64)
+        ("put-u64" | "put-u32" | "put-zeros", [place, number]) if *place <= length => {
+            put_field(bytes, verb, *place as usize, *number)?;
+            told_pieces(alloc, bytes, 0, length)
         }
-        ("u64" | "u32", [place]) => told_number(alloc, Some(field(bytes, verb, *place)?)),
-        ("is-zero", [from, to]) if from <= to && *to <= bytes.len() as u64 => {
+        ("u64" | "u32", [place]) if *place <= length => {
+            told_number(alloc, Some(field(bytes, verb, *place as usize)?))
+        }
+        ("is-zero", [from, to]) if from <= to && *to <= length => {
             told_if(alloc, is_zero(bytes, *from as usize, *to as usize))
         }
         (verb, numbers) => answer_name(alloc, verb, numbers),

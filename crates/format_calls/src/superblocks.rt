@@ -5,9 +5,7 @@ ghost use Rattle.qg_super.specs.Places.{first_place, second_place};
 use crate::bytes::{changed, told_ranges, with_flip};
 use call_lines::{Fault, first_word, numbers_of, told, told_if, told_number};
 use qg_num::{Address, Generation};
-use qg_super::{
-    FIRST_PLACE, SECOND_PLACE, SUPER_BYTES, Sizes, Super, choose, read_super, write_super,
-};
+use qg_super::{FIRST_PLACE, SECOND_PLACE, SUPER_BYTES, Super, choose, read_super, write_super};
 use std::alloc::Global;
 
 /// Where the first or the second superblock lies.
@@ -45,11 +43,8 @@ fn told_super(alloc: Global, superblock: Option<Super>) -> Result<String, Fault>
         return told(alloc, "none");
     };
     let (generation, root) = (superblock.generation.value(), superblock.root.value());
-    let Sizes {
-        nodesize,
-        slots,
-        sectors,
-    } = superblock.sizes();
+    let (slots, sectors) = (superblock.slots, superblock.sectors);
+    let nodesize = superblock.nodesize;
     Ok(format!(in alloc; "{generation} {root} {nodesize} {slots} {sectors}")?)
 }
 
@@ -68,31 +63,22 @@ fn write(alloc: Global, place: &str, text: &str) -> Result<Vec<u8>, Fault> {
 }
 
 /// The places where a changed bit makes bytes no text of a superblock for a place. Changes are made behind it.
-fn told_constants(alloc: Global, bytes: &[u8], place: u64, changes: &str) -> Result<String, Fault> {
+fn constants(alloc: Global, bytes: &[u8], place: u64, changes: &str) -> Result<String, Fault> {
     let mut flags = Vec::new(alloc);
     for i in 0..bytes.len() {
-        let flipped = with_flip(alloc, bytes, i)?;
-        let text = changed(alloc, &flipped, changes)?;
+        let text = changed(alloc, &with_flip(alloc, bytes, i)?, changes)?;
         flags.push(read_super(&text, place).is_none())?;
     }
     told_ranges(alloc, &flags)
 }
 
 /// The length of an image, where its sizes are served.
-fn total(alloc: Global, text: &str) -> Result<Option<u64>, Fault> {
-    let [nodesize, slots, sectors] = numbers_of(alloc, text)?.as_slice() else {
-        return Err(Fault::Call);
-    };
-    let sizes = Sizes {
-        nodesize: *nodesize,
-        slots: *slots,
-        sectors: *sectors,
-    };
-    if sizes.is_served() {
-        Ok(Some(sizes.total_bytes()))
-    } else {
-        Ok(None)
+fn total(superblock: &Super) -> Option<u64> {
+    let sizes = superblock.sizes();
+    if !sizes.is_served() {
+        return None;
     }
+    Some(sizes.total_bytes())
 }
 
 /// Makes a call on two superblocks.
@@ -125,8 +111,11 @@ pub(crate) fn answer(
             let place = place_of(place)?;
             told_super(alloc, read_super(&changed(alloc, bytes, rest)?, place))
         }
-        "constants" => told_constants(alloc, bytes, place_of(place)?, rest),
-        "total" => told_number(alloc, total(alloc, text)?),
+        "constants" => constants(alloc, bytes, place_of(place)?, rest),
+        "total" => match super_of(alloc, text)? {
+            Some(superblock) => told_number(alloc, total(&superblock)),
+            None => Err(Fault::Call),
+        },
         verb => answer_two(alloc, verb, text),
     }
 }

@@ -1,5 +1,6 @@
 // Calls on decimals and on the words of a command line.
 use call_lines::{Fault, told, told_number};
+use qg_super::Sizes;
 use qg_words::{Form, decimal_of, read_words};
 use std::alloc::Global;
 
@@ -14,10 +15,15 @@ fn told_form(alloc: Global, text: &str) -> Result<String, Fault> {
         Some(Form::Run) => told(alloc, "run"),
         Some(Form::Check) => told(alloc, "check"),
         Some(Form::Generate { seed, count }) => Ok(format!(in alloc; "gen {seed} {count}")?),
-        Some(Form::Mkfs(sizes)) => {
-            let (nodesize, slots, sectors) = (sizes.nodesize, sizes.slots, sizes.sectors);
-            Ok(format!(in alloc; "mkfs {nodesize} {slots} {sectors}")?)
-        }
+        Some(
+            Form::Mkfs(
+                Sizes {
+                    nodesize,
+                    slots,
+                    sectors,
+                },
+            ),
+        ) => { Ok(format!(in alloc; "mkfs {nodesize} {slots} {sectors}")?) }
     }
 }
 
