@@ -1,64 +1,9 @@
 ghost use Rattle.std.specs.Prelude.{◌≡◌, ◌+◌, ◌<◌};
 
-use qg_num::*;
-use std::cmp::Ordering;
+use qg_num::{OwnerList, RootId, Steps};
 use std::marker::Brand;
 use std::sync::ledger::{Blank, Ledger};
 use std::test::Fail;
-
-fn key(objectid: u64, kind: u8, offset: u64) -> Key {
-    Key {
-        objectid,
-        kind,
-        offset,
-    }
-}
-
-// The bytes are written out by hand, and the keys stand in their order.
-#[test]
-fn keys_have_their_bytes_and_their_order(rt: HostRuntime) {
-    let table: [(Key, [u8; 17]); 2] = [
-        (
-            key(257, 108, 4096),
-            [
-                0x01, 0x01, 0, 0, 0, 0, 0, 0, 0x6c, 0x00, 0x10, 0, 0, 0, 0, 0, 0,
-            ],
-        ),
-        (
-            key(67174400, 178, 18446744073709547520),
-            [
-                0x00, 0x00, 0x01, 0x04, 0, 0, 0, 0, 0xb2, 0x00, 0xf0, 0xff, 0xff, 0xff, 0xff, 0xff,
-                0xff,
-            ],
-        ),
-    ];
-    for (key, wanted) in table {
-        let mut bytes = [0xee; 17];
-        key.write(&mut bytes);
-        assert!(rt; bytes == wanted);
-        assert!(rt; Key::read(&wanted) == key);
-    }
-
-    let ascending = [
-        key(0, 242, 5),
-        key(256, 1, 8192),
-        key(256, 108, 0),
-        key(256, 108, 4096),
-        key(257, 1, 0),
-        key(18446744073709551615, 0, 0),
-    ];
-    for i in 1..6usize {
-        let (before, after) = (ascending[i - 1], ascending[i]);
-        assert!(rt;
-            before.is_before(after) && !after.is_before(before),
-            "at {i}"
-        );
-        assert!(rt;
-            before.cmp(&after) == Ordering::Less && after > before,
-            "at {i}"
-        );
-    }
-}
 
 // Counts by two ledgers.
 fn count_apart<L: Ledger, M: Ledger>(first: Blank, second: Blank)
@@ -88,21 +33,7 @@ fn count_by_two_ledgers() {
 }
 
 #[test]
-fn groups_counts_and_lists(rt: HostRuntime) -> Result<(), Fail> {
-    let table = [
-        (1, 1, Some(281474976710657)),
-        (0, 5, Some(5)),
-        (65535, 281474976710655, Some(18446744073709551615)),
-        (65536, 0, None),
-        (0, 281474976710656, None),
-    ];
-    for (level, id, wanted) in table {
-        let group = GroupId::new(level, id);
-        assert!(rt; group.map(|group| group.number()) == wanted, "{level}/{id}");
-    }
-    let group = GroupId::from_number(281474976710661);
-    assert!(rt; (group.level(), group.id()) == (1, 5));
-
+fn counts_and_lists(rt: HostRuntime) -> Result<(), Fail> {
     count_by_two_ledgers();
 
     let mut owners = OwnerList::new(rt.alloc());
