@@ -47,4 +47,5 @@ module _ {X F : Type 0} (number : X → ℕ) {g : Mut F (Bor X × (Bor X × Unit
       let e = λ (x y : X). is_le (nat_cmp (number x) (number y)) in
       let answer = answers e (always_returns_same g (λ a b. b ≡ e a.0.now a.1.0.now) f calls) in
       IsNonDecreasingBy-from_all_adjacent number xs
-      (λ k d inside. not_more (number (get_or xs k d)) (number (get_or xs (k + 1) d)) (if_yes _ _ holds answer k d inside))
+      (λ k d inside. not_more (number (get_or xs k d)) (number (get_or xs (k + 1) d))
+      (if_yes _ _ holds answer k d inside))

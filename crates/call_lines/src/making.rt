@@ -53,8 +53,8 @@ fn make_calls<C: Calls + Drop, R: Print + Files + AllocGlobal>(rt: &R, name: &st
     Ok(wrong)
 }
 
-/// Makes the calls of the files of these names, which lie in the folder as `NAME.calls`. It prints each that is answered
-/// otherwise than its line wants, and of each file how many are answered as wanted.
+/// Makes the calls of the files of these names, which lie in the folder as `NAME.calls`. It prints each that is
+/// answered otherwise than its line wants, and of each file how many are answered as wanted.
 pub fn make_all<C: Calls + Drop, R: Print + Files + AllocGlobal>(
     rt: &R,
     names: &[&str],

@@ -97,7 +97,10 @@ pub(crate) fn answer(
         "item" => return item(alloc, weighed.refs(), &numbers_of(alloc, text)?),
         "fresh-item" => return fresh_item(alloc, &numbers_of(alloc, text)?),
         "open" => *weighed = Weighed::new(weighed.refs().clone()?)?,
-        "hold" => weighed.hold()?,
+        "hold" => {
+            let copy = weighed.to_record()?;
+            weighed.hold(copy);
+        }
         "add" => {
             let reference = reference_of(alloc, text)?;
             if !has_room(weighed, at, &reference) {

@@ -13,7 +13,7 @@ use Rattle.std.specs.Ordering.{nat_cmp}
 use Rattle.std.specs.BTreeMap.{is_at}
 use Rattle.lru.proofs.Splits.{Contains-cons, Contains-nil}
 use Rattle.qg_blocks.proofs.Telling.{fresh-set, is_at-same, is_at-other}
-use Rattle.qg_device.specs.History.{Event, content}
+use Rattle.qg_device.specs.History.{History, content}
 use Rattle.qg_node.specs.declared.node.Node.{Node}
 use Rattle.qg_blocks.specs.Held.{Draft, Held, with_node}
 use Rattle.qg_super.specs.declared.sizes.Sizes.{Sizes}
@@ -22,7 +22,7 @@ use Rattle.qg_blocks.specs.Told.{IsBacked, IsNodeAt, StandsThere, fresh_at}
 use Rattle.qg_blocks.specs.Writing.{AreWritten}
 
 -- fewer clean ones are so too, and beside fewer fresh ones
-pub IsBacked-fewer : (old new : Held) (history : Option (List Event)) → new.draft.sizes ≡ old.draft.sizes
+pub IsBacked-fewer : (old new : Held) (history : History) → new.draft.sizes ≡ old.draft.sizes
     → ((q : ℕ) → fresh_at old.draft q ≡ None → fresh_at new.draft q ≡ None)
     → ((e : ℕ × Node) → Contains new.clean e → Contains old.clean e) → IsBacked old history → IsBacked new history
 IsBacked-fewer old new history same less fewer backed = record {
@@ -33,7 +33,7 @@ IsBacked-fewer old new history same less fewer backed = record {
       (backed.kept address node (fewer (address, node) here));
 }
 
-pub IsBacked-promoted : (held : Held) (history : Option (List Event)) (address : ℕ) → IsBacked held history
+pub IsBacked-promoted : (held : Held) (history : History) (address : ℕ) → IsBacked held history
     → IsBacked (record held { clean = promoted (nat_eq address) held.clean }) history
 IsBacked-promoted held history address =
     IsBacked-fewer held (record held { clean = promoted (nat_eq address) held.clean }) history refl (λ q none. none)
@@ -53,7 +53,7 @@ put_cases held address node at kept here =
     ]
 
 -- and with one that stands there, and is not fresh
-pub IsBacked-put : (held : Held) (history : Option (List Event)) (address : ℕ) (node : Node)
+pub IsBacked-put : (held : Held) (history : History) (address : ℕ) (node : Node)
     → fresh_at held.draft address ≡ None → IsNodeAt held.draft.sizes.nodesize address node
     → StandsThere held.draft.sizes history address node
     → IsBacked held history
@@ -73,11 +73,11 @@ IsBacked-put held history address node none sound stands backed = record {
   ];
 }
 
-pub IsBacked-same : (old new : Held) (history history' : Option (List Event)) → new ≡ old → history' ≡ history
+pub IsBacked-same : (old new : Held) (history history' : History) → new ≡ old → history' ≡ history
     → IsBacked old history → IsBacked new history'
 IsBacked-same old new history history' same same' backed =
     subst (λ (held : Held). IsBacked held history') (sym same)
-    (subst (λ (h : Option (List Event)). IsBacked old h) (sym same') backed)
+    (subst (λ (h : History). IsBacked old h) (sym same') backed)
 
 -- ---- one of them goes
 
@@ -85,7 +85,7 @@ pub none_either : (b : Bool) (o : Option Node) → o ≡ None → cond b None o 
 none_either true o none = refl
 none_either false o none = none
 
-pub IsBacked-forget : (old new : Held) (history : Option (List Event)) (address : ℕ) → new.draft.sizes ≡ old.draft.sizes
+pub IsBacked-forget : (old new : Held) (history : History) (address : ℕ) → new.draft.sizes ≡ old.draft.sizes
     → ((q : ℕ) → fresh_at new.draft q ≡ cond (is_at (nat_cmp address) q) None (fresh_at old.draft q))
     → new.clean ≡ remove_entry (nat_eq address) old.clean → IsBacked old history → IsBacked new history
 IsBacked-forget old new history address same less is =
@@ -151,7 +151,7 @@ clean-none address at (e ∷ es) none = elim (cases_Bool (nat_eq at e.0)) [
 ]
 
 -- one that becomes fresh is clean no more
-pub IsBacked-fresh : (old new : Held) (history : Option (List Event)) (address : ℕ) (node : Node)
+pub IsBacked-fresh : (old new : Held) (history : History) (address : ℕ) (node : Node)
     → new.draft.sizes ≡ old.draft.sizes
     → ((q : ℕ) → fresh_at new.draft q ≡ cond (is_at (nat_cmp address) q) (Some node) (fresh_at old.draft q))
     → IsDistinct nat_eq (keys_of old.clean) → new.clean ≡ remove_entry (nat_eq address) old.clean → IsBacked old history
@@ -183,13 +183,13 @@ first_is old new address node is =
     ∙ ap (λ (b : Bool). cond b (Some node) (fresh_at new address)) (is_at-same address)
 
 -- the first of them stands there, and has a text
-pub StandsThere-first : (old new : Draft) (history : Option (List Event)) (address : ℕ) (node : Node)
+pub StandsThere-first : (old new : Draft) (history : History) (address : ℕ) (node : Node)
     → old.fresh ≡ (address, node) ∷ new.fresh
     → AreWritten old history → StandsThere old.sizes history address node
 StandsThere-first old new history address node is written =
     written.stands address node (first_is old new address node is)
 
-pub IsNodeAt-first : (old new : Draft) (history : Option (List Event)) (address : ℕ) (node : Node)
+pub IsNodeAt-first : (old new : Draft) (history : History) (address : ℕ) (node : Node)
     → old.fresh ≡ (address, node) ∷ new.fresh
     → AreWritten old history → IsNodeAt old.sizes.nodesize address node
 IsNodeAt-first old new history address node is written = written.kept address node (first_is old new address node is)
@@ -199,7 +199,7 @@ some_before true o node is = cc
 some_before false o node is = is
 
 -- and the others are written
-pub AreWritten-rest : (old new : Draft) (history : Option (List Event)) (address : ℕ)
+pub AreWritten-rest : (old new : Draft) (history : History) (address : ℕ)
     → ((q : ℕ) → fresh_at new q ≡ cond (is_at (nat_cmp address) q) None (fresh_at old q))
     → new.sizes ≡ old.sizes → AreWritten old history → AreWritten new history
 AreWritten-rest old new history address less same written =
@@ -215,7 +215,7 @@ AreWritten-rest old new history address less same written =
 -- ---- a fresh node that is written to
 
 -- it stays fresh
-pub IsBacked-set : (held : Held) (history : Option (List Event)) (address : ℕ) (node : Node)
+pub IsBacked-set : (held : Held) (history : History) (address : ℕ) (node : Node)
     → IsSome (fresh_at held.draft address) → IsBacked held history
     → IsBacked (record held { draft = with_node held.draft address node }) history
 IsBacked-set held history address node some =

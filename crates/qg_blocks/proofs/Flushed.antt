@@ -7,7 +7,7 @@ use Rattle.std.specs.Prelude.{Option, Some, None, IsSome, slice_index}
 use Rattle.std.specs.Ordering.{nat_cmp}
 use Rattle.std.specs.BTreeMap.{is_at}
 use Rattle.std.specs.Map.{keys_of, lookup}
-use Rattle.qg_device.specs.History.{Event}
+use Rattle.qg_device.specs.History.{History}
 use Rattle.qg_node.specs.declared.node.Node.{Node}
 use Rattle.qg_blocks.specs.Held.{Draft}
 use Rattle.qg_blocks.specs.Told.{IsNodeAt, fresh_at}
@@ -15,7 +15,7 @@ use Rattle.qg_blocks.specs.Writing.{ArePlaced, AreWritten, HasFlushed, HasWritte
 use Rattle.qg_blocks.proofs.Telling.{is_at-same, same_by}
 use Rattle.qg_blocks.proofs.Written.{Keeps-fewer, Keeps-then}
 
-pub HasFlushed-none : (draft : Draft) (history : Option (List Event)) (Q : ℕ → Type 0) → ((address : ℕ) → Q address → ⊥)
+pub HasFlushed-none : (draft : Draft) (history : History) (Q : ℕ → Type 0) → ((address : ℕ) → Q address → ⊥)
     → HasFlushed draft history history Q
 HasFlushed-none draft history Q none = record {
   here = λ address node is fresh. absurd (none address is);
@@ -23,7 +23,7 @@ HasFlushed-none draft history Q none = record {
 }
 
 -- one node more
-pub HasFlushed-more : (draft : Draft) (before mid after : Option (List Event)) (P Q : ℕ → Type 0) (address : ℕ)
+pub HasFlushed-more : (draft : Draft) (before mid after : History) (P Q : ℕ → Type 0) (address : ℕ)
     (node : Node) → fresh_at draft address ≡ Some node
     → ((at : ℕ) → Q at → P at ⊎ (at ≡ address)) → HasFlushed draft before mid P
     → HasWritten draft.sizes mid after address node → HasFlushed draft before after Q
@@ -42,7 +42,7 @@ HasFlushed-more draft before mid after P Q address node fresh cases flushed writ
 }
 
 -- all of them
-pub AreWritten-flushed : (draft : Draft) (before after : Option (List Event)) (Q : ℕ → Type 0)
+pub AreWritten-flushed : (draft : Draft) (before after : History) (Q : ℕ → Type 0)
     → HasFlushed draft before after Q
     → ((address : ℕ) (node : Node) → fresh_at draft address ≡ Some node → Q address)
     → ((address : ℕ) (node : Node) → fresh_at draft address ≡ Some node → IsNodeAt draft.sizes.nodesize address node)

@@ -5,3 +5,4 @@ pub mod Ranges
 pub mod Written
 pub mod Flushed
 pub mod Walked
+pub mod Broken

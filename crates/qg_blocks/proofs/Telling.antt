@@ -19,7 +19,7 @@ use Rattle.lru.specs.LruCache.{promoted}
 use Rattle.lru.proofs.CallerLemmas.{Contains-lookup, Contains-lookup_entry}
 use Rattle.qg_num.specs.declared.fault.BlockFault.{BlockFault}
 use Rattle.qg_num.specs.declared.fault.BlockFault.TheVariants.{NoMemory, Disk, Image}
-use Rattle.qg_device.specs.History.{Event, content}
+use Rattle.qg_device.specs.History.{Event, History, Recorded, Unrecorded, content}
 use Rattle.qg_node.specs.declared.node.Node.{Node}
 use Rattle.qg_blocks.specs.Held.{Draft, Held, with_node}
 use Rattle.qg_blocks.specs.Standing.{standing}
@@ -67,17 +67,17 @@ clean-listed held address node is =
     let same : address ≡ at.0 = eqb-true address at.0 at.2 in
     subst (λ (a : ℕ). Contains held.clean (a, node)) (sym same) at.1
 
-told_from : (fresh clean : Option Node) (sizes : Sizes) (history : Option (List Event)) (address : ℕ) (node : Node)
+told_from : (fresh clean : Option Node) (sizes : Sizes) (history : History) (address : ℕ) (node : Node)
     → ((m : Node) → clean ≡ Some m → StandsThere sizes history address m)
     → told_or fresh sizes history address ≡ Some node → IsSome (first_of fresh clean) → first_of fresh clean ≡ Some node
 told_from (Some n) clean sizes history address node stands is some = is
 told_from None None sizes history address node stands is some = cc
-told_from None (Some m) sizes None address node stands is some = cc
-told_from None (Some m) sizes (Some events) address node stands is some = let there = stands m refl events refl in
+told_from None (Some m) sizes (Unrecorded changes) address node stands is some = cc
+told_from None (Some m) sizes (Recorded events) address node stands is some = let there = stands m refl events refl in
     rw there at is
 
 -- what is in memory is what is told, where anything is
-pub held-told : (held : Held) (history : Option (List Event)) (address : ℕ) (node : Node) → IsBacked held history
+pub held-told : (held : Held) (history : History) (address : ℕ) (node : Node) → IsBacked held history
     → told held.draft history address ≡ Some node
     → IsSome (held_at held address) → held_at held address ≡ Some node
 unfolding told
@@ -87,13 +87,13 @@ held-told held history address node backed is some =
 
 -- and it is told: no rule is broken there
 found_from : (fresh clean : Option Node) (sizes : Sizes) (events : List Event) (address : ℕ)
-    → ((m : Node) → clean ≡ Some m → StandsThere sizes (Some events) address m) → IsSome (first_of fresh clean)
+    → ((m : Node) → clean ≡ Some m → StandsThere sizes (Recorded events) address m) → IsSome (first_of fresh clean)
     → IsOk (fresh_or fresh (standing sizes (content events) address))
 found_from (Some n) clean sizes events address stands some = refl
 found_from None None sizes events address stands some = cc
 found_from None (Some m) sizes events address stands some = let there = stands m refl events refl in rw there refl
 
-pub held-found : (held : Held) (events : List Event) (address : ℕ) → IsBacked held (Some events)
+pub held-found : (held : Held) (events : List Event) (address : ℕ) → IsBacked held (Recorded events)
     → IsSome (held_at held address)
     → IsOk (found held.draft (content events) address)
 held-found held events address backed =
@@ -106,7 +106,7 @@ kept_from None clean node P step none is = step is
 kept_from (Some n) clean node P step none is = cc
 
 -- over any disk, what is in memory and not fresh has a text and names its address
-pub held-kept : (held : Held) (history : Option (List Event)) (address : ℕ) (node : Node) → IsBacked held history
+pub held-kept : (held : Held) (history : History) (address : ℕ) (node : Node) → IsBacked held history
     → fresh_at held.draft address ≡ None
     → held_at held address ≡ Some node → IsNodeAt held.draft.sizes.nodesize address node
 held-kept held history address node backed none is =
@@ -116,13 +116,13 @@ held-kept held history address node backed none is =
 
 -- ---- what a call that loaded a node says of it
 
-pub loaded-told : (held : Held) (draft : Draft) (history : Option (List Event)) (address : ℕ) (node : Node)
+pub loaded-told : (held : Held) (draft : Draft) (history : History) (address : ℕ) (node : Node)
     → held.draft ≡ draft → IsBacked held history
     → IsSome (held_at held address) → told draft history address ≡ Some node → held_at held address ≡ Some node
 loaded-told held draft history address node same backed some is =
     held-told held history address node backed (ap (λ (d : Draft). told d history address) same ∙ is) some
 
-pub loaded-kept : (held : Held) (draft : Draft) (history : Option (List Event)) (address : ℕ) (node : Node)
+pub loaded-kept : (held : Held) (draft : Draft) (history : History) (address : ℕ) (node : Node)
     → held.draft ≡ draft → IsBacked held history
     → fresh_at draft address ≡ None → held_at held address ≡ Some node → IsNodeAt draft.sizes.nodesize address node
 loaded-kept held draft history address node same backed none is =
@@ -130,7 +130,7 @@ loaded-kept held draft history address node same backed none is =
     (held-kept held history address node backed (ap (λ (d : Draft). fresh_at d address) same ∙ none) is)
 
 -- so it is at hand as it is
-pub IsAtHand-backed : (held : Held) (draft : Draft) (history : Option (List Event)) (address : ℕ) → held.draft ≡ draft
+pub IsAtHand-backed : (held : Held) (draft : Draft) (history : History) (address : ℕ) → held.draft ≡ draft
     → IsBacked held history
     → IsSome (held_at held address) → IsAtHand held draft history address
 IsAtHand-backed held draft history address same backed some = record {
@@ -139,12 +139,12 @@ IsAtHand-backed held draft history address same backed some = record {
   kept = λ node. loaded-kept held draft history address node same backed;
 }
 
-pub loaded-found : (held : Held) (draft : Draft) (history : Option (List Event)) (events : List Event) (address : ℕ)
+pub loaded-found : (held : Held) (draft : Draft) (history : History) (events : List Event) (address : ℕ)
     → held.draft ≡ draft → IsBacked held history
-    → history ≡ Some events → IsSome (held_at held address) → IsOk (found draft (content events) address)
+    → history ≡ Recorded events → IsSome (held_at held address) → IsOk (found draft (content events) address)
 loaded-found held draft history events address same backed is some =
     subst (λ (d : Draft). IsOk (found d (content events) address)) same
-    (held-found held events address (subst (λ (h : Option (List Event)). IsBacked held h) is backed) some)
+    (held-found held events address (subst (λ (h : History). IsBacked held h) is backed) some)
 
 -- where no node is fresh, what is found is what stands in the image
 pub found-stands : (draft : Draft) (image : List ℕ) (address : ℕ) → fresh_at draft address ≡ None
@@ -152,23 +152,24 @@ pub found-stands : (draft : Draft) (image : List ℕ) (address : ℕ) → fresh_
 found-stands draft image address none = ap (λ (o : Option Node). fresh_or o (standing draft.sizes image address)) none
 
 unbroken_from : {A : Type 0} (result : Result A BlockFault) (fresh : Option Node) (sizes : Sizes)
-    (history : Option (List Event)) (address : ℕ) (node : Node)
+    (history : History) (address : ℕ) (node : Node)
     → fresh ≡ None
-    → ((events : List Event) → history ≡ Some events → Answers result address (standing sizes (content events) address))
+    → ((events : List Event) → history ≡ Recorded events
+    → Answers result address (standing sizes (content events) address))
     → told_or fresh sizes history address ≡ Some node → BreaksNone result
 unbroken_from (Ok x) fresh sizes history address node none answers is = tt
 unbroken_from (Err NoMemory) fresh sizes history address node none answers is = tt
 unbroken_from (Err Disk) fresh sizes history address node none answers is = tt
 unbroken_from (Err (Image rule at)) (Some n) sizes history address node none answers is = cc
-unbroken_from (Err (Image rule at)) None sizes None address node none answers is = cc
-unbroken_from (Err (Image rule at)) None sizes (Some events) address node none answers is = let there =
+unbroken_from (Err (Image rule at)) None sizes (Unrecorded changes) address node none answers is = cc
+unbroken_from (Err (Image rule at)) None sizes (Recorded events) address node none answers is = let there =
     (answers events refl).1 in let is' = rw there at is in cc
 
 -- where a node is told, no rule is broken
-pub told-unbroken : {A : Type 0} (result : Result A BlockFault) (draft : Draft) (history : Option (List Event))
+pub told-unbroken : {A : Type 0} (result : Result A BlockFault) (draft : Draft) (history : History)
     (address : ℕ) (node : Node)
     → fresh_at draft address ≡ None
-    → ((events : List Event) → history ≡ Some events
+    → ((events : List Event) → history ≡ Recorded events
     → Answers result address (standing draft.sizes (content events) address))
     → told draft history address ≡ Some node → BreaksNone result
 unfolding told
@@ -233,14 +234,14 @@ is_at_other a q Greater h other = refl
 pub is_at-other : (a q : ℕ) → (q ≡ a → ⊥) → is_at (nat_cmp a) q ≡ false
 is_at-other a q = is_at_other a q (nat_cmp a q) refl
 
-told-fresh : (old new : Draft) (history : Option (List Event)) (at : ℕ) → new.sizes ≡ old.sizes
+told-fresh : (old new : Draft) (history : History) (at : ℕ) → new.sizes ≡ old.sizes
     → fresh_at new at ≡ fresh_at old at → told new history at ≡ told old history at
 unfolding told
 told-fresh old new history at same is = ap (λ (s : Sizes). told_or (fresh_at new at) s history at) same
     ∙ ap (λ (o : Option Node). told_or o old.sizes history at) is
 
 -- one that comes is told at its address, and nothing else changes
-pub told-put : (old new : Draft) (address : ℕ) (node : Node) (history : Option (List Event)) (at : ℕ)
+pub told-put : (old new : Draft) (address : ℕ) (node : Node) (history : History) (at : ℕ)
     → new.sizes ≡ old.sizes → ((q : ℕ) → fresh_at new q ≡ cond (is_at (nat_cmp address) q) (Some node) (fresh_at old q))
     → told new history at ≡ if at == address then Some node else told old history at
 unfolding told
@@ -256,7 +257,7 @@ told-put old new address node history at same is = elim (eqb_tells at address) [
 ]
 
 -- where one goes nothing changes at other addresses
-pub told-remove : (old new : Draft) (address : ℕ) (history : Option (List Event)) (at : ℕ) → new.sizes ≡ old.sizes
+pub told-remove : (old new : Draft) (address : ℕ) (history : History) (at : ℕ) → new.sizes ≡ old.sizes
     → ((q : ℕ) → fresh_at new q ≡ cond (is_at (nat_cmp address) q) None (fresh_at old q))
     → at ≢ address → told new history at ≡ told old history at
 told-remove old new address history at same is other =
@@ -270,18 +271,18 @@ same_by a k Less h is = cc
 same_by a k Equal h is = nat_cmp-IsAntisymmetric a k h
 same_by a k Greater h is = cc
 
-written_from : (fresh : Option Node) (sizes : Sizes) (history : Option (List Event)) (events : List Event) (address : ℕ)
-    → history ≡ Some events
+written_from : (fresh : Option Node) (sizes : Sizes) (history : History) (events : List Event) (address : ℕ)
+    → history ≡ Recorded events
     → ((node : Node) → fresh ≡ Some node → StandsThere sizes history address node)
     → told_or None sizes history address ≡ told_or fresh sizes history address
 written_from None sizes history events address told stands = refl
-written_from (Some node) sizes None events address told stands = cc
-written_from (Some node) sizes (Some other) events address told stands = ap result_ok (stands node refl other refl)
+written_from (Some node) sizes (Unrecorded changes) events address told stands = cc
+written_from (Some node) sizes (Recorded other) events address told stands = ap result_ok (stands node refl other refl)
 
 -- where they stand on a disk that tells, the same is told without them
-pub told-written : (old new : Draft) (history : Option (List Event)) (events : List Event) (address : ℕ)
+pub told-written : (old new : Draft) (history : History) (events : List Event) (address : ℕ)
     → new.fresh ≡ [] → new.sizes ≡ old.sizes
-    → history ≡ Some events → AreWritten old history → told new history address ≡ told old history address
+    → history ≡ Recorded events → AreWritten old history → told new history address ≡ told old history address
 unfolding told
 told-written old new history events address empty same is written =
     ap (λ (es : List (ℕ × Node)). told_or (lookup (is_at (nat_cmp address)) es) new.sizes history address) empty
@@ -298,7 +299,7 @@ fresh-set draft address node q some =
     (λ x y is. let same : address ≡ x = same_by address x (nat_cmp address x) refl is in
     ap (λ (a : ℕ). is_at (nat_cmp a) y) same) q node draft.fresh some
 
-pub told-set : (draft : Draft) (address : ℕ) (node : Node) (history : Option (List Event)) (at : ℕ)
+pub told-set : (draft : Draft) (address : ℕ) (node : Node) (history : History) (at : ℕ)
     → IsSome (fresh_at draft address)
     → told (with_node draft address node) history at ≡ if at == address then Some node else told draft history at
 told-set draft address node history at some =

@@ -3,7 +3,7 @@ use Rattle.std.proofs.Common.{◌≡◌, ℕ, ◌+◌, ◌-◌, ◌≤◌, true,
 use Rattle.std.proofs.lemmas.Bool.{and_from, le-leb}
 use Rattle.std.specs.Result.{result_ok}
 use Rattle.std.specs.Prelude.{Option, Some, None, Result, Ok, Err, nat_le, slice_range}
-use Rattle.qg_device.specs.History.{Event, content, range}
+use Rattle.qg_device.specs.History.{Event, Recorded, content, range}
 use Rattle.qg_num.specs.declared.rule.Rule.{Rule}
 use Rattle.qg_num.specs.declared.rule.Rule.TheVariants.{Slot}
 use Rattle.qg_node.specs.declared.node.Node.{Node}
@@ -98,14 +98,14 @@ node_walked address (Ok node) = refl
 node_walked address (Err rule) = refl
 
 told_there : (fresh : Option Node) (sizes : Sizes) (events : List Event) (address : ℕ) → fresh ≡ None
-    → told_or fresh sizes (Some events) address ≡ result_ok (standing sizes (content events) address)
+    → told_or fresh sizes (Recorded events) address ≡ result_ok (standing sizes (content events) address)
 told_there None sizes events address none = refl
 told_there (Some node) sizes events address none = cc
 
 -- so where no node is fresh at an address, the same node is told there as the walk finds, or none
 pub told-walked : (super : Super) (draft : Draft) (events : List Event) (address : ℕ)
     → IsImageOf super draft.sizes (content events) → fresh_at draft address ≡ None
-    → told draft (Some events) address ≡ nodes_of (node_found super (content events)) address
+    → told draft (Recorded events) address ≡ nodes_of (node_found super (content events)) address
 unfolding told
 told-walked super draft events address is none =
     told_there (fresh_at draft address) draft.sizes events address none

@@ -5,7 +5,8 @@ use Rattle.std.proofs.lemmas.Bool.{cases_lt}
 use Rattle.std.proofs.lemmas.Bool.Decides.{nat_tests}
 use Rattle.std.specs.Result.{result_ok}
 use Rattle.std.specs.Prelude.{⊤, Option, Some, None, Ok}
-use Rattle.qg_device.specs.History.{Event, Synced, Wrote, content, overlay, range, with_event}
+use Rattle.qg_device.specs.History.{Event, History, Recorded, Unrecorded, Wrote, Synced, content, overlay, range}
+use Rattle.qg_device.specs.History.{with_event}
 use Rattle.qg_disk.proofs.Sizes.{length-overlay}
 use Rattle.qg_node.specs.declared.node.Node.{Node}
 use Rattle.qg_node.specs.NodeText.{IsNodeSize}
@@ -93,19 +94,19 @@ standing-written sizes address bytes image node long has read =
 -- ---- calls of a disk
 
 -- how long the disk is, where it tells
-abbrev IsLong : ℕ → Option (List Event) → Type 0
-IsLong bytes history = (events : List Event) → history ≡ Some events → bytes ≡ length (content events)
+abbrev IsLong : ℕ → History → Type 0
+IsLong bytes history = (events : List Event) → history ≡ Recorded events → bytes ≡ length (content events)
 
-event_before : (event : Event) (before : Option (List Event)) (later : List Event)
-    → with_event event before ≡ Some later
-    → (events : List Event) × (before ≡ Some events) × (later ≡ event ∷ events)
-event_before event None later is = cc
-event_before event (Some events) later is = (events, refl, cc)
+event_before : (event : Event) (before : History) (later : List Event)
+    → with_event event before ≡ Recorded later
+    → (events : List Event) × (before ≡ Recorded events) × (later ≡ event ∷ events)
+event_before event (Unrecorded changes) later is = cc
+event_before event (Recorded events) later is = (events, refl, cc)
 
 -- a node's text that is written at the address of a slot inside the disk: the node stands there, and nothing changes in
 -- other slots
 pub HasWritten-wrote : (sizes : Sizes) (size address : ℕ) (bytes : List ℕ) (node : Node)
-    (before after : Option (List Event)) → is_served sizes ≡ true
+    (before after : History) → is_served sizes ≡ true
     → length bytes ≡ sizes.nodesize → after ≡ with_event (Wrote address bytes) before → IsLong size before
     → has_slot sizes size address ≡ true
     → node_read address bytes ≡ Ok node → HasWritten sizes before after address node
@@ -129,7 +130,7 @@ HasWritten-wrote sizes size address bytes node before after served long event si
 
 -- bytes that are written inside the disk, in front of the slots or behind them, as the superblocks, change nothing in
 -- slots
-pub Keeps-wrote : (sizes : Sizes) (size place : ℕ) (bytes : List ℕ) (before after : Option (List Event))
+pub Keeps-wrote : (sizes : Sizes) (size place : ℕ) (bytes : List ℕ) (before after : History)
     → is_served sizes ≡ true
     → after ≡ with_event (Wrote place bytes) before → IsLong size before → place + length bytes ≤ size
     → (place + length bytes ≤ slots_begin) ⊎ (second_place ≤ place)
@@ -148,20 +149,20 @@ Keeps-wrote sizes size place bytes before after served event sized inside apart 
     )
 
 -- nor does a sync
-pub Keeps-synced : (sizes : Sizes) (before after : Option (List Event)) → after ≡ with_event Synced before
+pub Keeps-synced : (sizes : Sizes) (before after : History) → after ≡ with_event Synced before
     → Keeps sizes before after (λ at. ⊤)
 Keeps-synced sizes before after event later told =
     let was = event_before Synced before later (sym event ∙ told) in
     (was.0, was.1, λ at any. ap (λ (events : List Event). standing sizes (content events) at) was.2)
 
-pub Keeps-then : (sizes : Sizes) (before mid after : Option (List Event)) (Q : ℕ → Type 0) → Keeps sizes before mid Q
+pub Keeps-then : (sizes : Sizes) (before mid after : History) (Q : ℕ → Type 0) → Keeps sizes before mid Q
     → Keeps sizes mid after Q → Keeps sizes before after Q
 Keeps-then sizes before mid after Q first second later told =
     let was = second later told in
     let was' = first was.0 was.1 in
     (was'.0, was'.1, λ at is. was.2 at is ∙ was'.2 at is)
 
-pub Keeps-fewer : (sizes : Sizes) (before after : Option (List Event)) (P Q : ℕ → Type 0) → ((at : ℕ) → Q at → P at)
+pub Keeps-fewer : (sizes : Sizes) (before after : History) (P Q : ℕ → Type 0) → ((at : ℕ) → Q at → P at)
     → Keeps sizes before after P → Keeps sizes before after Q
 Keeps-fewer sizes before after P Q fewer keeps later told = let was = keeps later told in
     (was.0, was.1, λ at is. was.2 at (fewer at is))
@@ -169,7 +170,7 @@ Keeps-fewer sizes before after P Q fewer keeps later told = let was = keeps late
 -- ---- where slots without a fresh node are as they were
 
 -- clean nodes are backed
-pub IsBacked-keeps : (held : Held) (before after : Option (List Event))
+pub IsBacked-keeps : (held : Held) (before after : History)
     → Keeps held.draft.sizes before after (λ at. fresh_at held.draft at ≡ None)
     → IsBacked held before → IsBacked held after
 IsBacked-keeps held before after keeps backed = record {
@@ -179,25 +180,25 @@ IsBacked-keeps held before after keeps backed = record {
   apart = backed.apart;
 }
 
-kept_from : (fresh : Option Node) (sizes : Sizes) (before : Option (List Event)) (later : List Event) (at : ℕ)
-    → (events : List Event) × (before ≡ Some events)
+kept_from : (fresh : Option Node) (sizes : Sizes) (before : History) (later : List Event) (at : ℕ)
+    → (events : List Event) × (before ≡ Recorded events)
     × (fresh ≡ None → standing sizes (content later) at ≡ standing sizes (content events) at)
-    → told_or fresh sizes (Some later) at ≡ told_or fresh sizes before at
+    → told_or fresh sizes (Recorded later) at ≡ told_or fresh sizes before at
 kept_from (Some node) sizes before later at was = refl
-kept_from None sizes None later at was = let e = was.1 in cc
-kept_from None sizes (Some events) later at was = let same : events ≡ was.0 = let e = was.1 in cc in
+kept_from None sizes (Unrecorded changes) later at was = let e = was.1 in cc
+kept_from None sizes (Recorded events) later at was = let same : events ≡ was.0 = let e = was.1 in cc in
     ap result_ok (was.2 refl) ∙ rw same refl
 
 -- and the same is told
-pub told-keeps : (draft : Draft) (before : Option (List Event)) (later : List Event) (at : ℕ)
-    → Keeps draft.sizes before (Some later) (λ at. fresh_at draft at ≡ None)
-    → told draft (Some later) at ≡ told draft before at
+pub told-keeps : (draft : Draft) (before : History) (later : List Event) (at : ℕ)
+    → Keeps draft.sizes before (Recorded later) (λ at. fresh_at draft at ≡ None)
+    → told draft (Recorded later) at ≡ told draft before at
 unfolding told
 told-keeps draft before later at keeps = let was = keeps later refl in
     kept_from (fresh_at draft at) draft.sizes before later at (was.0, was.1, was.2 at)
 
 -- where no slot changes, what was written stays so
-pub AreWritten-keeps : (draft : Draft) (before after : Option (List Event)) → Keeps draft.sizes before after (λ at. ⊤)
+pub AreWritten-keeps : (draft : Draft) (before after : History) → Keeps draft.sizes before after (λ at. ⊤)
     → AreWritten draft before → AreWritten draft after
 AreWritten-keeps draft before after keeps written = record {
   stands = λ address node fresh later told. let was = keeps later told in was.2 address tt

@@ -6,7 +6,7 @@ use Rattle.std.specs.Result.{result_ok}
 use Rattle.std.specs.Ordering.{nat_cmp}
 use Rattle.std.specs.BTreeMap.{is_at}
 use Rattle.std.specs.Map.{lookup}
-use Rattle.qg_device.specs.History.{Event, content}
+use Rattle.qg_device.specs.History.{Event, History, Recorded, Unrecorded, content}
 use Rattle.qg_num.specs.declared.rule.Rule.{Rule}
 use Rattle.qg_num.specs.declared.fault.BlockFault.{BlockFault}
 use Rattle.qg_num.specs.declared.fault.BlockFault.TheVariants.{NoMemory, Disk, Image}
@@ -48,20 +48,20 @@ abbrev pub found : Draft → List ℕ → ℕ → Result Node Rule
 found draft image address = fresh_or (fresh_at draft address) (standing draft.sizes image address)
 
 -- a fresh node, or else what stands on a disk that tells
-abbrev pub told_or : Option Node → Sizes → Option (List Event) → ℕ → Option Node
+abbrev pub told_or : Option Node → Sizes → History → ℕ → Option Node
 told_or (Some node) sizes history address = Some node
-told_or None sizes None address = None
-told_or None sizes (Some events) address = result_ok (standing sizes (content events) address)
+told_or None sizes (Unrecorded changes) address = None
+told_or None sizes (Recorded events) address = result_ok (standing sizes (content events) address)
 
 -- the map from address to node: what fresh nodes and a disk tell together. A disk that tells nothing adds none.
-unfoldable pub told : Draft → Option (List Event) → ℕ → Option Node
+unfoldable pub told : Draft → History → ℕ → Option Node
 told draft history address = told_or (fresh_at draft address) draft.sizes history address
 
 -- ---- clean nodes
 
 -- where the disk tells, this node stands at an address
-abbrev pub StandsThere : Sizes → Option (List Event) → ℕ → Node → Type 0
-StandsThere sizes history address node = (events : List Event) → history ≡ Some events
+abbrev pub StandsThere : Sizes → History → ℕ → Node → Type 0
+StandsThere sizes history address node = (events : List Event) → history ≡ Recorded events
     → standing sizes (content events) address ≡ Ok node
 
 -- a node that has a text of so many bytes, and names an address as its own
@@ -71,7 +71,7 @@ pub record IsNodeAt (nodesize address : ℕ) (node : Node) : Type 0 where
 
 -- each clean node stands at its address, where the disk tells. Over any disk it has a text and names its address, and
 -- no node is fresh there
-pub record IsBacked (held : Held) (history : Option (List Event)) : Type 0 where
+pub record IsBacked (held : Held) (history : History) : Type 0 where
   pub stands : (address : ℕ) (node : Node) → Contains held.clean (address, node)
       → StandsThere held.draft.sizes history address node
   pub kept : (address : ℕ) (node : Node) → Contains held.clean (address, node)
@@ -79,14 +79,14 @@ pub record IsBacked (held : Held) (history : Option (List Event)) : Type 0 where
   pub apart : (address : ℕ) (node : Node) → Contains held.clean (address, node) → fresh_at held.draft address ≡ None
 
 -- the map from address to node stays as it is, and so does the room for clean nodes, which are those of the disk
-pub record StaysBacked (before after : Held) (history : Option (List Event)) : Type 0 where
+pub record StaysBacked (before after : Held) (history : History) : Type 0 where
   pub draft : after.draft ≡ before.draft
   pub bound : after.bound ≡ before.bound
   pub backed : IsBacked after history
 
 -- a node is in memory at an address: the one that is told, where one is; and one that is not fresh has a text and names
 -- the address
-pub record IsAtHand (memory : Held) (draft : Draft) (history : Option (List Event)) (address : ℕ) : Type 0 where
+pub record IsAtHand (memory : Held) (draft : Draft) (history : History) (address : ℕ) : Type 0 where
   pub held : IsSome (held_at memory address)
   pub told : (node : Node) → told draft history address ≡ Some node → held_at memory address ≡ Some node
   pub kept : (node : Node) → fresh_at draft address ≡ None → held_at memory address ≡ Some node
@@ -113,3 +113,17 @@ BreaksNone (Ok x) = ⊤
 BreaksNone (Err (Image rule at)) = ⊥
 BreaksNone (Err Disk) = ⊤
 BreaksNone (Err NoMemory) = ⊤
+
+-- this holds where a rule was found broken
+abbrev pub IfBroken : {A : Type 0} → Result A BlockFault → Type 0 → Type 0
+IfBroken (Ok x) Holds = ⊤
+IfBroken (Err (Image rule at)) Holds = Holds
+IfBroken (Err Disk) Holds = ⊤
+IfBroken (Err NoMemory) Holds = ⊤
+
+-- where a rule was found broken, it is this one, at this address
+abbrev pub BreaksAt : {A : Type 0} → Result A BlockFault → Rule → ℕ → Type 0
+BreaksAt (Ok x) wanted address = ⊤
+BreaksAt (Err (Image rule at)) wanted address = (rule ≡ wanted) × (at ≡ address)
+BreaksAt (Err Disk) wanted address = ⊤
+BreaksAt (Err NoMemory) wanted address = ⊤

@@ -1,5 +1,5 @@
 // The nodes of an image, by address.
-ghost use Rattle.std.specs.Prelude.{◌≡◌, ◌+◌, ◌<◌, ◌≤◌, ◌≢◌, true, false, ℕ, [], length, List, Option, Some, None};
+ghost use Rattle.std.specs.Prelude.{◌≡◌, ◌+◌, ◌<◌, ◌≤◌, ◌≢◌, true, false, ℕ, [], length, List, Some, None};
 ghost use Rattle.std.specs.Prelude.{IfOk, IsOk, OnOk, OnErr, IsSome, IsTrue, is_some, nat_eq, if◌then◌else◌, ◌==◌};
 ghost use Rattle.std.specs.Borrow.{sem};
 ghost use Rattle.std.specs.Option.{option_copied_mut};
@@ -8,7 +8,7 @@ ghost use Rattle.std.specs.BTreeMap.{insert_entry, is_at};
 ghost use Rattle.std.specs.List.Sorted.{IsStrictlySortedBy};
 ghost use Rattle.std.specs.Map.{keys_of, lookup, remove_entry};
 ghost use Rattle.qg_device.specs.Cause.{HasCause};
-ghost use Rattle.qg_device.specs.History.{Event, content};
+ghost use Rattle.qg_device.specs.History.{Event, History, Recorded, content};
 ghost use Rattle.qg_node.specs.Nodes.{header_of};
 ghost use Rattle.qg_node.specs.declared.node.Node.{Node as NodeValue};
 ghost use Rattle.qg_super.specs.Places.{is_served};
@@ -100,7 +100,7 @@ impl Blocks {
         ensures draft { IfOk result (λ blocks. blocks.draft ≡ nothing_fresh (slots_of nodesize slots)) }
         ensures clean { IfOk result (λ blocks. blocks.clean ≡ []) }
         ensures bound { IfOk result (λ blocks. blocks.bound ≡ most_clean) }
-        ensures backed { IfOk result (λ blocks. (history : Option (List Event)) → IsBacked blocks history) }
+        ensures backed { IfOk result (λ blocks. (history : History) → IsBacked blocks history) }
     {
         Blocks::with_bound(alloc, nodesize, slots, MOST_CLEAN)
     }
@@ -118,7 +118,7 @@ impl Blocks {
         ensures draft { IfOk result (λ blocks. blocks.draft ≡ nothing_fresh (slots_of nodesize slots)) }
         ensures clean { IfOk result (λ blocks. blocks.clean ≡ []) }
         ensures bound { IfOk result (λ blocks. blocks.bound ≡ bound) }
-        ensures backed { IfOk result (λ blocks. (history : Option (List Event)) → IsBacked blocks history) }
+        ensures backed { IfOk result (λ blocks. (history : History) → IsBacked blocks history) }
     {
         let Some(most) = NonZeroUsize::new(bound) else {
             unreachable!()
@@ -192,7 +192,7 @@ impl Blocks {
         ensures err { OnErr result (self.new ≡ self.old) }
 
         // Answers have their causes, and the disk is as it was.
-        ensures answers { (events : List Event) → D.history disk.old ≡ Some events
+        ensures answers { (events : List Event) → D.history disk.old ≡ Recorded events
             → Answers result address (found self.old.draft (content events) address) }
         ensures sound { (node : NodeValue) → told self.old.draft (D.history disk.old) address ≡ Some node
             → BreaksNone result }
@@ -217,7 +217,7 @@ impl Blocks {
         ensures stays { StaysBacked self.old self.new (D.history disk.new) }
         ensures held { OnOk result (IsSome (held_at self.new address)) }
         ensures err { OnErr result (self.new ≡ self.old) }
-        ensures answers { (events : List Event) → D.history disk.old ≡ Some events
+        ensures answers { (events : List Event) → D.history disk.old ≡ Recorded events
             → Answers result address (standing self.old.draft.sizes (content events) address) }
         ensures cause { HasCause BlockFault.Disk (D.faults disk.old) (D.faults disk.new) result }
         ensures disk { (D.history disk.new ≡ D.history disk.old) × (D.size disk.new ≡ D.size disk.old) }
@@ -229,7 +229,7 @@ impl Blocks {
 
     // The node that stands at an address of the disk.
     fn read<D: Disk>(&mut self, disk: &mut D, address: Address) -> Result<Node, BlockFault>
-        ensures found { (events : List Event) → D.history disk.old ≡ Some events
+        ensures found { (events : List Event) → D.history disk.old ≡ Recorded events
             → Finds result address (standing self.old.draft.sizes (content events) address) }
         ensures kept { IfOk result (λ node. IsNodeAt self.old.draft.sizes.nodesize address node) }
         ensures same { self.new ≡ self.old }
@@ -265,7 +265,7 @@ impl Blocks {
         ensures err { OnErr result (self.new ≡ self.old) }
         ensures draft { self.new.draft ≡ self.old.draft }
         ensures bound { self.new.bound ≡ self.old.bound }
-        ensures backed { (history : Option (List Event)) → fresh_at self.old.draft address ≡ None
+        ensures backed { (history : History) → fresh_at self.old.draft address ≡ None
             → IsNodeAt self.old.draft.sizes.nodesize address node
             → StandsThere self.old.draft.sizes history address node
             → IsBacked self.old history → IsBacked self.new history }
@@ -307,10 +307,10 @@ impl Blocks {
         ensures draft { OnOk result (self.new.draft ≡ record self.old.draft {
           fresh = insert_entry nat_cmp self.old.draft.fresh (header_of node).address node;
         }) }
-        ensures told { OnOk result ((history : Option (List Event)) (at : ℕ) → told self.new.draft history at
+        ensures told { OnOk result ((history : History) (at : ℕ) → told self.new.draft history at
             ≡ (if at == (header_of node).address then Some node else told self.old.draft history at)) }
         ensures err { OnErr result (self.new ≡ self.old) }
-        ensures backed { (history : Option (List Event)) → IsBacked self.old history → IsBacked self.new history }
+        ensures backed { (history : History) → IsBacked self.old history → IsBacked self.new history }
         ensures bound { self.new.bound ≡ self.old.bound }
     {
         let _count = self.shelf.clean.len();
@@ -325,10 +325,10 @@ impl Blocks {
         ensures draft { self.new.draft
             ≡ record self.old.draft { fresh = remove_entry (is_at (nat_cmp address)) self.old.draft.fresh } }
         ensures gone { held_at self.new address ≡ None }
-        ensures told { (history : Option (List Event)) (at : ℕ) → at ≢ address
+        ensures told { (history : History) (at : ℕ) → at ≢ address
             → told self.new.draft history at ≡ told self.old.draft history at }
         ensures others { (at : ℕ) → clean_at self.old at ≡ None → clean_at self.new at ≡ None }
-        ensures backed { (history : Option (List Event)) → IsBacked self.old history → IsBacked self.new history }
+        ensures backed { (history : History) → IsBacked self.old history → IsBacked self.new history }
         ensures bound { self.new.bound ≡ self.old.bound }
     {
         let _count = self.shelf.clean.len();
@@ -342,7 +342,7 @@ impl Blocks {
         requires backed { IsBacked self.old (D.history disk.now) }
         requires written { AreWritten self.old.draft (D.history disk.now) }
         ensures draft { self.new.draft ≡ nothing_fresh self.old.draft.sizes }
-        ensures told { (events : List Event) (address : ℕ) → D.history disk.now ≡ Some events
+        ensures told { (events : List Event) (address : ℕ) → D.history disk.now ≡ Recorded events
             → told self.new.draft (D.history disk.now) address ≡ told self.old.draft (D.history disk.now) address }
         ensures backed { IsBacked self.new (D.history disk.now) }
         ensures bound { self.new.bound ≡ self.old.bound }
@@ -356,9 +356,9 @@ impl Blocks {
         ensures last { result ≡ false → self.new.draft.fresh ≡ [] }
         ensures sizes { self.new.draft.sizes ≡ self.old.draft.sizes }
         ensures bound { self.new.bound ≡ self.old.bound }
-        ensures backed { (history : Option (List Event)) → IsBacked self.old history → AreWritten self.old.draft history
+        ensures backed { (history : History) → IsBacked self.old history → AreWritten self.old.draft history
             → IsBacked self.new history }
-        ensures written { (history : Option (List Event)) → AreWritten self.old.draft history
+        ensures written { (history : History) → AreWritten self.old.draft history
             → AreWritten self.new.draft history }
     {
         match self.shelf.fresh.pop_first() {

@@ -1,7 +1,7 @@
 // Reading the node that stands at an address of a disk.
-ghost use Rattle.std.specs.Prelude.{◌≡◌, List, length, Some, IfOk, IsTrue};
+ghost use Rattle.std.specs.Prelude.{◌≡◌, List, length, IfOk, IsTrue};
 ghost use Rattle.qg_device.specs.Cause.{HasCause};
-ghost use Rattle.qg_device.specs.History.{Event, content};
+ghost use Rattle.qg_device.specs.History.{Event, Recorded, content};
 ghost use Rattle.qg_num.specs.declared.fault.BlockFault.TheVariants.{Disk as DiskFailed};
 ghost use Rattle.qg_node.specs.NodeText.{IsNodeSize};
 ghost use Rattle.qg_super.specs.Places.{is_served};
@@ -25,7 +25,7 @@ pub(crate) fn read_at<D: Disk>(
 ) -> Result<Node, BlockFault>
     requires served { IsTrue (is_served sizes.now) }
     requires buffer { length buffer.old ≡ sizes.now.nodesize }
-    ensures found { (events : List Event) → D.history disk.old ≡ Some events
+    ensures found { (events : List Event) → D.history disk.old ≡ Recorded events
         → Finds result address (standing sizes.now (content events) address) }
     ensures kept { IfOk result (λ node. IsNodeAt sizes.now.nodesize address node) }
     ensures history { D.history disk.new ≡ D.history disk.old }

@@ -1,6 +1,8 @@
 // The disk that the program is called over.
-ghost use Rattle.std.specs.Prelude.{◌≡◌, ◌+◌, ◌<◌, ◌≤◌, ◌^◌, IsErrOf, None, OnOk, length, max};
+ghost use Rattle.std.specs.Prelude.{◌≡◌, ◌+◌, ◌<◌, ◌≤◌, ◌^◌, IsErrOf, OnOk, length, max};
 ghost use Rattle.qg_device.specs.Cause.{HasCause};
+ghost use Rattle.qg_device.specs.History.{Unrecorded, with_changes};
+ghost use Rattle.qg_disk.specs.Call.{history_of};
 ghost use Rattle.qg_disk.specs.Disk.{Cuts, Syncs, Writes};
 ghost use Rattle.qg_disk.specs.MemDisk.{memory_faults, memory_size};
 
@@ -63,13 +65,14 @@ fn put_over(bytes: &[u8], place: u64, at: u64, buf: &mut [u8]) {
 impl Disk for CaseDisk {
     ghost use Rattle.qg_disk.specs.FileDisk.{sized_untold};
 
-    ghost history = { λ _. None };
+    ghost history = { λ disk. Unrecorded (with_changes (history_of disk.calls) 0) };
 
     ghost size = { memory_size };
 
     ghost faults = { memory_faults };
 
-    ghost sized = { λ disk events told. sized_untold (memory_size disk) events told };
+    ghost sized = { λ disk events told. sized_untold (memory_size disk) (with_changes (history_of disk.calls) 0) events
+        told };
 
     fn len(&self) -> u64 {
         self.disk.len()

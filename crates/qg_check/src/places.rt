@@ -1,7 +1,7 @@
 // The two superblocks of a disk, and the first rules of an image.
-ghost use Rattle.std.specs.Prelude.{◌≡◌, ◌+◌, ◌<◌, ◌^◌, ◌⊎◌, List, length, Some, IfOk, IfSome, IsTrue};
+ghost use Rattle.std.specs.Prelude.{◌≡◌, ◌+◌, ◌<◌, ◌^◌, ◌⊎◌, List, length, IfOk, IfSome, IsTrue};
 ghost use Rattle.qg_device.specs.Cause.{HasCause};
-ghost use Rattle.qg_device.specs.History.{Event, content};
+ghost use Rattle.qg_device.specs.History.{Event, Recorded, content};
 ghost use Rattle.qg_super.specs.Places.{first_place, is_served, second_place};
 ghost use Rattle.qg_super.specs.SuperText.{choose, sizes_of};
 ghost use Rattle.qg_image.specs.ImageState.{super_in};
@@ -62,9 +62,9 @@ impl Places {
 
 /// Reads both places.
 pub(crate) fn read_places<D: Disk>(disk: &mut D) -> Result<Places, DiskFault>
-    ensures first { (events : List Event) → D.history disk.old ≡ Some events
+    ensures first { (events : List Event) → D.history disk.old ≡ Recorded events
         → IfOk result (λ places. places.first ≡ super_in (content events) first_place) }
-    ensures second { (events : List Event) → D.history disk.old ≡ Some events
+    ensures second { (events : List Event) → D.history disk.old ≡ Recorded events
         → IfOk result (λ places. places.second ≡ super_in (content events) second_place) }
     ensures first_fits { IfOk result (λ places. IfSome places.first FieldsFit) }
     ensures second_fits { IfOk result (λ places. IfSome places.second FieldsFit) }
@@ -80,7 +80,7 @@ pub(crate) fn read_places<D: Disk>(disk: &mut D) -> Result<Places, DiskFault>
 // Reads one place, if the disk is so long.
 fn read_place<D: Disk>(disk: &mut D, place: u64) -> Result<Option<Super>, DiskFault>
     requires { (place ≡ FIRST_PLACE) ⊎ (place ≡ SECOND_PLACE) }
-    ensures found { (events : List Event) → D.history disk.old ≡ Some events
+    ensures found { (events : List Event) → D.history disk.old ≡ Recorded events
         → IfOk result (λ found. found ≡ super_in (content events) place) }
     ensures fit { IfOk result (λ found. IfSome found FieldsFit) }
     ensures history { D.history disk.new ≡ D.history disk.old }

@@ -1,8 +1,8 @@
 // An image is read from its superblocks down.
-ghost use Rattle.std.specs.Prelude.{◌≡◌, ◌⊎◌, ◌≤◌, List, Some, IfOk, IfErr, IfSome, OnOk, IsErrOf, IsTrue};
+ghost use Rattle.std.specs.Prelude.{◌≡◌, ◌⊎◌, ◌≤◌, List, IfOk, IfErr, IfSome, OnOk, IsErrOf, IsTrue};
 ghost use Rattle.std.specs.List.{list_all};
 ghost use Rattle.qg_device.specs.Cause.{HasCause};
-ghost use Rattle.qg_device.specs.History.{Event, content};
+ghost use Rattle.qg_device.specs.History.{Event, Recorded, content};
 ghost use Rattle.qg_super.specs.Places.{is_served, is_slot, total_bytes};
 ghost use Rattle.qg_super.specs.SuperText.{is_super, sizes_of};
 ghost use Rattle.qg_image.specs.Verdict.{verdict, places_failure, together_failure};
@@ -39,9 +39,9 @@ pub struct Whole {
 /// Reads an image: what it stands for where it is sound, else the first rule that it breaks, or the first stored
 /// counter that is not the direct count (this project's own). It writes nothing.
 pub fn read_image<D: Disk>(alloc: Global, disk: &mut D) -> Result<Image, OpenFault>
-    ensures failure { (events : List Event) → D.history disk.old ≡ Some events
+    ensures failure { (events : List Event) → D.history disk.old ≡ Recorded events
         → FailsAs result (verdict (content events)) }
-    ensures image { (events : List Event) → D.history disk.old ≡ Some events
+    ensures image { (events : List Event) → D.history disk.old ≡ Recorded events
         → IfOk result (λ image. IsImage (content events) image) }
     ensures served { IfOk result (λ image. IsTrue (is_super image.superblock)) }
     ensures editable { IfOk result (λ image. IsEditable image) }
@@ -65,9 +65,9 @@ pub fn read_image<D: Disk>(alloc: Global, disk: &mut D) -> Result<Image, OpenFau
 
 /// Reads an image whole, and judges its superblocks and its trees, each by itself. It writes nothing.
 pub(crate) fn read_whole<D: Disk>(alloc: Global, disk: &mut D) -> Result<Whole, OpenFault>
-    ensures failure { (events : List Event) → D.history disk.old ≡ Some events
+    ensures failure { (events : List Event) → D.history disk.old ≡ Recorded events
         → IfErr result (λ fault. TellsFailure fault (verdict (content events))) }
-    ensures whole { (events : List Event) → D.history disk.old ≡ Some events
+    ensures whole { (events : List Event) → D.history disk.old ≡ Recorded events
         → IfOk result (λ whole. IsWhole (content events) whole) }
     ensures fit { IfOk result (λ whole. IsFit whole.superblock whole.read) }
     ensures place { IfOk result
@@ -127,10 +127,10 @@ fn read_parts<D: Disk>(
     requires served { IsTrue (is_served (sizes_of superblock.now)) }
     requires inside { total_bytes (sizes_of superblock.now) ≤ D.size disk.old }
     requires subvolumes { AreSubvolumes superblock.now.generation trees.subvolumes }
-    ensures failure { (events : List Event) → D.history disk.old ≡ Some events
+    ensures failure { (events : List Event) → D.history disk.old ≡ Recorded events
         → AreTrees superblock.now (content events) trees
         → IfErr result (λ fault. TellsFailure fault (trees_failure superblock.now (content events) trees)) }
-    ensures read { (events : List Event) → D.history disk.old ≡ Some events
+    ensures read { (events : List Event) → D.history disk.old ≡ Recorded events
         → AreTrees superblock.now (content events) trees
         → IfOk result (λ read. AreRead superblock.now (content events) read
         × (trees_failure superblock.now (content events) trees ≡ together_failure superblock.now (content events))) }

@@ -1,7 +1,7 @@
 // What is told of an image that is judged whole.
-ghost use Rattle.std.specs.Prelude.{◌≡◌, List, Some, IfOk, IsErrOf};
+ghost use Rattle.std.specs.Prelude.{◌≡◌, List, IfOk, IsErrOf};
 ghost use Rattle.qg_device.specs.Cause.{HasCause};
-ghost use Rattle.qg_device.specs.History.{Event, content};
+ghost use Rattle.qg_device.specs.History.{Event, Recorded, content};
 ghost use Rattle.qg_walk.specs.declared.fault.OpenFault.TheVariants as opening;
 ghost use Rattle.qg_image.specs.Verdict.{verdict};
 ghost use Rattle.qg_walk.specs.Fault.{FailsAs};
@@ -48,7 +48,7 @@ pub enum CheckFault {
 /// Judges an image whole, from its superblocks down, by the rules that an image is opened by: its first failure, or the
 /// generation of its superblock where it is sound (this project's own). It writes nothing.
 pub fn count_image<D: Disk>(alloc: Global, disk: &mut D) -> Result<Report, CheckFault>
-    ensures report { (events : List Event) → D.history disk.old ≡ Some events
+    ensures report { (events : List Event) → D.history disk.old ≡ Recorded events
         → IfOk result (λ report. IsReportOn (content events) report) }
     ensures history { D.history disk.new ≡ D.history disk.old }
     ensures size { D.size disk.new ≡ D.size disk.old }
@@ -62,9 +62,9 @@ pub fn count_image<D: Disk>(alloc: Global, disk: &mut D) -> Result<Report, Check
 
 // The generation of an image that is sound; else why it is not, or was not judged.
 fn count<D: Disk>(alloc: Global, disk: &mut D) -> Result<Generation, OpenFault>
-    ensures failure { (events : List Event) → D.history disk.old ≡ Some events
+    ensures failure { (events : List Event) → D.history disk.old ≡ Recorded events
         → FailsAs result (verdict (content events)) }
-    ensures at { (events : List Event) → D.history disk.old ≡ Some events
+    ensures at { (events : List Event) → D.history disk.old ≡ Recorded events
         → IfOk result (λ generation. IsSoundAt (content events) generation) }
     ensures history { D.history disk.new ≡ D.history disk.old }
     ensures size { D.size disk.new ≡ D.size disk.old }

@@ -1,9 +1,9 @@
 // The trees of an image, one by one.
-ghost use Rattle.std.specs.Prelude.{◌≡◌, ◌≤◌, List, [], None, Some, false, IfOk, IfSome, IfNone, IsTrue};
+ghost use Rattle.std.specs.Prelude.{◌≡◌, ◌≤◌, List, [], Some, false, IfOk, IfSome, IfNone, IsTrue};
 ghost use Rattle.std.specs.List.{list_all};
 ghost use Rattle.std.specs.Option.{option_map};
 ghost use Rattle.qg_device.specs.Cause.{HasCause};
-ghost use Rattle.qg_device.specs.History.{Event, content};
+ghost use Rattle.qg_device.specs.History.{Event, Recorded, content};
 ghost use Rattle.qg_super.specs.Places.{is_served, is_slot, total_bytes};
 ghost use Rattle.qg_super.specs.SuperText.{sizes_of};
 ghost use Rattle.qg_image.specs.Table.{keys_of};
@@ -85,9 +85,9 @@ pub(crate) fn read_roots<D: Disk>(
 ) -> Result<Trees, OpenFault>
     requires served { IsTrue (is_served (sizes_of superblock.now)) }
     requires inside { total_bytes (sizes_of superblock.now) ≤ D.size disk.old }
-    ensures failure { (events : List Event) → D.history disk.old ≡ Some events
+    ensures failure { (events : List Event) → D.history disk.old ≡ Recorded events
         → FailsAs result (roots_failure superblock.now (content events)) }
-    ensures trees { (events : List Event) → D.history disk.old ≡ Some events
+    ensures trees { (events : List Event) → D.history disk.old ≡ Recorded events
         → IfOk result (λ trees. AreTrees superblock.now (content events) trees) }
     ensures subvolumes { IfOk result (λ trees. AreSubvolumes superblock.now.generation trees.subvolumes) }
     ensures slots { IfOk result (λ trees. IsTrue (list_all (is_slot (sizes_of superblock.now)) trees.nodes)) }
@@ -173,9 +173,9 @@ pub(crate) fn read_extents<D: Disk>(
 ) -> Result<ExtentTree, OpenFault>
     requires served { IsTrue (is_served (sizes_of superblock.now)) }
     requires inside { total_bytes (sizes_of superblock.now) ≤ D.size disk.old }
-    ensures failure { (events : List Event) → D.history disk.old ≡ Some events
+    ensures failure { (events : List Event) → D.history disk.old ≡ Recorded events
         → FailsAs result (extents_failure superblock.now (content events) root.now) }
-    ensures tree { (events : List Event) → D.history disk.old ≡ Some events
+    ensures tree { (events : List Event) → D.history disk.old ≡ Recorded events
         → IfOk result (λ tree. IsExtentTree superblock.now (content events) root.now tree) }
     ensures parts { IfOk result (λ tree. AreFitParts superblock.now.generation tree.parts) }
     ensures slots { IfOk result (λ tree. IsTrue (list_all (is_slot (sizes_of superblock.now)) tree.nodes)) }
@@ -208,11 +208,11 @@ pub(crate) fn read_quotas<D: Disk>(
 ) -> Result<Option<QuotaTree>, OpenFault>
     requires served { IsTrue (is_served (sizes_of superblock.now)) }
     requires inside { total_bytes (sizes_of superblock.now) ≤ D.size disk.old }
-    ensures failure { (events : List Event) (extents : RootItem) → D.history disk.old ≡ Some events
+    ensures failure { (events : List Event) (extents : RootItem) → D.history disk.old ≡ Recorded events
         → AreNamed (roots_in superblock.now (content events)) extents root.now subvolumes.now
         → FailsAs result (quota_failure superblock.now (content events) (roots_in superblock.now (content events))
         root.now) }
-    ensures tree { (events : List Event) → D.history disk.old ≡ Some events
+    ensures tree { (events : List Event) → D.history disk.old ≡ Recorded events
         → IfOk result (λ found. IsQuotaTreeOf superblock.now (content events) root.now found) }
     ensures groups { IfOk result (λ found. AreGroupsOf superblock.now.generation (keys_of subvolumes.now)
         (quota_of (option_map (λ tree. tree.quota) found))) }
@@ -243,11 +243,11 @@ fn read_quota_tree<D: Disk>(
 ) -> Result<QuotaTree, OpenFault>
     requires served { IsTrue (is_served (sizes_of superblock.now)) }
     requires inside { total_bytes (sizes_of superblock.now) ≤ D.size disk.old }
-    ensures failure { (events : List Event) (extents : RootItem) → D.history disk.old ≡ Some events
+    ensures failure { (events : List Event) (extents : RootItem) → D.history disk.old ≡ Recorded events
         → AreNamed (roots_in superblock.now (content events)) extents (Some root.now) subvolumes.now
         → FailsAs result (quota_failure superblock.now (content events) (roots_in superblock.now (content events))
         (Some root.now)) }
-    ensures tree { (events : List Event) → D.history disk.old ≡ Some events
+    ensures tree { (events : List Event) → D.history disk.old ≡ Recorded events
         → IfOk result (λ tree. IsQuotaTree superblock.now (content events) root.now tree) }
     ensures groups { IfOk result (λ tree.
         AreGroups superblock.now.generation (keys_of subvolumes.now) tree.quota.quota) }

@@ -1,32 +1,52 @@
 -- The calls that a commit makes, one after the other.
-use Rattle.std.proofs.Common.{◌≡◌, ℕ, List, [], ◌∷◌, ◌++◌, Option, Some, None, refl, sym, ap, ◌∙◌}
+use Rattle.std.proofs.Common.{◌≡◌, ℕ, List, [], ◌∷◌, ◌++◌, refl, sym, ap, ◌∙◌}
 use Rattle.std.specs.List.{AllByRecursion}
-use Rattle.std.specs.Option.{option_map}
-use Rattle.qg_device.specs.History.{Event, Wrote, with_event}
+use Rattle.qg_device.specs.History.{Event, History, Wrote, history_after, with_event}
+use Rattle.qg_device.proofs.Histories.{Adds, adds-both, after-both, after-event, after-same}
 use Rattle.qg_node.specs.declared.node.Node.{Node}
 use Rattle.qg_node.specs.Nodes.{header_of}
 use Rattle.qg_node.specs.NodeText.{node_text}
 use Rattle.qg_super.specs.declared.superblock.Super.{Super}
+use Rattle.qg_commit.specs.Calls.{Call, WriteAt, Sync, commit_calls, node_calls, superblock_calls, with_call}
+use Rattle.qg_commit.specs.Calls.{with_calls}
 use Rattle.qg_commit.specs.Calls.{with_commit, with_nodes, with_superblocks}
+use Rattle.qg_commit.proofs.Fronts.{ComesTo, comes-all, comes-behind}
+
+-- calls that were answered Ok add events alone
+call-adds : (call : Call) → Adds (with_call call)
+call-adds (WriteAt at bytes) events = refl
+call-adds Sync events = refl
+
+pub calls-add : (calls : List Call) → Adds (with_calls calls)
+calls-add [] events = refl
+calls-add (call ∷ calls) events =
+    adds-both (with_call call) (with_calls calls) (call-adds call) (calls-add calls) events
+
+-- those of a commit
+pub commit-adds : (super : Super) (nodes : List Node) → Adds (with_commit super nodes)
+commit-adds super nodes = adds-both (with_nodes super.nodesize nodes) (with_superblocks super)
+    (calls-add (node_calls super.nodesize nodes)) (calls-add (superblock_calls super))
 
 -- one of the nodes is written
-event_before : (nodesize : ℕ) (node : Node) (nodes : List Node) (old : Option (List Event))
-    → option_map (with_nodes nodesize nodes) (with_event (Wrote (header_of node).address (node_text nodesize node)) old)
-    ≡ option_map (with_nodes nodesize (node ∷ nodes)) old
-event_before nodesize node nodes None = refl
-event_before nodesize node nodes (Some events) = refl
+event_before : (nodesize : ℕ) (node : Node) (nodes : List Node) (old : History)
+    → history_after (with_nodes nodesize nodes)
+    (with_event (Wrote (header_of node).address (node_text nodesize node)) old)
+    ≡ history_after (with_nodes nodesize (node ∷ nodes)) old
+event_before nodesize node nodes old =
+    after-event (Wrote (header_of node).address (node_text nodesize node)) (with_nodes nodesize nodes)
+    (calls-add (node_calls nodesize nodes)) old
 
 pub next_call : (nodesize : ℕ) (node : Node) (now later : List Node) (at : ℕ) (bytes : List ℕ)
-    (start old new : Option (List Event)) → now ≡ node ∷ later → at ≡ (header_of node).address
+    (start old new : History) → now ≡ node ∷ later → at ≡ (header_of node).address
     → bytes ≡ node_text nodesize node
-    → new ≡ with_event (Wrote at bytes) old → option_map (with_nodes nodesize now) old ≡ start
-    → option_map (with_nodes nodesize later) new ≡ start
+    → new ≡ with_event (Wrote at bytes) old → history_after (with_nodes nodesize now) old ≡ start
+    → history_after (with_nodes nodesize later) new ≡ start
 next_call nodesize node now later at bytes start old new cut there text is before =
-    ap (option_map (with_nodes nodesize later)) is
-    ∙ ap (λ (n : ℕ). option_map (with_nodes nodesize later) (with_event (Wrote n bytes) old)) there
-    ∙ ap (λ (list : List ℕ). option_map (with_nodes nodesize later)
+    ap (history_after (with_nodes nodesize later)) is
+    ∙ ap (λ (n : ℕ). history_after (with_nodes nodesize later) (with_event (Wrote n bytes) old)) there
+    ∙ ap (λ (list : List ℕ). history_after (with_nodes nodesize later)
     (with_event (Wrote (header_of node).address list) old)) text
-    ∙ event_before nodesize node later old ∙ ap (λ (list : List Node). option_map (with_nodes nodesize list) old)
+    ∙ event_before nodesize node later old ∙ ap (λ (list : List Node). history_after (with_nodes nodesize list) old)
     (sym cut) ∙ before
 
 -- nodes are written after others
@@ -37,42 +57,52 @@ with_nodes-append nodesize (node ∷ front) back events =
     with_nodes-append nodesize front back (Wrote (header_of node).address (node_text nodesize node) ∷ events)
 
 -- of a history that is told or not
-nodes_after : (nodesize : ℕ) (front back : List Node) (old : Option (List Event))
-    → option_map (with_nodes nodesize back) (option_map (with_nodes nodesize front) old)
-    ≡ option_map (with_nodes nodesize (front ++ back)) old
-nodes_after nodesize front back None = refl
-nodes_after nodesize front back (Some events) =
-    ap (λ (list : List Event). Some list) (sym (with_nodes-append nodesize front back events))
+nodes_after : (nodesize : ℕ) (front back : List Node) (old : History)
+    → history_after (with_nodes nodesize back) (history_after (with_nodes nodesize front) old)
+    ≡ history_after (with_nodes nodesize (front ++ back)) old
+nodes_after nodesize front back old =
+    after-both (with_nodes nodesize front) (with_nodes nodesize back) (calls-add (node_calls nodesize back)) old
+    ∙ after-same (λ events. with_nodes nodesize back (with_nodes nodesize front events))
+    (with_nodes nodesize (front ++ back)) (λ events. sym (with_nodes-append nodesize front back events)) old
 
-superblocks_after : (super : Super) (nodes : List Node) (old : Option (List Event))
-    → option_map (with_superblocks super) (option_map (with_nodes super.nodesize nodes) old)
-    ≡ option_map (with_commit super nodes) old
-superblocks_after super nodes None = refl
-superblocks_after super nodes (Some events) = refl
+superblocks_after : (super : Super) (nodes : List Node) (old : History)
+    → history_after (with_superblocks super) (history_after (with_nodes super.nodesize nodes) old)
+    ≡ history_after (with_commit super nodes) old
+superblocks_after super nodes old =
+    after-both (with_nodes super.nodesize nodes) (with_superblocks super) (calls-add (superblock_calls super)) old
 
 -- a list of nodes was written, over a buffer of the size that the superblock tells
-pub first_calls : (super : Super) (nodesize : ℕ) (given nodes : List Node) (old new : Option (List Event))
-    → nodesize ≡ super.nodesize → given ≡ nodes → new ≡ option_map (with_nodes nodesize given) old
-    → new ≡ option_map (with_nodes super.nodesize nodes) old
+pub first_calls : (super : Super) (nodesize : ℕ) (given nodes : List Node) (old new : History)
+    → nodesize ≡ super.nodesize → given ≡ nodes → new ≡ history_after (with_nodes nodesize given) old
+    → new ≡ history_after (with_nodes super.nodesize nodes) old
 first_calls super nodesize given nodes old new size same is =
-    is ∙ ap (λ (n : ℕ). option_map (with_nodes n given) old) size
-    ∙ ap (λ (list : List Node). option_map (with_nodes super.nodesize list) old) same
+    is ∙ ap (λ (n : ℕ). history_after (with_nodes n given) old) size
+    ∙ ap (λ (list : List Node). history_after (with_nodes super.nodesize list) old) same
 
 -- and then another
-pub two_calls : (super : Super) (nodesize : ℕ) (front given back : List Node) (old between new : Option (List Event))
-    → nodesize ≡ super.nodesize → given ≡ back → between ≡ option_map (with_nodes super.nodesize front) old
-    → new ≡ option_map (with_nodes nodesize given) between
-    → new ≡ option_map (with_nodes super.nodesize (front ++ back)) old
+pub two_calls : (super : Super) (nodesize : ℕ) (front given back : List Node) (old between new : History)
+    → nodesize ≡ super.nodesize → given ≡ back → between ≡ history_after (with_nodes super.nodesize front) old
+    → new ≡ history_after (with_nodes nodesize given) between
+    → new ≡ history_after (with_nodes super.nodesize (front ++ back)) old
 two_calls super nodesize front given back old between new size same first second =
     first_calls super nodesize given back between new size same second
-    ∙ ap (option_map (with_nodes super.nodesize back)) first ∙ nodes_after super.nodesize front back old
+    ∙ ap (history_after (with_nodes super.nodesize back)) first ∙ nodes_after super.nodesize front back old
 
 -- and then the superblocks
-pub last_calls : (super : Super) (nodes : List Node) (old between new : Option (List Event))
-    → between ≡ option_map (with_nodes super.nodesize nodes) old → new ≡ option_map (with_superblocks super) between
-    → new ≡ option_map (with_commit super nodes) old
-last_calls super nodes old between new first second = second ∙ ap (option_map (with_superblocks super)) first
+pub last_calls : (super : Super) (nodes : List Node) (old between new : History)
+    → between ≡ history_after (with_nodes super.nodesize nodes) old
+    → new ≡ history_after (with_superblocks super) between
+    → new ≡ history_after (with_commit super nodes) old
+last_calls super nodes old between new first second = second ∙ ap (history_after (with_superblocks super)) first
     ∙ superblocks_after super nodes old
+
+-- all of a commit was made
+pub whole-made : (super : Super) (nodes : List Node) (old new : History)
+    → new ≡ history_after (with_commit super nodes) old → ComesTo (commit_calls super nodes) old new
+whole-made super nodes old new made =
+    let between = history_after (with_nodes super.nodesize nodes) old in
+    comes-behind (node_calls super.nodesize nodes) (superblock_calls super) old between new refl
+    (comes-all (superblock_calls super) between new (made ∙ sym (superblocks_after super nodes old)))
 
 -- ---- parts of the nodes
 

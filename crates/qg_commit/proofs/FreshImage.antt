@@ -8,7 +8,7 @@ use Rattle.std.proofs.lemmas.List.{length-replicate}
 use Rattle.std.proofs.lemmas.List.Elements.{All-from_recursion, recursion_from_All}
 use Rattle.std.proofs.lemmas.List.Sorted.{Contains-permutation, length_permutation}
 use Rattle.qg_num.specs.Fields.{zeros}
-use Rattle.qg_device.specs.History.{Event, Wrote, Cut, content}
+use Rattle.qg_device.specs.History.{Event, Recorded, Wrote, Cut, content}
 use Rattle.qg_disk.proofs.Sizes.{length-overlay}
 use Rattle.qg_node.specs.declared.node.Node.{Node}
 use Rattle.qg_node.specs.Nodes.{header_of}
@@ -268,5 +268,5 @@ module _ (sizes : Sizes) (trees : OtherTrees) (served : is_served sizes ≡ true
     }
 
     -- what a disk holds after the calls that make an image
-    pub made-HoldsFreshImage : HoldsFreshImage sizes (Some (with_image super nodes events))
+    pub made-HoldsFreshImage : HoldsFreshImage sizes (Recorded (with_image super nodes events))
     made-HoldsFreshImage = record { events = with_image super nodes events; told = refl; image = is_fresh }

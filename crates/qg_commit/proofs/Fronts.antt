@@ -1,9 +1,9 @@
 -- How far calls came, call by call.
-use Rattle.std.proofs.Common.{◌≡◌, inl, inr, ℕ, List, [], ◌∷◌, ◌++◌, refl, sym, ap, subst, ◌∙◌}
-use Rattle.std.specs.Prelude.{Option, Some, None, Result, Ok, Err}
-use Rattle.std.specs.Option.{option_map}
+use Rattle.std.proofs.Common.{◌≡◌, inl, inr, ℕ, List, [], ◌∷◌, ◌++◌, refl, sym, ap, subst, ◌∙◌, append_assoc}
+use Rattle.std.specs.Prelude.{IfErr, Result, Ok, Err}
 use Rattle.std.proofs.lemmas.List.{map-append}
-use Rattle.qg_device.specs.History.{Event, Synced, Tore, Wrote, with_event}
+use Rattle.qg_device.specs.History.{Event, History, Recorded, Unrecorded, Wrote, Tore, Synced, history_after}
+use Rattle.qg_device.specs.History.{with_event}
 use Rattle.qg_disk.specs.declared.fault.DiskFault.{DiskFault}
 use Rattle.qg_disk.specs.declared.fault.DiskFault.TheVariants.{Failed, NoMemory}
 use Rattle.qg_disk.specs.Disk.{Syncs, Writes}
@@ -11,19 +11,19 @@ use Rattle.qg_node.specs.declared.node.Node.{Node}
 use Rattle.qg_node.specs.Nodes.{header_of}
 use Rattle.qg_node.specs.NodeText.{node_text}
 use Rattle.qg_super.specs.declared.superblock.Super.{Super}
-use Rattle.qg_commit.specs.Calls.{Call, WriteAt, Sync, IsFront, MadeFront, commit_calls, node_calls, superblock_calls}
-use Rattle.qg_commit.specs.Calls.{with_call, with_calls, with_nodes}
+use Rattle.qg_commit.specs.Calls.{Call, WriteAt, Sync, IsFront, MadeFront, commit_calls, node_calls, unsure_calls}
+use Rattle.qg_commit.specs.Calls.{unsure_superblock_calls, with_call, with_calls, with_nodes}
 
 -- from one history to another calls came so far
-abbrev pub ComesTo : List Call → Option (List Event) → Option (List Event) → Type 0
-ComesTo calls old new = (events : List Event) → old ≡ Some events → MadeFront calls events new
+abbrev pub ComesTo : List Call → History → History → Type 0
+ComesTo calls old new = (events : List Event) → old ≡ Recorded events → MadeFront calls events new
 
 -- no call was made
 front-none : (calls : List Call) (events : List Event) → IsFront calls events events
 front-none [] events = refl
 front-none (call ∷ calls) events = inl refl
 
-pub comes-none : (calls : List Call) (old new : Option (List Event)) → new ≡ old → ComesTo calls old new
+pub comes-none : (calls : List Call) (old new : History) → new ≡ old → ComesTo calls old new
 comes-none calls old new same = λ events told. record {
   after = events;
   told = same ∙ told;
@@ -31,7 +31,7 @@ comes-none calls old new same = λ events told. record {
 }
 
 -- the first was made, or failed
-pub comes-write : (at : ℕ) (bytes : List ℕ) (calls : List Call) (old new : Option (List Event))
+pub comes-write : (at : ℕ) (bytes : List ℕ) (calls : List Call) (old new : History)
     (result : Result Unit DiskFault) → Writes old new result at bytes → ComesTo (WriteAt at bytes ∷ calls) old new
 comes-write at bytes calls old new (Ok done) is = λ events told. record {
   after = Wrote at bytes ∷ events;
@@ -45,7 +45,7 @@ comes-write at bytes calls old new (Err Failed) is = λ events told. record {
 }
 comes-write at bytes calls old new (Err NoMemory) is = comes-none (WriteAt at bytes ∷ calls) old new is
 
-pub comes-sync : (calls : List Call) (old new : Option (List Event)) (result : Result Unit DiskFault)
+pub comes-sync : (calls : List Call) (old new : History) (result : Result Unit DiskFault)
     → Syncs old new result → ComesTo (Sync ∷ calls) old new
 comes-sync calls old new (Ok done) is = λ events told. record {
   after = Synced ∷ events;
@@ -55,29 +55,35 @@ comes-sync calls old new (Ok done) is = λ events told. record {
 comes-sync calls old new (Err fault) is = comes-none (Sync ∷ calls) old new is
 
 -- the first was made, and then later ones came so far
-pub comes-later : (call : Call) (calls : List Call) (old mid new : Option (List Event))
-    → mid ≡ option_map (with_call call) old → ComesTo calls mid new → ComesTo (call ∷ calls) old new
+pub comes-later : (call : Call) (calls : List Call) (old mid new : History)
+    → mid ≡ history_after (with_call call) old → ComesTo calls mid new → ComesTo (call ∷ calls) old new
 comes-later call calls old mid new made later = λ events told.
-    let then = later (with_call call events) (made ∙ ap (option_map (with_call call)) told) in
+    let then = later (with_call call events) (made ∙ ap (history_after (with_call call)) told) in
     record { after = then.after; told = then.told; front = inr (inr then.front) }
 
-wrote_so : (at : ℕ) (bytes : List ℕ) (old : Option (List Event))
-    → with_event (Wrote at bytes) old ≡ option_map (with_call (WriteAt at bytes)) old
-wrote_so at bytes None = refl
-wrote_so at bytes (Some events) = refl
+wrote_so : (at : ℕ) (bytes : List ℕ) (old : History)
+    → with_event (Wrote at bytes) old ≡ history_after (with_call (WriteAt at bytes)) old
+wrote_so at bytes (Recorded events) = refl
+wrote_so at bytes (Unrecorded changes) = refl
 
-synced_so : (old : Option (List Event)) → with_event Synced old ≡ option_map (with_call Sync) old
-synced_so None = refl
-synced_so (Some events) = refl
+synced_so : (old : History) → with_event Synced old ≡ history_after (with_call Sync) old
+synced_so (Recorded events) = refl
+synced_so (Unrecorded changes) = refl
 
-pub comes-written : (at : ℕ) (bytes : List ℕ) (calls : List Call) (old mid new : Option (List Event))
+pub comes-written : (at : ℕ) (bytes : List ℕ) (calls : List Call) (old mid new : History)
     → mid ≡ with_event (Wrote at bytes) old → ComesTo calls mid new → ComesTo (WriteAt at bytes ∷ calls) old new
 comes-written at bytes calls old mid new made later =
     comes-later (WriteAt at bytes) calls old mid new (made ∙ wrote_so at bytes old) later
 
-pub comes-synced : (calls : List Call) (old mid new : Option (List Event)) → mid ≡ with_event Synced old
+pub comes-synced : (calls : List Call) (old mid new : History) → mid ≡ with_event Synced old
     → ComesTo calls mid new → ComesTo (Sync ∷ calls) old new
 comes-synced calls old mid new made later = comes-later Sync calls old mid new (made ∙ synced_so old) later
+
+-- so they came where one failed
+pub comes-err : {A E : Type 0} (result : Result A E) (calls : List Call) (old new : History) → ComesTo calls old new
+    → (events : List Event) → old ≡ Recorded events → IfErr result (λ fault. MadeFront calls events new)
+comes-err (Ok done) calls old new comes events told = tt
+comes-err (Err fault) calls old new comes events told = comes events told
 
 -- ---- calls in front of others
 
@@ -90,7 +96,7 @@ front-more (call ∷ front) back events after (inr (inl fails)) = inr (inl fails
 front-more (call ∷ front) back events after (inr (inr later)) =
     inr (inr (front-more front back (with_call call events) after later))
 
-pub comes-more : (front back : List Call) (old new : Option (List Event)) → ComesTo front old new
+pub comes-more : (front back : List Call) (old new : History) → ComesTo front old new
     → ComesTo (front ++ back) old new
 comes-more front back old new comes = λ events told.
     let made = comes events told in
@@ -102,10 +108,10 @@ front-behind : (front back : List Call) (events after : List Event) → IsFront 
 front-behind [] back events after is = is
 front-behind (call ∷ front) back events after is = inr (inr (front-behind front back (with_call call events) after is))
 
-pub comes-behind : (front back : List Call) (old mid new : Option (List Event))
-    → mid ≡ option_map (with_calls front) old → ComesTo back mid new → ComesTo (front ++ back) old new
+pub comes-behind : (front back : List Call) (old mid new : History)
+    → mid ≡ history_after (with_calls front) old → ComesTo back mid new → ComesTo (front ++ back) old new
 comes-behind front back old mid new made later = λ events told.
-    let then = later (with_calls front events) (made ∙ ap (option_map (with_calls front)) told) in
+    let then = later (with_calls front events) (made ∙ ap (history_after (with_calls front)) told) in
     record { after = then.after; told = then.told; front = front-behind front back events then.after then.front }
 
 -- all were made
@@ -113,11 +119,11 @@ front-all : (calls : List Call) (events : List Event) → IsFront calls events (
 front-all [] events = refl
 front-all (call ∷ calls) events = inr (inr (front-all calls (with_call call events)))
 
-pub comes-all : (calls : List Call) (old new : Option (List Event)) → new ≡ option_map (with_calls calls) old
+pub comes-all : (calls : List Call) (old new : History) → new ≡ history_after (with_calls calls) old
     → ComesTo calls old new
 comes-all calls old new made = λ events told. record {
   after = with_calls calls events;
-  told = made ∙ ap (option_map (with_calls calls)) told;
+  told = made ∙ ap (history_after (with_calls calls)) told;
   front = front-all calls events;
 }
 
@@ -128,14 +134,14 @@ apart : (nodesize : ℕ) (front back : List Node) → node_calls nodesize front 
 apart nodesize front back =
     sym (map-append (λ (node : Node). WriteAt (header_of node).address (node_text nodesize node)) front back)
 
-pub nodes-more : (nodesize : ℕ) (front back : List Node) (old new : Option (List Event))
+pub nodes-more : (nodesize : ℕ) (front back : List Node) (old new : History)
     → ComesTo (node_calls nodesize front) old new → ComesTo (node_calls nodesize (front ++ back)) old new
 nodes-more nodesize front back old new comes =
     subst (λ (calls : List Call). ComesTo calls old new) (apart nodesize front back)
     (comes-more (node_calls nodesize front) (node_calls nodesize back) old new comes)
 
-pub nodes-behind : (nodesize : ℕ) (front back : List Node) (old mid new : Option (List Event))
-    → mid ≡ option_map (with_nodes nodesize front) old → ComesTo (node_calls nodesize back) mid new
+pub nodes-behind : (nodesize : ℕ) (front back : List Node) (old mid new : History)
+    → mid ≡ history_after (with_nodes nodesize front) old → ComesTo (node_calls nodesize back) mid new
     → ComesTo (node_calls nodesize (front ++ back)) old new
 nodes-behind nodesize front back old mid new made later =
     subst (λ (calls : List Call). ComesTo calls old new) (apart nodesize front back)
@@ -143,7 +149,7 @@ nodes-behind nodesize front back old mid new made later =
 
 -- the next of some nodes was written, or was not
 pub comes-node : (nodesize : ℕ) (node : Node) (now later : List Node) (at : ℕ) (bytes : List ℕ)
-    (old new : Option (List Event)) (result : Result Unit DiskFault) → now ≡ node ∷ later
+    (old new : History) (result : Result Unit DiskFault) → now ≡ node ∷ later
     → at ≡ (header_of node).address → bytes ≡ node_text nodesize node → Writes old new result at bytes
     → ComesTo (node_calls nodesize now) old new
 comes-node nodesize node now later at bytes old new result cut there text is =
@@ -153,7 +159,7 @@ comes-node nodesize node now later at bytes old new result cut there text is =
     (subst (Writes old new result at) text is)))
 
 pub comes-past_node : (nodesize : ℕ) (node : Node) (now later : List Node) (at : ℕ) (bytes : List ℕ)
-    (old mid new : Option (List Event)) → now ≡ node ∷ later → at ≡ (header_of node).address
+    (old mid new : History) → now ≡ node ∷ later → at ≡ (header_of node).address
     → bytes ≡ node_text nodesize node → mid ≡ with_event (Wrote at bytes) old
     → ComesTo (node_calls nodesize later) mid new → ComesTo (node_calls nodesize now) old new
 comes-past_node nodesize node now later at bytes old mid new cut there text made comes =
@@ -163,53 +169,67 @@ comes-past_node nodesize node now later at bytes old mid new cut there text made
     ∙ ap (λ (list : List ℕ). with_event (Wrote (header_of node).address list) old) text) comes)
 
 -- nodes that were written over a buffer of another length that is the same
-pub same-nodes : (nodesize size : ℕ) (given nodes : List Node) (old new : Option (List Event)) → nodesize ≡ size
+pub same-nodes : (nodesize size : ℕ) (given nodes : List Node) (old new : History) → nodesize ≡ size
     → given ≡ nodes → ComesTo (node_calls nodesize given) old new → ComesTo (node_calls size nodes) old new
 same-nodes nodesize size given nodes old new same are comes =
     subst (λ (list : List Node). ComesTo (node_calls size list) old new) are
     (subst (λ (n : ℕ). ComesTo (node_calls n given) old new) same comes)
 
--- ---- a commit of four trees
+-- ---- a commit but for its last sync
 
-module _ (super : Super) (roots extents quotas files : List Node) (old : Option (List Event)) where
+-- its first calls are those of a commit
+pub unsure-whole : (super : Super) (nodes : List Node) (events : List Event) (history : History)
+    → MadeFront (unsure_calls super nodes) events history → MadeFront (commit_calls super nodes) events history
+unsure-whole super nodes events history made = record {
+  after = made.after;
+  told = made.told;
+  front = subst (λ (calls : List Call). IsFront calls events made.after)
+      (append_assoc (node_calls super.nodesize nodes) (unsure_superblock_calls super) (Sync ∷ []))
+      (front-more (unsure_calls super nodes) (Sync ∷ []) events made.after made.front);
+}
+
+-- of four trees
+
+module _ (super : Super) (roots extents quotas files : List Node) (old : History) where
   abbrev all : List Node
   all = roots ++ extents ++ quotas ++ files
 
-  behind_nodes : (new : Option (List Event)) → ComesTo (node_calls super.nodesize all) old new
-      → ComesTo (commit_calls super all) old new
-  behind_nodes new comes = comes-more (node_calls super.nodesize all) (superblock_calls super) old new comes
+  behind_nodes : (new : History) → ComesTo (node_calls super.nodesize all) old new
+      → ComesTo (unsure_calls super all) old new
+  behind_nodes new comes = comes-more (node_calls super.nodesize all) (unsure_superblock_calls super) old new comes
 
-  pub comes-first : (new : Option (List Event)) → ComesTo (node_calls super.nodesize roots) old new
-      → ComesTo (commit_calls super all) old new
+  pub comes-first : (new : History) → ComesTo (node_calls super.nodesize roots) old new
+      → ComesTo (unsure_calls super all) old new
   comes-first new comes =
       let n = super.nodesize in
       behind_nodes new (nodes-more n (roots ++ extents ++ quotas) files old new
       (nodes-more n (roots ++ extents) quotas old new (nodes-more n roots extents old new comes)))
 
-  pub comes-second : (mid new : Option (List Event)) → mid ≡ option_map (with_nodes super.nodesize roots) old
-      → ComesTo (node_calls super.nodesize extents) mid new → ComesTo (commit_calls super all) old new
+  pub comes-second : (mid new : History) → mid ≡ history_after (with_nodes super.nodesize roots) old
+      → ComesTo (node_calls super.nodesize extents) mid new → ComesTo (unsure_calls super all) old new
   comes-second mid new made comes =
       let n = super.nodesize in
       behind_nodes new (nodes-more n (roots ++ extents ++ quotas) files old new
       (nodes-more n (roots ++ extents) quotas old new (nodes-behind n roots extents old mid new made comes)))
 
-  pub comes-third : (mid new : Option (List Event))
-      → mid ≡ option_map (with_nodes super.nodesize (roots ++ extents)) old
+  pub comes-third : (mid new : History)
+      → mid ≡ history_after (with_nodes super.nodesize (roots ++ extents)) old
       → ComesTo (node_calls super.nodesize quotas) mid new
-      → ComesTo (commit_calls super all) old new
+      → ComesTo (unsure_calls super all) old new
   comes-third mid new made comes =
       let n = super.nodesize in
       behind_nodes new (nodes-more n (roots ++ extents ++ quotas) files old new
       (nodes-behind n (roots ++ extents) quotas old mid new made comes))
 
-  pub comes-fourth : (mid new : Option (List Event))
-      → mid ≡ option_map (with_nodes super.nodesize (roots ++ extents ++ quotas)) old
+  pub comes-fourth : (mid new : History)
+      → mid ≡ history_after (with_nodes super.nodesize (roots ++ extents ++ quotas)) old
       → ComesTo (node_calls super.nodesize files) mid new
-      → ComesTo (commit_calls super all) old new
+      → ComesTo (unsure_calls super all) old new
   comes-fourth mid new made comes =
       behind_nodes new (nodes-behind super.nodesize (roots ++ extents ++ quotas) files old mid new made comes)
 
-  pub comes-last : (mid new : Option (List Event)) → mid ≡ option_map (with_nodes super.nodesize all) old
-      → ComesTo (superblock_calls super) mid new → ComesTo (commit_calls super all) old new
-  comes-last mid new made comes = comes-behind (node_calls super.nodesize all) (superblock_calls super) old mid new made
+  pub comes-last : (mid new : History) → mid ≡ history_after (with_nodes super.nodesize all) old
+      → ComesTo (unsure_superblock_calls super) mid new → ComesTo (unsure_calls super all) old new
+  comes-last mid new made comes = comes-behind (node_calls super.nodesize all) (unsure_superblock_calls super) old mid
+      new made
       comes

@@ -2,10 +2,10 @@
 -- counts; and what a crash leaves.
 use Rattle.std.proofs.Common.{◌≡◌, ◌∙◌, ◌⊎◌, ◌≤◌, inl, inr, ℕ, true, List, [], ◌∷◌, length, refl, sym, ap, subst, arith}
 use Rattle.std.proofs.Common.{Option, Some, None, cond}
-use Rattle.std.specs.Prelude.{nat_lt, ◌==◌, ◌&&◌, IfSome, IsErr, Result, Ok}
+use Rattle.std.specs.Prelude.{nat_lt, ◌==◌, ◌&&◌, IsErr, Result, Ok}
 use Rattle.std.proofs.lemmas.Bool.{and_parts, cases_Bool, cond-true, cond-false, eqb-true}
 use Rattle.std.proofs.lemmas.Result.{IfOk-from_err}
-use Rattle.qg_device.specs.History.{Event, Wrote, Tore, Synced, content}
+use Rattle.qg_device.specs.History.{Event, History, Recorded, Wrote, Tore, Synced, IfRecorded, content}
 use Rattle.qg_device.specs.Crash.{Leaves}
 use Rattle.qg_device.specs.CrashSince.{events_by, LeavesSince}
 use Rattle.qg_super.specs.declared.superblock.Super.{Super}
@@ -70,7 +70,8 @@ stale_stands (Some a) None super place counts stale = let there : place ≡ seco
 stale_stands (Some a) (Some b) super place counts stale = stale_of_two a b super place counts stale
 
 -- how far the repair came
-front_of_writing : (super : Super) (place : ℕ) (events after : List Event) → IsWriting super place events (Some after)
+front_of_writing : (super : Super) (place : ℕ) (events after : List Event)
+    → IsWriting super place events (Recorded after)
     → IsFront (Wrote place (super_text place super) ∷ Synced ∷ []) events after
 front_of_writing super place events after (inl tore) =
     let is : after ≡ Tore place (super_text place super) tore.0 ∷ events = cc (tore.2) in inr (inl (tore.0, tore.1, is))
@@ -188,7 +189,8 @@ none_stale_mirrors image state stands none =
 -- ---- what a crash leaves
 
 -- since the first sync
-survives : (events after : List Event) (state : State) → IsOpening events (Some after) → StateOf (content events) state
+survives : (events after : List Event) (state : State) → IsOpening events (Recorded after)
+    → StateOf (content events) state
     → Survives (begin_of events) state [] after
 survives events after state (inl (inl is)) stands = let same : after ≡ events = cc in
     opening_survives state events after stands (inl same)
@@ -199,7 +201,7 @@ survives events after state (inr repairs) stands =
     opening_survives state events after stands (inr (inr (repairs.super, opening_repairs events after repairs long)))
 
 -- before it: what was done then are the events before
-begins : (events after : List Event) → IsOpening events (Some after) → events_by (length events) after ≡ events
+begins : (events after : List Event) → IsOpening events (Recorded after) → events_by (length events) after ≡ events
 begins events after (inl (inl is)) = let same : after ≡ events = cc in
     front_begins (Synced ∷ []) events after (inl same)
 begins events after (inl (inr is)) = let same : after ≡ Synced ∷ events = cc in
@@ -209,7 +211,7 @@ begins events after (inr repairs) =
     let front = front_of_writing repairs.super repairs.place (Synced ∷ events) after repairs.written in
     front_begins (Synced ∷ Wrote repairs.place text ∷ Synced ∷ []) events after (inr (inr front))
 
-left_before : (events after : List Event) (image : List ℕ) → IsOpening events (Some after)
+left_before : (events after : List Event) (image : List ℕ) → IsOpening events (Recorded after)
     → LeavesSince (length events) after image (length events)
     → Leaves events image
 left_before events after image opening leaves =
@@ -269,12 +271,12 @@ module _ (events : List Event) (state : State) (super : Super) (chosen : super_o
 
 -- ---- all three
 
-module _ (events : List Event) (history : Option (List Event)) (opening : IsOpening events history) where
-  crashes_of : (after : List Event) (state : State) → history ≡ Some after → StateOf (content events) state
+module _ (events : List Event) (history : History) (opening : IsOpening events history) where
+  crashes_of : (after : List Event) (state : State) → history ≡ Recorded after → StateOf (content events) state
       → Survives (begin_of events) state [] after
   crashes_of after state told stands = survives events after state (subst (IsOpening events) told opening) stands
 
-  early_of : (after : List Event) (image : List ℕ) → history ≡ Some after
+  early_of : (after : List Event) (image : List ℕ) → history ≡ Recorded after
       → LeavesSince (length events) after image (length events) → Leaves events image
   early_of after image told leaves = left_before events after image (subst (IsOpening events) told opening) leaves
 
@@ -283,18 +285,18 @@ module _ (events : List Event) (history : Option (List Event)) (opening : IsOpen
   outlives_fault {A} result failed = record {
     crashes = crashes_of;
     early = early_of;
-    rests = λ state stands. IfOk-from_err result (λ (opened : A). IfSome history (Rests state)) failed;
+    rests = λ state stands. IfOk-from_err result (λ (opened : A). IfRecorded history (Rests state)) failed;
   }
 
   -- it was, and a place that was stale was written
   pub outlives_opened : {A : Type 0} (opened : A) (super : Super) (stale : Option ℕ)
       → super_of (content events) ≡ Some super
-      → stale ≡ stale_of (content events) → history ≡ Some (with_repair super stale (Synced ∷ events))
+      → stale ≡ stale_of (content events) → history ≡ Recorded (with_repair super stale (Synced ∷ events))
       → OutlivesCrashes events history (Ok opened)
   outlives_opened opened super stale chosen is told = record {
     crashes = crashes_of;
     early = early_of;
     rests = λ state stands.
-        subst (λ (o : Option (List Event)). IfSome o (Rests state)) (sym told)
+        subst (λ (o : History). IfRecorded o (Rests state)) (sym told)
         (rests_by events state super chosen stands stale is);
   }

@@ -1,7 +1,7 @@
 -- That the device calls of a commit, and those of opening, are the writes and syncs of which the laws of qg_crashes
 -- speak (this project's own).
-use Rattle.std.specs.Prelude.{◌≡◌, ◌⊎◌, ◌≤◌, ℕ, All, IsTrue, List, ◌∷◌, length, Some, None}
-use Rattle.qg_device.specs.History.{Event, Synced, content}
+use Rattle.std.specs.Prelude.{◌≡◌, ◌⊎◌, ◌≤◌, ℕ, All, IsTrue, List, ◌∷◌, length, None}
+use Rattle.qg_device.specs.History.{Event, Recorded, Synced, content}
 use Rattle.qg_node.specs.declared.node.Node.{Node}
 use Rattle.qg_super.specs.declared.superblock.Super.{Super}
 use Rattle.qg_super.specs.Places.{first_place, second_place, total_bytes}
@@ -40,7 +40,7 @@ CallsAreWhole = (before : List Event) (nodes : List Node) (super : Super)
 -- where opening writes a stale place of a disk that is as long as the image, the superblock that counts stands at the
 -- other one
 abbrev pub OpeningRepairs : Type 0
-OpeningRepairs = (events after : List Event) (opening : IsRepairing events (Some after))
+OpeningRepairs = (events after : List Event) (opening : IsRepairing events (Recorded after))
     → total_bytes (sizes_of opening.super) ≤ length (content events)
     → Repairing events first_place second_place opening.super after
     ⊎ Repairing events second_place first_place opening.super after

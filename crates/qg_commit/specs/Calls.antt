@@ -1,7 +1,7 @@
 -- The device calls that make an image and that commit to it (this project's own).
-use Rattle.std.specs.Prelude.{◌≡◌, ◌⊎◌, ℕ, ◌+◌, ◌-◌, ◌^◌, ◌<◌, ◌≤◌, List, [], ◌∷◌, ◌++◌, length, map, Option, Some, Ok}
+use Rattle.std.specs.Prelude.{◌≡◌, ◌⊎◌, ℕ, ◌+◌, ◌-◌, ◌^◌, ◌<◌, ◌≤◌, List, [], ◌∷◌, ◌++◌, length, map, Ok}
 use Rattle.qg_num.specs.Fields.{zeros}
-use Rattle.qg_device.specs.History.{Event, Wrote, Tore, Cut, Synced}
+use Rattle.qg_device.specs.History.{Event, History, Recorded, Wrote, Tore, Cut, Synced}
 use Rattle.qg_node.specs.declared.node.Node.{Node}
 use Rattle.qg_node.specs.Nodes.{header_of}
 use Rattle.qg_node.specs.NodeText.{node_text, IsNode}
@@ -40,9 +40,9 @@ IsFront (call ∷ calls) events after = (after ≡ events)
     ⊎ (FailsAfter call events after ⊎ IsFront calls (with_call call events) after)
 
 -- that was done to a disk, and nothing else
-pub record MadeFront (calls : List Call) (events : List Event) (history : Option (List Event)) : Type 0 where
+pub record MadeFront (calls : List Call) (events : List Event) (history : History) : Type 0 where
   pub after : List Event
-  pub told : history ≡ Some after
+  pub told : history ≡ Recorded after
   pub front : IsFront calls events after
 
 -- ---- the calls of a commit
@@ -67,9 +67,19 @@ superblock_calls super =
     Sync ∷ WriteAt first_place (super_text first_place super) ∷ Sync ∷ WriteAt second_place
     (super_text second_place super) ∷ Sync ∷ []
 
+-- and these but for the last sync, so that what was done last is not made sure of
+abbrev pub unsure_superblock_calls : Super → List Call
+unsure_superblock_calls super =
+    Sync ∷ WriteAt first_place (super_text first_place super) ∷ Sync ∷ WriteAt second_place
+    (super_text second_place super) ∷ []
+
 -- a commit: the new nodes, a sync, the first superblock, a sync, the second superblock, a sync
 abbrev pub commit_calls : Super → List Node → List Call
 commit_calls super nodes = node_calls super.nodesize nodes ++ superblock_calls super
+
+-- a commit but for its last sync
+abbrev pub unsure_calls : Super → List Node → List Call
+unsure_calls super nodes = node_calls super.nodesize nodes ++ unsure_superblock_calls super
 
 -- what was done once they were made
 abbrev pub with_nodes : ℕ → List Node → List Event → List Event

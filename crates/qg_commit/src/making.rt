@@ -1,8 +1,7 @@
 // A fresh image.
-ghost use Rattle.std.specs.Prelude.{◌≡◌, ◌≤◌, ◌↔◌, List, Some, OnOk, IsErrOf, false};
-ghost use Rattle.std.specs.Option.{option_map};
+ghost use Rattle.std.specs.Prelude.{◌≡◌, ◌≤◌, ◌↔◌, List, OnOk, IsErrOf, false};
 ghost use Rattle.qg_device.specs.Cause.{HasCause};
-ghost use Rattle.qg_device.specs.History.{Event};
+ghost use Rattle.qg_device.specs.History.{Event, Recorded, history_after};
 ghost use Rattle.qg_super.specs.Places.{is_served, slot_at, total_bytes};
 ghost use Rattle.qg_commit.specs.Fresh.{fresh_nodes, fresh_super};
 ghost use Rattle.qg_commit.specs.Calls.{with_image};
@@ -24,8 +23,8 @@ pub fn mkfs<D: Disk>(alloc: Global, disk: &mut D, sizes: Sizes) -> Result<(), Mk
 
     // The calls that are made, and what then stands.
     ensures calls { OnOk result (D.history disk.new
-        ≡ option_map (with_image (fresh_super sizes (slot_at sizes 0)) (fresh_nodes sizes)) (D.history disk.old)) }
-    ensures fresh { (before : List Event) → D.history disk.old ≡ Some before
+        ≡ history_after (with_image (fresh_super sizes (slot_at sizes 0)) (fresh_nodes sizes)) (D.history disk.old)) }
+    ensures fresh { (before : List Event) → D.history disk.old ≡ Recorded before
         → OnOk result (HoldsFreshImage sizes (D.history disk.new)) }
     ensures long { OnOk result (total_bytes sizes ≤ D.size disk.new) }
     ensures cause { HasCause MkfsFault.Disk (D.faults disk.old) (D.faults disk.new) result }

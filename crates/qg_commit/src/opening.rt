@@ -1,7 +1,7 @@
 // Opening an image.
 ghost use Rattle.std.specs.Prelude.{◌≡◌, ◌∷◌, ◌⊎◌, ◌≤◌, List, Some, IfOk, OnOk, IfErr, IsTrue};
 ghost use Rattle.qg_device.specs.Cause.{HasCause};
-ghost use Rattle.qg_device.specs.History.{Event, Synced, content};
+ghost use Rattle.qg_device.specs.History.{Event, Recorded, Synced, content};
 ghost use Rattle.qg_super.specs.Places.{total_bytes};
 ghost use Rattle.qg_super.specs.SuperText.{is_super, sizes_of};
 ghost use Rattle.qg_image.specs.Verdict.{verdict};
@@ -23,17 +23,18 @@ use std::alloc::Global;
 /// is written. Whatever a crash leaves since then, the image may be opened again.
 pub fn open<D: Disk>(alloc: Global, disk: &mut D) -> Result<Image, OpenFault>
     // Over a disk that tells what it holds.
-    ensures image { (events : List Event) → D.history disk.old ≡ Some events
+    ensures image { (events : List Event) → D.history disk.old ≡ Recorded events
         → IfOk result (λ image. IsImage (content events) image) }
-    ensures refused { (events : List Event) → D.history disk.old ≡ Some events
+    ensures refused { (events : List Event) → D.history disk.old ≡ Recorded events
         → IfErr result (λ fault. TellsFailure fault (verdict (content events))) }
-    ensures repaired { (events : List Event) → D.history disk.old ≡ Some events
+    ensures repaired { (events : List Event) → D.history disk.old ≡ Recorded events
         → IfOk result (λ image. D.history disk.new
-        ≡ Some (with_repair image.superblock image.stale (Synced ∷ events))) }
-    ensures unwritten { (events : List Event) → D.history disk.old ≡ Some events
+        ≡ Recorded (with_repair image.superblock image.stale (Synced ∷ events))) }
+    ensures unwritten { (events : List Event) → D.history disk.old ≡ Recorded events
         → IfErr result (λ fault. IsUntouched fault (D.history disk.new) (Synced ∷ events)) }
-    ensures touches { (events : List Event) → D.history disk.old ≡ Some events → IsOpening events (D.history disk.new) }
-    ensures crashes { (events : List Event) → D.history disk.old ≡ Some events
+    ensures touches { (events : List Event) → D.history disk.old ≡ Recorded events
+        → IsOpening events (D.history disk.new) }
+    ensures crashes { (events : List Event) → D.history disk.old ≡ Recorded events
         → OutlivesCrashes events (D.history disk.new) result }
 
     // Over any disk.
@@ -54,10 +55,10 @@ pub fn open<D: Disk>(alloc: Global, disk: &mut D) -> Result<Image, OpenFault>
 fn write_place<D: Disk>(disk: &mut D, superblock: &Super, place: u64) -> Result<(), DiskFault>
     requires fits { IsTrue (is_super superblock.now) }
     requires place { (place ≡ FIRST_PLACE) ⊎ (place ≡ SECOND_PLACE) }
-    ensures calls { (events : List Event) → D.history disk.old ≡ Some events
-        → OnOk result (D.history disk.new ≡ Some (with_repair superblock.now (Some place) events)) }
-    ensures touches { (events : List Event) → D.history disk.old ≡ Some events
-        → (D.history disk.new ≡ Some events) ⊎ IsWriting superblock.now place events (D.history disk.new) }
+    ensures calls { (events : List Event) → D.history disk.old ≡ Recorded events
+        → OnOk result (D.history disk.new ≡ Recorded (with_repair superblock.now (Some place) events)) }
+    ensures touches { (events : List Event) → D.history disk.old ≡ Recorded events
+        → (D.history disk.new ≡ Recorded events) ⊎ IsWriting superblock.now place events (D.history disk.new) }
     ensures no_less { D.size disk.old ≤ D.size disk.new }
     ensures cause { HasCause DiskFault.Failed (D.faults disk.old) (D.faults disk.new) result }
 {

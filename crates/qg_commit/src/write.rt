@@ -1,16 +1,15 @@
 // The device calls of a commit.
-ghost use Rattle.std.specs.Prelude.{◌≡◌, ◌≤◌, List, length, Some, OnOk, IsTrue};
-ghost use Rattle.std.specs.Option.{option_map};
+ghost use Rattle.std.specs.Prelude.{◌≡◌, ◌≤◌, List, length, IfErr, OnOk, IsTrue};
 ghost use Rattle.std.specs.List.{AllByRecursion};
 ghost use Rattle.qg_device.specs.Cause.{HasCause};
-ghost use Rattle.qg_device.specs.History.{Event};
+ghost use Rattle.qg_device.specs.History.{Event, Recorded, history_after};
 ghost use Rattle.qg_node.specs.NodeText.{IsNodeSize};
 ghost use Rattle.qg_super.specs.SuperText.{is_super};
 ghost use Rattle.qg_commit.specs.Calls.{
   IsWritable,
   MadeFront,
   node_calls,
-  superblock_calls,
+  unsure_superblock_calls,
   with_nodes,
   with_superblocks,
 };
@@ -28,8 +27,8 @@ pub fn write_nodes<D: Disk>(
     requires size { IsNodeSize (length buffer.old) }
     requires nodes { AllByRecursion (IsWritable (length buffer.old)) nodes.now }
     ensures calls { OnOk result (D.history disk.new
-        ≡ option_map (with_nodes (length buffer.old) nodes.now) (D.history disk.old)) }
-    ensures front { (events : List Event) → D.history disk.old ≡ Some events
+        ≡ history_after (with_nodes (length buffer.old) nodes.now) (D.history disk.old)) }
+    ensures front { (events : List Event) → D.history disk.old ≡ Recorded events
         → MadeFront (node_calls (length buffer.old) nodes.now) events (D.history disk.new) }
     ensures no_less { D.size disk.old ≤ D.size disk.new }
     ensures cause { HasCause DiskFault.Failed (D.faults disk.old) (D.faults disk.new) result }
@@ -42,13 +41,13 @@ pub fn write_nodes<D: Disk>(
 }
 
 /// Makes sure of what was done, and then writes the first superblock, and the second once the first is made sure of
-/// (this project's own).
+/// (this project's own). Where it fails, the last sync was not made.
 pub fn write_superblocks<D: Disk>(disk: &mut D, superblock: &Super) -> Result<(), DiskFault>
     requires { IsTrue (is_super superblock.now) }
     ensures calls { OnOk result (D.history disk.new
-        ≡ option_map (with_superblocks superblock.now) (D.history disk.old)) }
-    ensures front { (events : List Event) → D.history disk.old ≡ Some events
-        → MadeFront (superblock_calls superblock.now) events (D.history disk.new) }
+        ≡ history_after (with_superblocks superblock.now) (D.history disk.old)) }
+    ensures front { (events : List Event) → D.history disk.old ≡ Recorded events
+        → IfErr result (λ fault. MadeFront (unsure_superblock_calls superblock.now) events (D.history disk.new)) }
     ensures no_less { D.size disk.old ≤ D.size disk.new }
     ensures cause { HasCause DiskFault.Failed (D.faults disk.old) (D.faults disk.new) result }
 {

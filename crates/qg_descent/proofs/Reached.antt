@@ -2,7 +2,7 @@
 use Rattle.std.proofs.Common.{◌≡◌, ℕ, zero, suc, ◌+◌, ◌-◌, true, List, arith, refl, sym, ap, subst, ◌∙◌, drop, Option}
 use Rattle.std.proofs.Common.{Some, None}
 use Rattle.std.specs.Prelude.{Err}
-use Rattle.qg_device.specs.History.{Event, content}
+use Rattle.qg_device.specs.History.{Event, History, Recorded, content}
 use Rattle.qg_num.specs.declared.key.Key.{Key}
 use Rattle.qg_num.specs.declared.fault.BlockFault.{BlockFault}
 use Rattle.qg_num.specs.declared.fault.BlockFault.TheVariants.{NoMemory, Disk, Image}
@@ -55,7 +55,8 @@ leads-on node above level key way low leads = record {
 -- what is answered at an address that the walk comes to
 pub fails-on_way : (A B : Type 0) (tree : Tree) (root : Root) (draft other : Draft) (events : List Event) (depth : ℕ)
     (expected : Expected) (address : ℕ) (fault : BlockFault) → other ≡ draft
-    → ComesTo tree (super_of root draft) (told draft (Some events)) (root_expected (Some root.height) None) root.address
+    → ComesTo tree (super_of root draft) (told draft (Recorded events)) (root_expected (Some root.height) None)
+    root.address
     depth expected address
     → FailsThere {A = A} tree (super_of root other) expected address (found other (content events) address) (Err fault)
     → FailsOnWay {A = B} tree root draft events (Err fault)
@@ -73,11 +74,11 @@ fails-on_way A B tree root draft other events depth expected address Disk same c
 fails-on_way A B tree root draft other events depth expected address NoMemory same comes fails = tt
 
 -- a tree stands after a reading
-pub tells-read : (tree : Tree) (root : Root) (old new : Held) (before after : Option (List Event)) (bytes left : ℕ)
+pub tells-read : (tree : Tree) (root : Root) (old new : Held) (before after : History) (bytes left : ℕ)
     (whole : List Item) → HasRead old new before after bytes left
     → TellsTree tree root old.draft before whole → TellsTree tree root new.draft after whole
 tells-read tree root old new before after bytes left whole read tells =
-    subst (λ (h : Option (List Event)). TellsTree tree root new.draft h whole) (sym read.history)
+    subst (λ (h : History). TellsTree tree root new.draft h whole) (sym read.history)
     (subst (λ (d : Draft). TellsTree tree root d before whole) (sym read.draft) tells)
 
 -- ---- a node of a tree
@@ -100,7 +101,7 @@ told-on_way tree super nodes key (suc level) expected address whole on =
     record { node = Inner inner.header inner.pointers; there = inner.here; formed = inner.formed }
 
 -- a step from a node that was visited
-pub visited-step : (tree : Tree) (super : Super) (draft : Draft) (history : Option (List Event)) (held : Held)
+pub visited-step : (tree : Tree) (super : Super) (draft : Draft) (history : History) (held : Held)
     (key : Key) (level next : ℕ) (whole : List Item) (from to : Way)
     → level ≡ suc next → (visited : IsVisited tree super from.expected draft history held from.address)
     → LeadsFor (own_pointers visited.node) from.expected.to next key to
@@ -127,7 +128,7 @@ leaf_at : (nodesize : ℕ) (node : Node) → IsNode nodesize node → (header_of
 leaf_at nodesize (Leaf header items) kept low = (header, items, refl)
 leaf_at nodesize (Inner header pointers) kept low = absurd (let high = kept.levelled.0 in omega (arith, high, low))
 
-pub reached : (tree : Tree) (root : Root) (draft : Draft) (history : Option (List Event)) (key : Key) (held : Held)
+pub reached : (tree : Tree) (root : Root) (draft : Draft) (history : History) (key : Key) (held : Held)
     (way : Way)
     → IsVisited tree (super_of root draft) way.expected draft history held way.address → way.expected.level ≡ Some 0
     → is_to way.expected.to key ≡ true

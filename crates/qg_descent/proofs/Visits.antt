@@ -6,7 +6,7 @@ use Rattle.std.specs.Result.{result_ok}
 use Rattle.std.specs.Ordering.{nat_cmp}
 use Rattle.std.specs.BTreeMap.{is_at}
 use Rattle.std.specs.Map.{lookup}
-use Rattle.qg_device.specs.History.{Event, content}
+use Rattle.qg_device.specs.History.{Event, History, Recorded, content}
 use Rattle.qg_num.specs.declared.group.GroupId.{GroupId}
 use Rattle.qg_num.specs.declared.counters.Which.{Which}
 use Rattle.qg_num.specs.declared.fault.BlockFault.{BlockFault}
@@ -93,35 +93,35 @@ ok_found (Err broken) ok = absurd cc
 
 told_from : (fresh : Option Node) (sizes : Sizes) (events : List Event) (address : ℕ) (node : Node)
     → fresh_or fresh (standing sizes (content events) address) ≡ Ok node
-    → told_or fresh sizes (Some events) address ≡ Some node
+    → told_or fresh sizes (Recorded events) address ≡ Some node
 told_from (Some n) sizes events address node is = cc
 told_from None sizes events address node is = ap result_ok is
 
 pub told-found : (draft : Draft) (events : List Event) (address : ℕ) (node : Node)
-    → found draft (content events) address ≡ Ok node → told draft (Some events) address ≡ Some node
+    → found draft (content events) address ≡ Ok node → told draft (Recorded events) address ≡ Some node
 unfolding told
 told-found draft events address node is = told_from (fresh_at draft address) draft.sizes events address node is
 
 -- where a disk tells, the node in memory is the one that is found
-pub loaded-found : (draft : Draft) (history : Option (List Event)) (events : List Event) (address : ℕ) (held : Held)
-    (node : Node) → history ≡ Some events
+pub loaded-found : (draft : Draft) (history : History) (events : List Event) (address : ℕ) (held : Held)
+    (node : Node) → history ≡ Recorded events
     → IsOk (found draft (content events) address) → ((other : Node) → told draft history address ≡ Some other
     → held_at held address ≡ Some other)
     → held_at held address ≡ Some node → found draft (content events) address ≡ Ok node
 loaded-found draft history events address held node is ok loaded here =
     let there = ok_found (found draft (content events) address) ok in
-    let tells = subst (λ (h : Option (List Event)). told draft h address ≡ Some there.0) (sym is)
+    let tells = subst (λ (h : History). told draft h address ≡ Some there.0) (sym is)
     (told-found draft events address there.0 there.1) in
     let same : there.0 ≡ node = let e = sym (loaded there.0 tells) ∙ here in cc in
     subst (λ (n : Node). found draft (content events) address ≡ Ok n) same there.1
 
-pub loaded-told : (draft : Draft) (history : Option (List Event)) (events : List Event) (address : ℕ) (held : Held)
-    (node : Node) → history ≡ Some events
+pub loaded-told : (draft : Draft) (history : History) (events : List Event) (address : ℕ) (held : Held)
+    (node : Node) → history ≡ Recorded events
     → IsOk (found draft (content events) address) → ((other : Node) → told draft history address ≡ Some other
     → held_at held address ≡ Some other)
     → held_at held address ≡ Some node → told draft history address ≡ Some node
 loaded-told draft history events address held node is ok loaded here =
-    subst (λ (h : Option (List Event)). told draft h address ≡ Some node) (sym is)
+    subst (λ (h : History). told draft h address ≡ Some node) (sym is)
     (told-found draft events address node (loaded-found draft history events address held node is ok loaded here))
 
 kept_from : (fresh : Option Node) (node : Node) (P : Type 0)
@@ -166,7 +166,7 @@ fails-formed tree super expected address wanted node broken at is fails =
 
 -- ---- what a reading leaves
 
-pub HasRead-after : (a b c : Held) (h k l : Option (List Event)) (m n o : ℕ) → HasRead a b h k m n → HasRead b c k l n o
+pub HasRead-after : (a b c : Held) (h k l : History) (m n o : ℕ) → HasRead a b h k m n → HasRead b c k l n o
     → HasRead a c h l m o
 HasRead-after a b c h k l m n o first later = record {
   draft = later.draft ∙ first.draft;
@@ -176,7 +176,7 @@ HasRead-after a b c h k l m n o first later = record {
 }
 
 -- what can be read before can be read after it
-pub IsReadable-read : (old new : Held) (before after : Option (List Event)) (bytes left : ℕ) → ArePlaced old.draft bytes
+pub IsReadable-read : (old new : Held) (before after : History) (bytes left : ℕ) → ArePlaced old.draft bytes
     → new.draft ≡ old.draft → left ≡ bytes → IsBacked new after
     → IsReadable new after left
 IsReadable-read old new before after bytes left placed draft size backed =
@@ -187,7 +187,7 @@ placed_none : (fresh : List (ℕ × Node)) (address : ℕ) (node : Node) → fre
 placed_none fresh address node none is = let is' = rw none at is in cc
 
 -- where no node is fresh all can be read that is the disk's
-pub IsReadable-none : (held : Held) (history : Option (List Event)) (bytes : ℕ) → held.draft.fresh ≡ []
+pub IsReadable-none : (held : Held) (history : History) (bytes : ℕ) → held.draft.fresh ≡ []
     → IsBacked held history → IsReadable held history bytes
 IsReadable-none held history bytes none backed = record {
   backed = backed;

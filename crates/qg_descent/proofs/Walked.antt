@@ -5,7 +5,7 @@ use Rattle.std.specs.Prelude.{Bool, ◌&&◌, Result, Ok, Err, nat_le, nat_lt}
 use Rattle.std.specs.List.{list_all}
 use Rattle.std.specs.Result.{result_ok}
 use Rattle.std.proofs.lemmas.Bool.{and_from, and_parts, eq-eqb, le-leb, leb-true}
-use Rattle.qg_device.specs.History.{Event, content}
+use Rattle.qg_device.specs.History.{Event, Recorded, content}
 use Rattle.qg_num.specs.declared.key.Key.{Key}
 use Rattle.qg_num.specs.declared.rule.Rule.TheVariants as rule
 use Rattle.qg_node.specs.declared.item.Item.{Item}
@@ -231,10 +231,10 @@ pub TellsTree-walked : (tree : Tree) (root : Root) (super : Super) (draft : Draf
     → (header_of node).level ≡ root.height)
     → tree_failure tree super (content events) expected root.address ≡ None
     → items_under tree super (node_found super (content events)) root.height expected root.address ≡ Some items
-    → TellsTree tree root draft (Some events) items
+    → TellsTree tree root draft (Recorded events) items
 unfolding tree_failure
 TellsTree-walked tree root super draft events expected items image fresh low from to deep high none items_are =
     let size : draft.sizes.nodesize ≡ super.nodesize = ap (λ (s : Sizes). s.nodesize) image.slots in
     IsTree-walked tree super (super_of root draft) (node_found super (content events))
-    (told draft (Some events)) expected root.height root.address items
+    (told draft (Recorded events)) expected root.height root.address items
     (λ at. told-walked super draft events at image (fresh at)) size low from to deep high none items_are

@@ -11,7 +11,7 @@ use Rattle.qg_image.specs.declared.tree.Tree.{Tree}
 use Rattle.qg_image.specs.Among.{found_there}
 use Rattle.qg_image.specs.Walk.{root_expected, walk_failure}
 use Rattle.qg_walk.specs.Standing.{form_failure}
-use Rattle.qg_device.specs.History.{Event}
+use Rattle.qg_device.specs.History.{History}
 use Rattle.qg_blocks.specs.Held.{Draft}
 use Rattle.qg_blocks.specs.Told.{told}
 
@@ -52,7 +52,7 @@ abbrev pub super_of : Root → Draft → Super
 super_of root draft = super_for root.next draft.sizes.nodesize
 
 -- so is what nodes in memory and a disk tell together, where the tree stands there
-abbrev pub TellsTree : Tree → Root → Draft → Option (List Event) → List Item → Type 0
+abbrev pub TellsTree : Tree → Root → Draft → History → List Item → Type 0
 TellsTree tree root draft history items =
     IsTree tree (super_of root draft) (told draft history) root.height root.address items
 

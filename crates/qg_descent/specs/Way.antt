@@ -4,7 +4,7 @@ use Rattle.std.specs.Prelude.{if◌then◌else◌, ◌<◌, Option, Some, None, 
 use Rattle.std.specs.Prelude.{IsTrue}
 use Rattle.std.specs.List.{list_all}
 use Rattle.std.specs.Ordering.{is_lt}
-use Rattle.qg_device.specs.History.{Event, content}
+use Rattle.qg_device.specs.History.{Event, History, Recorded, content}
 use Rattle.qg_num.specs.Key.{IsKey, key_cmp}
 use Rattle.qg_num.specs.declared.key.Key.{Key}
 use Rattle.qg_num.specs.declared.fault.BlockFault.{BlockFault}
@@ -61,7 +61,7 @@ pub record BreaksOnWay (tree : Tree) (root : Root) (draft : Draft) (events : Lis
     (address : ℕ) : Type 0 where
   pub depth : ℕ
   pub expected : Expected
-  pub comes : ComesTo tree (super_of root draft) (told draft (Some events)) (root_expected (Some root.height) None)
+  pub comes : ComesTo tree (super_of root draft) (told draft (Recorded events)) (root_expected (Some root.height) None)
       root.address depth expected address
   pub breaks : BreaksThere tree (super_of root draft) expected address rule (found draft (content events) address)
 
@@ -76,12 +76,12 @@ FailsOnWay tree root draft events (Err NoMemory) = ⊤
 
 -- what a reading asks: each clean node in memory is the disk's, and each fresh one has a text and a slot inside the
 -- disk
-pub record IsReadable (held : Held) (history : Option (List Event)) (bytes : ℕ) : Type 0 where
+pub record IsReadable (held : Held) (history : History) (bytes : ℕ) : Type 0 where
   pub backed : IsBacked held history
   pub placed : ArePlaced held.draft bytes
 
 -- a reading changes no node, nor the bound of the clean ones, and writes nothing to the disk
-pub record HasRead (old new : Held) (before after : Option (List Event)) (bytes left : ℕ) : Type 0 where
+pub record HasRead (old new : Held) (before after : History) (bytes left : ℕ) : Type 0 where
   pub draft : new.draft ≡ old.draft
   pub bound : new.bound ≡ old.bound
   pub history : after ≡ before
@@ -91,13 +91,13 @@ pub record HasRead (old new : Held) (before after : Option (List Event)) (bytes 
 
 -- a node is in memory at an address, which breaks no rule from `depth` to `shape`. It is the one told there, where one
 -- is told
-pub record IsVisited (tree : Tree) (super : Super) (expected : Expected) (draft : Draft) (history : Option (List Event))
+pub record IsVisited (tree : Tree) (super : Super) (expected : Expected) (draft : Draft) (history : History)
     (held : Held) (address : ℕ) : Type 0 where
   pub node : Node
   pub is : held_at held address ≡ Some node
   pub formed : form_failure tree super expected address node ≡ None
   pub kept : IsNodeAt draft.sizes.nodesize address node
-  pub tells : (events : List Event) → history ≡ Some events → told draft history address ≡ Some node
+  pub tells : (events : List Event) → history ≡ Recorded events → told draft history address ≡ Some node
   pub alone : (other : Node) → told draft history address ≡ Some other → other ≡ node
 
 -- a call that looks at one address answers a rule only where it is broken there
@@ -139,7 +139,7 @@ pub record IsPartFor (key : Key) (to : Option Key) (whole part : List Item) : Ty
   pub behind : Follow to back
 
 -- a way has come to the leaf that a key leads to, which is in memory
-pub record IsReached (tree : Tree) (root : Root) (draft : Draft) (history : Option (List Event)) (key : Key)
+pub record IsReached (tree : Tree) (root : Root) (draft : Draft) (history : History) (key : Key)
     (held : Held) (way : Way) : Type 0 where
   pub header : Header
   pub items : List Item

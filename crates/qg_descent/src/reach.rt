@@ -1,7 +1,7 @@
 // The way down a tree.
 ghost use Rattle.std.specs.Prelude.{◌≡◌, ◌+◌, ◌≤◌, List, None, OnOk, Some, IfOk};
 ghost use Rattle.qg_device.specs.Cause.{HasCause};
-ghost use Rattle.qg_device.specs.History.{Event, content};
+ghost use Rattle.qg_device.specs.History.{Event, Recorded, content};
 ghost use Rattle.qg_node.specs.declared.item.Item.{Item as ItemValue};
 ghost use Rattle.qg_node.specs.declared.node.Node.{Node as NodeValue};
 ghost use Rattle.qg_walk.specs.Standing.{form_failure};
@@ -36,7 +36,7 @@ impl Tree {
         ensures sound { (node : NodeValue) → told blocks.old.draft (D.history disk.old) way.now.address ≡ Some node
             → form_failure P.tree (super_of self.now blocks.old.draft) way.now.expected way.now.address node ≡ None
             → BreaksNone result }
-        ensures broken { (events : List Event) → D.history disk.old ≡ Some events
+        ensures broken { (events : List Event) → D.history disk.old ≡ Recorded events
             → FailsThere P.tree (super_of self.now blocks.old.draft) way.now.expected way.now.address
             (found blocks.old.draft (content events) way.now.address) result }
         ensures readable { IsReadable blocks.new (D.history disk.new) (D.size disk.new) }
@@ -68,7 +68,7 @@ impl Tree {
             (λ way. IsReached P.tree self.now blocks.old.draft (D.history disk.old) key blocks.new way) }
         ensures sound { (items : List ItemValue) → TellsTree P.tree self.now blocks.old.draft (D.history disk.old) items
             → BreaksNone result }
-        ensures broken { (events : List Event) → D.history disk.old ≡ Some events
+        ensures broken { (events : List Event) → D.history disk.old ≡ Recorded events
             → FailsOnWay P.tree self.now blocks.old.draft events result }
         ensures readable { IsReadable blocks.new (D.history disk.new) (D.size disk.new) }
         ensures read { HasRead blocks.old blocks.new (D.history disk.old) (D.history disk.new) (D.size disk.old)

@@ -1,7 +1,7 @@
 // What is read of a tree.
-ghost use Rattle.std.specs.Prelude.{◌≡◌, ◌+◌, ◌*◌, ◌≤◌, List, length, Some, IfOk};
+ghost use Rattle.std.specs.Prelude.{◌≡◌, ◌+◌, ◌*◌, ◌≤◌, List, length, IfOk};
 ghost use Rattle.qg_device.specs.Cause.{HasCause};
-ghost use Rattle.qg_device.specs.History.{Event};
+ghost use Rattle.qg_device.specs.History.{Event, Recorded};
 ghost use Rattle.qg_node.specs.declared.item.Item.{Item as ItemValue};
 ghost use Rattle.qg_blocks.specs.Told.{BreaksNone};
 ghost use Rattle.qg_descent.specs.Reading.{body_at, items_within, last_upto};
@@ -36,7 +36,7 @@ impl Tree {
             → IfOk result (λ body. body ≡ body_at key items) }
         ensures sound { (items : List ItemValue) → TellsTree P.tree self.now blocks.old.draft (D.history disk.old) items
             → BreaksNone result }
-        ensures broken { (events : List Event) → D.history disk.old ≡ Some events
+        ensures broken { (events : List Event) → D.history disk.old ≡ Recorded events
             → FailsOnWay P.tree self.now blocks.old.draft events result }
         ensures readable { IsReadable blocks.new (D.history disk.new) (D.size disk.new) }
         ensures read { HasRead blocks.old blocks.new (D.history disk.old) (D.history disk.new) (D.size disk.old)
@@ -64,7 +64,7 @@ impl Tree {
             → IfOk result (λ item. item ≡ last_upto to items) }
         ensures sound { (items : List ItemValue) → TellsTree P.tree self.now blocks.old.draft (D.history disk.old) items
             → BreaksNone result }
-        ensures broken { (events : List Event) → D.history disk.old ≡ Some events
+        ensures broken { (events : List Event) → D.history disk.old ≡ Recorded events
             → FailsOnWay P.tree self.now blocks.old.draft events result }
         ensures readable { IsReadable blocks.new (D.history disk.new) (D.size disk.new) }
         ensures read { HasRead blocks.old blocks.new (D.history disk.old) (D.history disk.new) (D.size disk.old)
@@ -94,7 +94,7 @@ impl Tree {
             → IfOk result (λ found. found ≡ items_within from to items) }
         ensures sound { (items : List ItemValue) → TellsTree P.tree self.now blocks.old.draft (D.history disk.old) items
             → BreaksNone result }
-        ensures broken { (events : List Event) → D.history disk.old ≡ Some events
+        ensures broken { (events : List Event) → D.history disk.old ≡ Recorded events
             → FailsOnWay P.tree self.now blocks.old.draft events result }
         ensures readable { IsReadable blocks.new (D.history disk.new) (D.size disk.new) }
         ensures read { HasRead blocks.old blocks.new (D.history disk.old) (D.history disk.new) (D.size disk.old)
@@ -127,7 +127,7 @@ impl Tree {
             → IfOk result (λ next. Gathers from to items found.old found.new next) }
         ensures sound { (items : List ItemValue) → TellsTree P.tree self.now blocks.old.draft (D.history disk.old) items
             → BreaksNone result }
-        ensures broken { (events : List Event) → D.history disk.old ≡ Some events
+        ensures broken { (events : List Event) → D.history disk.old ≡ Recorded events
             → FailsOnWay P.tree self.now blocks.old.draft events result }
         ensures readable { IsReadable blocks.new (D.history disk.new) (D.size disk.new) }
         ensures read { HasRead blocks.old blocks.new (D.history disk.old) (D.history disk.new) (D.size disk.old)

@@ -1,11 +1,14 @@
 -- Why a call answers a fault (this project's own). Each object of the outside world counts its faults.
-use Rattle.std.specs.Prelude.{ℕ, ◌+◌, ◌-◌, ◌^◌, ◌≤◌, min, Result, IsErrOf}
+use Rattle.std.specs.Prelude.{◌≡◌, ◌⊎◌, ℕ, Result, OnOk, IfErr}
+use Rattle.qg_device.specs.History.{one_more}
 
--- a count of 64 bits rose, or stands at the last value of its type
-abbrev pub Rose : ℕ → ℕ → Type 0
-Rose before now = min (before + 1) (2 ^ 64 - 1) ≤ now
+-- A call that ends so met this fault once where it ends for it, and never where it ends for anything else: the count
+-- rises by one there, and stands still here
+abbrev pub HasEndCause : {E : Type 0} → E → ℕ → ℕ → E → Type 0
+HasEndCause fault before now end = ((end ≡ fault) × (now ≡ one_more before)) ⊎ ((end ≡ fault → ⊥) × (now ≡ before))
 
--- the count has not fallen, and the call answers this fault only where the count rose in it
+-- A fault is met once, and told: the count rises by one where the call answers this fault, and stands still where it
+-- answers anything else
 pub record HasCause {T E : Type 0} (fault : E) (before now : ℕ) (result : Result T E) : Type 0 where
-  pub later : before ≤ now
-  pub rose : IsErrOf result fault → Rose before now
+  pub fine : OnOk result (now ≡ before)
+  pub met : IfErr result (λ e. HasEndCause fault before now e)

@@ -1,6 +1,7 @@
 -- Small histories, and what they leave.
-use Rattle.std.specs.Prelude.{◌≡◌, [], ◌∷◌, refl}
-use Rattle.qg_device.specs.History.{Wrote, Tore, Cut, CutShort, Synced, content, synced, begun}
+use Rattle.std.specs.Prelude.{◌≡◌, ◌-◌, ◌^◌, [], ◌∷◌, refl}
+use Rattle.qg_device.specs.History.{Recorded, Unrecorded, Wrote, Tore, Cut, CutShort, Synced, history_after, begun}
+use Rattle.qg_device.specs.History.{content, synced, with_event}
 
 -- a gap reads as 0
 gap_reads_as_zero : content (Wrote 3 (7 ∷ []) ∷ Wrote 0 (5 ∷ []) ∷ []) ≡ 5 ∷ 0 ∷ 0 ∷ 7 ∷ []
@@ -28,3 +29,16 @@ sync_keeps_its_moment : synced (Wrote 0 (6 ∷ []) ∷ Synced ∷ Wrote 0 (5 ∷
   content = 5 ∷ [];
 } ∷ []
 sync_keeps_its_moment = refl
+
+-- where events are recorded, one more is told
+event_is_recorded : with_event Synced (Recorded (Cut 2 ∷ [])) ≡ Recorded (Synced ∷ Cut 2 ∷ [])
+event_is_recorded = refl
+
+-- a disk that keeps no record counts writes and cuts, also those that fail, and no sync
+changes_are_counted : history_after (λ events. Synced ∷ Tore 0 (6 ∷ []) [] ∷ Cut 0 ∷ Synced ∷ Wrote 0 (5 ∷ []) ∷ events)
+    (Unrecorded 7) ≡ Unrecorded 10
+changes_are_counted = refl
+
+-- the count stands still at its last value
+last_count_stands_still : with_event (Cut 0) (Unrecorded (2 ^ 64 - 1)) ≡ Unrecorded (2 ^ 64 - 1)
+last_count_stands_still = refl

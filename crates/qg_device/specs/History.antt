@@ -1,6 +1,5 @@
 -- What was done to a disk, and what it holds by that (this project's own). Places and lengths are in bytes.
-use Rattle.std.specs.Prelude.{ℕ, ◌+◌, ◌-◌, List, [], ◌∷◌, ◌++◌, length, take, drop, replicate, Option}
-use Rattle.std.specs.Option.{option_map}
+use Rattle.std.specs.Prelude.{ℕ, ◌+◌, ◌-◌, ◌^◌, min, List, [], ◌∷◌, ◌++◌, length, take, drop, replicate}
 
 -- one thing that was done to a disk
 pub data Event : Type 0 where
@@ -66,6 +65,43 @@ begun (Cut len ∷ older) = begun older
 begun (CutShort len left ∷ older) = begun older
 begun (Synced ∷ older) = begun older
 
--- one event more, where the disk tells
-abbrev pub with_event : Event → Option (List Event) → Option (List Event)
-with_event event history = option_map (λ older. event ∷ older) history
+-- ---- what is known of it
+
+-- what is known of what was done to a disk
+pub data History : Type 0 where
+  -- each event, the newest first
+  Recorded : (events : List Event) → History
+  -- of a disk that keeps no record: how many calls were made that may change it, which are writes and cuts
+  Unrecorded : (changes : ℕ) → History
+
+-- a count of 64 bits once one more was counted; it stands still at the last value of its type
+abbrev pub one_more : ℕ → ℕ
+one_more count = min (count + 1) (2 ^ 64 - 1)
+
+-- how many calls may have changed a disk with one event more: a sync changes nothing
+abbrev pub with_change : Event → ℕ → ℕ
+with_change (Wrote at bytes) changes = one_more changes
+with_change (Tore at asked left) changes = one_more changes
+with_change (Cut len) changes = one_more changes
+with_change (CutShort len left) changes = one_more changes
+with_change Synced changes = changes
+
+-- and with several more, the newest first
+abbrev pub with_changes : List Event → ℕ → ℕ
+with_changes [] changes = changes
+with_changes (event ∷ older) changes = with_change event (with_changes older changes)
+
+-- one event more
+abbrev pub with_event : Event → History → History
+with_event event (Recorded events) = Recorded (event ∷ events)
+with_event event (Unrecorded changes) = Unrecorded (with_change event changes)
+
+-- what is known after steps, each of which adds events
+abbrev pub history_after : (List Event → List Event) → History → History
+history_after steps (Recorded events) = Recorded (steps events)
+history_after steps (Unrecorded changes) = Unrecorded (with_changes (steps []) changes)
+
+-- this holds of the events, where they are recorded
+abbrev pub IfRecorded : History → (List Event → Type 0) → Type 0
+IfRecorded (Recorded events) Holds = Holds events
+IfRecorded (Unrecorded changes) Holds = Unit {0}

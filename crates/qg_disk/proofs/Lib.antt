@@ -2,3 +2,4 @@ pub mod Overlay
 pub mod Sizes
 pub mod Images
 pub mod Crashes
+pub mod Untold

@@ -1,8 +1,8 @@
 -- What the calls of a disk in memory did to it (this project's own).
-use Rattle.std.specs.Prelude.{◌≡◌, Option, Some, unwrap_or, ℕ, ◌+◌, ◌/◌, ◌<◌, ◌^◌, Bool, true, false, List, [], ◌∷◌}
+use Rattle.std.specs.Prelude.{◌≡◌, ℕ, ◌+◌, ◌/◌, ◌<◌, ◌^◌, Bool, true, false, List, [], ◌∷◌}
 use Rattle.std.specs.Prelude.{length, take, fold}
 use Rattle.std.proofs.Common.{ap}
-use Rattle.qg_device.specs.History.{Event, Wrote, Tore, Cut, CutShort, Synced, content}
+use Rattle.qg_device.specs.History.{Event, Recorded, Wrote, Tore, Cut, CutShort, Synced, content}
 use Rattle.qg_disk.specs.declared.call.Request.{Request}
 use Rattle.qg_disk.specs.declared.call.Request.TheVariants as request
 use Rattle.qg_disk.specs.declared.call.Call.{Call}
@@ -34,8 +34,8 @@ Fits (request.Cut len) = Unit {0}
 Fits request.Sync = Unit {0}
 
 -- they leave as many bytes as the history that is told of them
-pub sized_as_told : (calls : List Call) (events : List Event) → Some (history_of calls) ≡ Some events
+pub sized_as_told : (calls : List Call) (events : List Event) → Recorded (history_of calls) ≡ Recorded events
     → size_of calls ≡ length (content events)
 unfolding history_of size_of
 sized_as_told calls events told =
-    ap (λ (history : Option (List Event)). length (content (unwrap_or history []))) told
+    let same : history_of calls ≡ events = cc in ap (λ (list : List Event). length (content list)) same

@@ -1,8 +1,8 @@
 -- A disk in memory that fails where it is told to (this project's own).
-use Rattle.std.specs.Prelude.{◌≡◌, ℕ, ◌+◌, Bool, true, false, ◌||◌, nat_lt, ◌==◌, List, [], ◌∷◌, ◌++◌, length, count_by}
-use Rattle.std.specs.Prelude.{Option, Some, Result, Ok, Err}
+use Rattle.std.specs.Prelude.{◌≡◌, ℕ, ◌+◌, ◌-◌, ◌^◌, min, Bool, true, false, ◌||◌, nat_lt, ◌==◌, List, [], ◌∷◌, ◌++◌}
+use Rattle.std.specs.Prelude.{length, count_by, Result, Ok, Err}
 use Rattle.std.specs.List.{list_any}
-use Rattle.qg_device.specs.History.{Event}
+use Rattle.qg_device.specs.History.{History, Recorded}
 use Rattle.qg_disk.specs.Call.{history_of, size_of}
 use Rattle.qg_disk.specs.declared.call.Request.{Request}
 use Rattle.qg_disk.specs.declared.call.Call.{Call}
@@ -19,16 +19,16 @@ pub record MemoryDisk : Type 0 where
   pub last : ℕ
 
 -- it tells what was done to it, the newest first
-abbrev pub memory_history : MemoryDisk → Option (List Event)
-memory_history disk = Some (history_of disk.calls)
+abbrev pub memory_history : MemoryDisk → History
+memory_history disk = Recorded (history_of disk.calls)
 
 -- its size in bytes is that of what it holds
 abbrev pub memory_size : MemoryDisk → ℕ
 memory_size disk = size_of disk.calls
 
--- how many of its calls have failed
+-- how many of its calls have failed, up to the last number of 64 bits
 abbrev pub memory_faults : MemoryDisk → ℕ
-memory_faults disk = count_by (λ call. call.failed) disk.calls
+memory_faults disk = min (count_by (λ call. call.failed) disk.calls) (2 ^ 64 - 1)
 
 -- whether the next call is to fail
 unfoldable pub fails_next : MemoryDisk → Bool

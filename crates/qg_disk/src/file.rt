@@ -1,6 +1,7 @@
 // A disk that is a file.
-ghost use Rattle.std.specs.Prelude.{◌≡◌, ◌+◌, ◌-◌, ◌^◌, ◌<◌, ◌≤◌, None, length, min, max, OnOk, OnErr};
+ghost use Rattle.std.specs.Prelude.{◌≡◌, ◌+◌, ◌^◌, ◌<◌, ◌≤◌, length, max, OnOk, OnErr};
 ghost use Rattle.qg_device.specs.Cause.{HasCause};
+ghost use Rattle.qg_device.specs.History.{Unrecorded, one_more};
 ghost use Rattle.qg_disk.specs.FileDisk.{CountsFault};
 
 use crate::{Disk, DiskFault};
@@ -14,11 +15,13 @@ use std::marker::Model;
 ///
 /// It keeps the length itself: first what it was made with, then what each call made of it. A write that
 /// fails counts the bytes that the file took before, so that the length stays the file's, and what is
-/// written past it later leaves a gap of zeros. A contract sees the length and the count of faults.
+/// written past it later leaves a gap of zeros. A contract sees the length, the count of calls that may
+/// change the file, and the count of faults.
 #[derive(Drop)]
 pub struct FileDisk<F = File> {
     file: F,
     len: u64,
+    changes: u64,
     faults: u64,
 }
 
@@ -27,17 +30,18 @@ impl<F> Model for FileDisk<F> {
 
     ghost Value = { KnownFile };
 
-    ghost view = { λ d. record { len = d.len; faults = d.faults } };
+    ghost view = { λ d. record { len = d.len; changes = d.changes; faults = d.faults } };
 }
 
 impl<F: Read + Write + Seek + OpenFile> FileDisk<F> {
     /// The file, whose length is `len`.
     pub fn new(file: F, len: u64) -> FileDisk<F>
-        ensures { result ≡ record { len = len; faults = 0 } }
+        ensures { result ≡ record { len = len; changes = 0; faults = 0 } }
     {
         FileDisk {
             file,
             len,
+            changes: 0,
             faults: 0,
         }
     }
@@ -45,6 +49,7 @@ impl<F: Read + Write + Seek + OpenFile> FileDisk<F> {
     // Counts an error of the file as a fault.
     fn counted(&mut self, done: io::Result<()>) -> Result<(), DiskFault>
         ensures len { self.new.len ≡ self.old.len }
+        ensures changes { self.new.changes ≡ self.old.changes }
         ensures counts { CountsFault self.old self.new result }
         ensures cause { HasCause DiskFault.Failed self.old.faults self.new.faults result }
     {
@@ -55,13 +60,21 @@ impl<F: Read + Write + Seek + OpenFile> FileDisk<F> {
     }
 }
 
+// Counts one more, up to the last number of 64 bits.
+fn count(number: &mut u64)
+    ensures counted { number.new ≡ one_more number.old }
+    ensures no_less { number.old ≤ number.new }
+{
+    *number = number.saturating_add(1);
+}
+
 // Counts a fault, up to the last number of 64 bits.
 fn fault(faults: &mut u64) -> DiskFault
     ensures failed { result ≡ DiskFault.Failed }
-    ensures counted { faults.new ≡ min (faults.old + 1) (2 ^ 64 - 1) }
+    ensures counted { faults.new ≡ one_more faults.old }
     ensures no_less { faults.old ≤ faults.new }
 {
-    *faults = faults.saturating_add(1);
+    count(faults);
     DiskFault::Failed
 }
 
@@ -99,13 +112,13 @@ fn write_whole<F: Write + Seek>(file: &mut F, at: u64, bytes: &[u8]) -> usize
 impl<F: Read + Write + Seek + OpenFile> Disk for FileDisk<F> {
     ghost use Rattle.qg_disk.specs.FileDisk.{sized_untold};
 
-    ghost history = { λ _. None };
+    ghost history = { λ d. Unrecorded d.changes };
 
     ghost size = { λ d. d.len };
 
     ghost faults = { λ d. d.faults };
 
-    ghost sized = { λ d events told. sized_untold d.len events told };
+    ghost sized = { λ d events told. sized_untold d.len d.changes events told };
 
     fn len(&self) -> u64 {
         self.len
@@ -114,6 +127,7 @@ impl<F: Read + Write + Seek + OpenFile> Disk for FileDisk<F> {
     fn read(&mut self, at: u64, buf: &mut [u8]) -> Result<(), DiskFault>
         requires { at + length buf.old ≤ self.old.len }
         ensures size { self.new.len ≡ self.old.len }
+        ensures changes { self.new.changes ≡ self.old.changes }
         ensures counts { CountsFault self.old self.new result }
         ensures cause { HasCause DiskFault.Failed self.old.faults self.new.faults result }
     {
@@ -126,9 +140,11 @@ impl<F: Read + Write + Seek + OpenFile> Disk for FileDisk<F> {
         ensures size { OnOk result (self.new.len ≡ max self.old.len (at + length bytes.now)) }
         ensures no_less { self.old.len ≤ self.new.len }
         ensures no_more { self.new.len ≤ max self.old.len (at + length bytes.now) }
+        ensures changes { self.new.changes ≡ one_more self.old.changes }
         ensures counts { CountsFault self.old self.new result }
         ensures cause { HasCause DiskFault.Failed self.old.faults self.new.faults result }
     {
+        count(&mut self.changes);
         if self.len < at {
             let done = self.file.set_len(at);
             self.counted(done)?;
@@ -146,9 +162,11 @@ impl<F: Read + Write + Seek + OpenFile> Disk for FileDisk<F> {
         requires { len ≤ self.old.len }
         ensures ok { OnOk result (self.new.len ≡ len) }
         ensures err { OnErr result (self.new.len ≡ self.old.len) }
+        ensures changes { self.new.changes ≡ one_more self.old.changes }
         ensures counts { CountsFault self.old self.new result }
         ensures cause { HasCause DiskFault.Failed self.old.faults self.new.faults result }
     {
+        count(&mut self.changes);
         let done = self.file.set_len(len);
         self.counted(done)?;
         self.len = len;
@@ -157,6 +175,7 @@ impl<F: Read + Write + Seek + OpenFile> Disk for FileDisk<F> {
 
     fn sync(&mut self) -> Result<(), DiskFault>
         ensures size { self.new.len ≡ self.old.len }
+        ensures changes { self.new.changes ≡ self.old.changes }
         ensures counts { CountsFault self.old self.new result }
         ensures cause { HasCause DiskFault.Failed self.old.faults self.new.faults result }
     {

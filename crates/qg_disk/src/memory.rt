@@ -1,10 +1,10 @@
 // A disk in memory that fails where it is told to, and keeps a record of its calls.
 #![tactic(auto, unfolding(crate::specs::Call::history_of, crate::specs::Call::size_of, crate::specs::MemDisk::fails_next))]
 
-ghost use Rattle.std.specs.Prelude.{◌≡◌, ℕ, ◌+◌, ◌-◌, ◌^◌, ◌<◌, ◌≤◌, List, [], length, max, take, Some, IfOk, OnOk};
+ghost use Rattle.std.specs.Prelude.{◌≡◌, ℕ, ◌+◌, ◌-◌, ◌^◌, ◌<◌, ◌≤◌, List, [], length, max, take, IfOk, OnOk};
 ghost use Rattle.std.specs.Prelude.{IsErrOf};
 ghost use Rattle.qg_device.specs.Cause.{HasCause};
-ghost use Rattle.qg_device.specs.History.{Event, content, range};
+ghost use Rattle.qg_device.specs.History.{Event, Recorded, content, range};
 ghost use Rattle.qg_device.specs.Crash.{Leaves};
 ghost use Rattle.qg_disk.specs.Call.{history_of, Fits};
 ghost use Rattle.qg_disk.specs.Crashed.{crashed};
@@ -45,7 +45,7 @@ impl MemDisk {
         ensures calls { result.calls ≡ [] }
         ensures failing { result.failing ≡ [] }
         ensures last { result.last ≡ 2 ^ 64 - 1 }
-        ensures history { memory_history result ≡ Some [] }
+        ensures history { memory_history result ≡ Recorded [] }
         ensures size { memory_size result ≡ 0 }
     {
         MemDisk {
@@ -137,7 +137,7 @@ impl Disk for MemDisk {
     fn read(&mut self, at: u64, buf: &mut [u8]) -> Result<(), DiskFault>
         requires { at + length buf.old ≤ memory_size self.old }
         ensures answer { Answers self.old self.new (Request.Read at (length buf.old)) result }
-        ensures bytes { (events : List Event) → memory_history self.old ≡ Some events
+        ensures bytes { (events : List Event) → memory_history self.old ≡ Recorded events
             → OnOk result (buf.new ≡ range at (length buf.old) (content events)) }
         ensures history { memory_history self.new ≡ memory_history self.old }
         ensures size { memory_size self.new ≡ memory_size self.old }

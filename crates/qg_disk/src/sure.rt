@@ -1,8 +1,8 @@
 // A disk in memory that never fails.
 #![tactic(auto, unfolding(crate::specs::Call::history_of, crate::specs::Call::size_of))]
 
-ghost use Rattle.std.specs.Prelude.{◌≡◌, ◌+◌, ◌≤◌, List, [], length, IsOk, OnOk, Some};
-ghost use Rattle.qg_device.specs.History.{content, range};
+ghost use Rattle.std.specs.Prelude.{◌≡◌, ◌+◌, ◌≤◌, List, [], length, IsOk, OnOk};
+ghost use Rattle.qg_device.specs.History.{Recorded, content, range};
 ghost use Rattle.qg_disk.specs.Call.{history_of, size_of};
 
 use crate::calls::Calls;
@@ -31,7 +31,7 @@ impl SureDisk {
     /// An empty disk.
     pub fn new(alloc: Global) -> SureDisk
         ensures calls { result ≡ [] }
-        ensures history { Some (history_of result) ≡ Some [] }
+        ensures history { Recorded (history_of result) ≡ Recorded [] }
         ensures size { size_of result ≡ 0 }
     {
         SureDisk {
@@ -43,7 +43,7 @@ impl SureDisk {
 impl Disk for SureDisk {
     ghost use Rattle.qg_disk.specs.Call.{sized_as_told};
 
-    ghost history = { λ calls. Some (history_of calls) };
+    ghost history = { λ calls. Recorded (history_of calls) };
 
     ghost size = { size_of };
 

@@ -1,16 +1,17 @@
 // A disk as the layers above see it.
-ghost use Rattle.std.specs.Prelude.{◌≡◌, ◌+◌, ◌^◌, ◌<◌, ◌≤◌, List, ℕ, length, max, Option, Some, OnOk, IsErrOf};
+ghost use Rattle.std.specs.Prelude.{◌≡◌, ◌+◌, ◌^◌, ◌<◌, ◌≤◌, List, ℕ, length, max, OnOk, IsErrOf};
 ghost use Rattle.qg_device.specs.Cause.{HasCause};
-ghost use Rattle.qg_device.specs.History.{Event, content, range};
+ghost use Rattle.qg_device.specs.History.{Event, History, Recorded, content, range};
 ghost use Rattle.qg_disk.specs.Disk.{Writes, Cuts, Syncs};
 
 use crate::DiskFault;
 
 /// A disk of bytes (this project's own). Places and lengths are in bytes. It may tell what was done to
-/// it, and so what it holds; whether it tells is the same before and after each call.
+/// it, and so what it holds; one that tells nothing counts the calls that may change it. Whether it tells is
+/// the same before and after each call.
 pub trait Disk {
-    /// What was done to it, the newest first, where it tells.
-    ghost history: { Self → Option (List Event) };
+    /// What is known of what was done to it.
+    ghost history: { Self → History };
 
     /// Its length in bytes.
     ghost size: { Self → ℕ };
@@ -25,7 +26,7 @@ pub trait Disk {
     /// Reads the bytes from `at` on. After an `Err` the buffer may hold anything.
     fn read(&mut self, at: u64, buf: &mut [u8]) -> Result<(), DiskFault>
         requires { at + length buf.old ≤ size self.old }
-        ensures bytes { (events : List Event) → history self.old ≡ Some events
+        ensures bytes { (events : List Event) → history self.old ≡ Recorded events
             → OnOk result (buf.new ≡ range at (length buf.old) (content events)) }
         ensures history { history self.new ≡ history self.old }
         ensures size { size self.new ≡ size self.old }
@@ -60,6 +61,6 @@ pub trait Disk {
         ensures cause { HasCause DiskFault.Failed (faults self.old) (faults self.new) result };
 
     /// Where it tells, its size is that of what it holds.
-    ghost sized: { (disk : Self) (events : List Event) → history disk ≡ Some events
+    ghost sized: { (disk : Self) (events : List Event) → history disk ≡ Recorded events
         → size disk ≡ length (content events) };
 }

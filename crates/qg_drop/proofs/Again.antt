@@ -4,7 +4,7 @@ use Rattle.std.proofs.Common.{inl, inr, ◌⊎◌, ◌↔◌}
 use Rattle.std.specs.Prelude.{◌==◌, ◌||◌, IsSome, IsTrue, if◌then◌else◌, is_some}
 use Rattle.std.specs.List.{Contains, filter}
 use Rattle.std.proofs.lemmas.Bool.{cases_Bool, cond-false, cond-true, eq-eqb}
-use Rattle.qg_device.specs.History.{Event}
+use Rattle.qg_device.specs.History.{History}
 use Rattle.qg_super.specs.Places.{is_slot}
 use Rattle.qg_image.specs.Table.{has_key, value_at}
 use Rattle.qg_image.specs.Owed.{layout_extents}
@@ -96,7 +96,7 @@ module _ (state : State) (sub : ℕ) (waiting less : ℕ → Bool)
       let both = closed q node there was at leads in
       (both.0, same at both.0 ∙ both.1)
 
-  module _ (land new : Ground) (history : Option (List Event)) (book : TreeRefs) (space : new.space ≡ land.space)
+  module _ (land new : Ground) (history : History) (book : TreeRefs) (space : new.space ≡ land.space)
       (draft : new.blocks.draft ≡ land.blocks.draft) (holds : HoldsPartly land history book state sub waiting) where
     part_again : (at : ℕ) (placed : Placed) → HoldsPart land history book at placed
         → HoldsPart new history book at placed

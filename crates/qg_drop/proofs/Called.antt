@@ -1,10 +1,10 @@
 -- What the call that drops a subvolume gives on, and what it is given back.
-use Rattle.std.proofs.Common.{◌≡◌, ℕ, ◌+◌, ◌<◌, Bool, true, false, List, [], ◌∷◌, length, Option, Some, None, arith}
+use Rattle.std.proofs.Common.{◌≡◌, ℕ, ◌+◌, ◌<◌, Bool, true, false, List, [], ◌∷◌, length, Some, None, arith}
 use Rattle.std.proofs.Common.{refl, sym, ap, subst, ◌∙◌, add-zero}
 use Rattle.std.specs.Prelude.{◌&&◌, not}
 use Rattle.std.specs.List.{filter}
 use Rattle.std.proofs.lemmas.List.Sums.{sum_by-cons}
-use Rattle.qg_device.specs.History.{Event}
+use Rattle.qg_device.specs.History.{History}
 use Rattle.qg_items.specs.declared.extent.Reference.TheVariants.{KeyedBlock}
 use Rattle.qg_image.specs.Table.{has_key, value_at}
 use Rattle.qg_image.specs.declared.element.Element.{Element}
@@ -39,7 +39,7 @@ none_left : (b : Bool) → (b && not b) ≡ false
 none_left true = refl
 none_left false = refl
 
-module _ (land : Ground) (history : Option (List Event)) (book : TreeRefs) (state : State)
+module _ (land : Ground) (history : History) (book : TreeRefs) (state : State)
     (holds : HoldsState land history book state) (root : Root) (has : has_subvolume state root.owner ≡ true)
     (is : root ≡ tree_of state root.owner) (drafted : IsDrafted land root.next)
     (sound : IsBook (book_of book.refs)) where
@@ -136,7 +136,7 @@ module _ (land : Ground) (history : Option (List Event)) (book : TreeRefs) (stat
 
   -- with nothing open the subvolume is deleted
   pub finished : (height : ℕ) → height ≡ root.height → (from : ℕ) → from ≡ root.address → (new : Ground)
-      (later : Option (List Event)) (left : TreeRefs) → IsDrafted new root.next → IsBook (book_of left.refs)
+      (later : History) (left : TreeRefs) → IsDrafted new root.next → IsBook (book_of left.refs)
       → HoldsPartly new later left state root.owner (without_part state height from first-open)
       → HoldsState new later left (deleted state root.owner)
   finished height high from address new later left still table partly =

@@ -4,7 +4,7 @@ use Rattle.std.proofs.Common.{arith, refl, sym, ap, subst, ◌∙◌, inl, inr}
 use Rattle.std.specs.Prelude.{◌&&◌, ◌==◌, not, if◌then◌else◌}
 use Rattle.std.specs.Option.{option_or}
 use Rattle.std.proofs.lemmas.Bool.{cases_Bool, cond-false, cond-true, eqb-false, eqb-true}
-use Rattle.qg_device.specs.History.{Event}
+use Rattle.qg_device.specs.History.{History, Unrecorded}
 use Rattle.qg_node.specs.declared.node.Node.{Node}
 use Rattle.qg_image.specs.Table.{value_at}
 use Rattle.qg_image.specs.declared.element.Element.{Element}
@@ -64,7 +64,7 @@ or_first : (first last : Option ℕ) → first ≡ None → option_or first last
 or_first None last none = refl
 or_first (Some at) last none = cc
 
-module _ (land : Ground) (history : Option (List Event)) (before after : TreeRefs) (state : State) (sub : ℕ)
+module _ (land : Ground) (history : History) (before after : TreeRefs) (state : State) (sub : ℕ)
     (waiting : ℕ → Bool) (holds : HoldsPartly land history before state sub waiting)
     (is : IsBook (book_of before.refs)) (firm : IsBook (book_of after.refs)) (at : ℕ) (node : Node) (full : Bool)
     (placed : Placed) (there : value_at at state.layout ≡ Some placed) (mark : placed.full ≡ full)
@@ -138,7 +138,7 @@ module _ (land : Ground) (history : Option (List Event)) (before after : TreeRef
     land_goes = record {
       others = λ q differ. left.others history q differ
           ∙ ap (λ (g : Ground). told g.blocks.draft history q) given;
-      fresh = λ q differ. fresh_at-told mid.blocks.draft new.blocks.draft q (left.others None q differ)
+      fresh = λ q differ. fresh_at-told mid.blocks.draft new.blocks.draft q (left.others (Unrecorded 0) q differ)
           ∙ ap (λ (g : Ground). fresh_at g.blocks.draft q) given;
       none = none_first (fresh_at new.blocks.draft at) (clean_at new.blocks at) (lets none_then).0;
       space = (lets none_then).1

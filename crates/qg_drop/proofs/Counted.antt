@@ -6,7 +6,7 @@ use Rattle.std.specs.List.{All}
 use Rattle.std.proofs.lemmas.Bool.{eqb-true, or_cases}
 use Rattle.std.proofs.lemmas.List.Sums.{sum_by-cons}
 use Rattle.std.proofs.lemmas.Option.{same_Some}
-use Rattle.qg_device.specs.History.{Event}
+use Rattle.qg_device.specs.History.{History}
 use Rattle.qg_node.specs.declared.node.Node.{Node}
 use Rattle.qg_node.specs.declared.node.Node.TheVariants.{Inner}
 use Rattle.qg_node.specs.declared.pointer.Pointer.{Pointer}
@@ -41,14 +41,14 @@ use Rattle.qg_drop.proofs.Opened.{key_of}
 use Rattle.qg_drop.proofs.Ways.{ways-lead, ways-sum}
 
 -- what is told is told once nodes were read
-pub tells-read : (draft after : Draft) (history then : Option (List Event)) (state : State) → after ≡ draft
+pub tells-read : (draft after : Draft) (history then : History) (state : State) → after ≡ draft
     → then ≡ history → TellsNodes draft history state → TellsNodes after then state
 tells-read draft after history then state same still tells =
     subst (λ (d : Draft). TellsNodes d then state) (sym same)
-    (subst (λ (h : Option (List Event)). TellsNodes draft h state) (sym still) tells)
+    (subst (λ (h : History). TellsNodes draft h state) (sym still) tells)
 
 -- two readings one after the other are one
-pub read-on : (old mid new : Held) (a b c : Option (List Event)) (x y z : ℕ) → HasRead old mid a b x y
+pub read-on : (old mid new : Held) (a b c : History) (x y z : ℕ) → HasRead old mid a b x y
     → HasRead mid new b c y z → HasRead old new a c x z
 read-on old mid new a b c x y z first second = record {
   draft = second.draft ∙ first.draft;
@@ -64,7 +64,7 @@ pub form_super : (super : Super) (expected : Expected) (at : ℕ) (node : Node)
 unfolding way_failure
 form_super super expected at node = refl
 
-module _ (draft : Draft) (history : Option (List Event)) (state : State) (tells : TellsNodes draft history state)
+module _ (draft : Draft) (history : History) (state : State) (tells : TellsNodes draft history state)
   where
     abbrev nodes : ℕ → Option Node
     nodes = node_at state.layout

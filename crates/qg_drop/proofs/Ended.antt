@@ -8,7 +8,7 @@ use Rattle.std.specs.Option.{option_map}
 use Rattle.std.specs.Result.{result_ok}
 use Rattle.std.proofs.lemmas.Bool.{true≢false}
 use Rattle.std.proofs.lemmas.Option.{same_Some}
-use Rattle.qg_device.specs.History.{Event}
+use Rattle.qg_device.specs.History.{History}
 use Rattle.qg_node.specs.declared.item.Item.{Item}
 use Rattle.qg_node.specs.declared.node.Node.{Node}
 use Rattle.qg_node.specs.Fits.{NodeFits}
@@ -158,7 +158,7 @@ module _ (before after : State) (super_is : super_to_come after ≡ super_to_com
 abbrev pub none_open : ℕ → Bool
 none_open q = false
 
-module _ (land : Ground) (history : Option (List Event)) (book : TreeRefs) (state : State) (sub : ℕ)
+module _ (land : Ground) (history : History) (book : TreeRefs) (state : State) (sub : ℕ)
     (holds : HoldsPartly land history book state sub none_open) (drafted : IsDrafted land (next_generation state))
     (is : IsBook (book_of book.refs))
     (newer_apart : (at : ℕ) (placed : Placed) → value_at at state.layout ≡ Some placed

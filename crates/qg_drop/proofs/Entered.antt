@@ -8,7 +8,7 @@ use Rattle.std.proofs.lemmas.Bool.{cases_Bool, cond-false, cond-true, eq-eqb, eq
 use Rattle.std.proofs.lemmas.Bool.{true≢false}
 use Rattle.std.proofs.lemmas.Bool.Decides.{eqb_tells}
 use Rattle.std.proofs.lemmas.Option.{same_Some}
-use Rattle.qg_device.specs.History.{Event}
+use Rattle.qg_device.specs.History.{History}
 use Rattle.qg_items.specs.declared.extent.Reference.{Reference}
 use Rattle.qg_items.specs.declared.extent.Reference.TheVariants.{KeyedBlock}
 use Rattle.qg_node.specs.declared.node.Node.{Node}
@@ -84,7 +84,7 @@ what_some None what is = let wrong : ◌≡◌ {A = Option What} None (Some what
 what_some (Some kept) what is = (kept, refl, same_Some kept.what what is)
 
 -- what is fresh is told
-pub fresh-told : (land : Ground) (history : Option (List Event)) (at : ℕ) (node : Node)
+pub fresh-told : (land : Ground) (history : History) (at : ℕ) (node : Node)
     → fresh_at land.blocks.draft at ≡ Some node → told land.blocks.draft history at ≡ Some node
 unfolding told
 fresh-told land history at node is =
@@ -92,7 +92,7 @@ fresh-told land history at node is =
 
 -- ---- a state that is held
 
-module _ (land : Ground) (history : Option (List Event)) (book : TreeRefs) (state : State)
+module _ (land : Ground) (history : History) (book : TreeRefs) (state : State)
     (holds : HoldsState land history book state) (drafted : IsDrafted land (next_generation state))
     (is : IsBook (book_of book.refs)) where
   abbrev old : Book

@@ -7,7 +7,7 @@ use Rattle.std.proofs.lemmas.Bool.{cases_Bool, eq-eqb, ne_eqb}
 use Rattle.std.proofs.lemmas.Bool.Decides.{eqb_tells}
 use Rattle.std.proofs.lemmas.List.Sums.{sum_by-cons}
 use Rattle.std.proofs.lemmas.Option.{same_Some}
-use Rattle.qg_device.specs.History.{Event}
+use Rattle.qg_device.specs.History.{History}
 use Rattle.qg_node.specs.declared.node.Node.{Node}
 use Rattle.qg_node.specs.declared.node.Node.TheVariants.{Inner}
 use Rattle.qg_node.specs.declared.pointer.Pointer.{Pointer}
@@ -39,13 +39,13 @@ use Rattle.qg_drop.proofs.Dropped.{count-inner, count-pointers, parts-sum, told-
 use Rattle.qg_drop.proofs.Opened.{below-reached, key_of, named-apart, open-part, reached-below}
 use Rattle.qg_drop.proofs.Under.{branches_here, not_top, open_below, top-open, top-there}
 
-module _ (land : Ground) (history : Option (List Event)) (book : TreeRefs) (state : State) (sub : ℕ)
+module _ (land : Ground) (history : History) (book : TreeRefs) (state : State) (sub : ℕ)
     (waiting : ℕ → Bool) (holds : HoldsPartly land history book state sub waiting) where
   -- what is held is held once a node was read
-  pub holds-read : (blocks : Held) (after : Option (List Event)) → blocks.draft ≡ land.blocks.draft → after ≡ history
+  pub holds-read : (blocks : Held) (after : History) → blocks.draft ≡ land.blocks.draft → after ≡ history
       → HoldsPartly (record land { blocks = blocks }) after book state sub waiting
   holds-read blocks after draft same =
-      subst (λ (h : Option (List Event)). HoldsPartly (record land { blocks = blocks }) h book state sub waiting)
+      subst (λ (h : History). HoldsPartly (record land { blocks = blocks }) h book state sub waiting)
       (sym same)
       (holds-again state sub waiting waiting (λ q key. refl) land (record land { blocks = blocks }) history book refl
       draft holds)
@@ -121,7 +121,7 @@ module _ (land : Ground) (history : Option (List Event)) (book : TreeRefs) (stat
       | inr closed ↦ rw closed refl
     ]
 
-    pub leaf-leaves : level ≡ 0 → (new : Ground) (after : Option (List Event)) (next : TreeRefs)
+    pub leaf-leaves : level ≡ 0 → (new : Ground) (after : History) (next : TreeRefs)
         → HoldsPartly new after next state sub less
         → HoldsPartly new after next state sub (without_part state level at waiting)
     leaf-leaves low new after next parted =
@@ -156,7 +156,7 @@ module _ (land : Ground) (history : Option (List Event)) (book : TreeRefs) (stat
 
       pub inner-leaves : (children : List Child) → children
           ≡ children_told (book_of book.refs) part.way.expected.to lower (own_pointers node)
-          → (new : Ground) (after : Option (List Event)) (next : TreeRefs)
+          → (new : Ground) (after : History) (next : TreeRefs)
           → HoldsPartly new after next state sub
           (without_parts state lower (map (λ part. part.way.address) children) less)
           → HoldsPartly new after next state sub (without_part state level at waiting)

@@ -7,7 +7,7 @@ use Rattle.std.specs.Option.{option_map}
 use Rattle.std.proofs.lemmas.Bool.{cases_Bool, cond-false, cond-true, eq-eqb, eqb-true, or_cases, or_left}
 use Rattle.std.proofs.lemmas.List.Elements.{Contains-append_left, Contains-append_right}
 use Rattle.std.proofs.lemmas.Option.{none-some}
-use Rattle.qg_device.specs.History.{Event}
+use Rattle.qg_device.specs.History.{History}
 use Rattle.qg_node.specs.declared.node.Node.{Node}
 use Rattle.qg_super.specs.declared.sizes.Sizes.{Sizes}
 use Rattle.qg_super.specs.Places.{is_run, is_served}
@@ -102,7 +102,7 @@ in_flat {A} {B} f (z ∷ zs) x y has has' = elim (contains_cases z zs x has) [
 
 -- ---- open nodes
 
-module _ (land : Ground) (history : Option (List Event)) (book : TreeRefs) (state : State) (sub : ℕ)
+module _ (land : Ground) (history : History) (book : TreeRefs) (state : State) (sub : ℕ)
     (waiting : ℕ → Bool) (holds : HoldsPartly land history book state sub waiting)
     (served : is_served land.space.sizes ≡ true) where
   pub open-there : (q : ℕ) (placed : Placed) → value_at q state.layout ≡ Some placed → waiting q ≡ true

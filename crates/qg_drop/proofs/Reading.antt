@@ -4,7 +4,7 @@ use Rattle.std.specs.Prelude.{is_some}
 use Rattle.std.specs.Option.{option_or}
 use Rattle.std.proofs.lemmas.Bool.{or_left}
 use Rattle.std.proofs.lemmas.Option.{same_Some}
-use Rattle.qg_device.specs.History.{Event}
+use Rattle.qg_device.specs.History.{History}
 use Rattle.qg_node.specs.declared.node.Node.{Node}
 use Rattle.qg_image.specs.Table.{value_at}
 use Rattle.qg_image.specs.Reach.{is_reached}
@@ -22,7 +22,7 @@ use Rattle.qg_tree_refs.specs.Following.{IsExchanged, exchange_by_parting, full_
 use Rattle.qg_drop.specs.Dropping.{HoldsPartly}
 use Rattle.qg_drop.proofs.Partly.{its-address, kept-value, now, now-node}
 
-module _ (land : Ground) (history : Option (List Event)) (before : TreeRefs) (state : State) (sub : ℕ)
+module _ (land : Ground) (history : History) (before : TreeRefs) (state : State) (sub : ℕ)
     (waiting : ℕ → Bool) (holds : HoldsPartly land history before state sub waiting)
     (is : IsBook (book_of before.refs)) (at : ℕ) (node : Node) (full : Bool)
     (placed : Placed) (there : value_at at state.layout ≡ Some placed) (mark : placed.full ≡ full)

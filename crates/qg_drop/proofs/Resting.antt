@@ -1,7 +1,7 @@
 -- What is left so over any disk, once runs were given back and a node was let go.
-use Rattle.std.proofs.Common.{◌≡◌, ℕ, ◌<◌, ◌≤◌, List, [], ◌∷◌, length, Option, None, arith, refl, sym, ap, subst, ◌∙◌}
+use Rattle.std.proofs.Common.{◌≡◌, ℕ, ◌<◌, ◌≤◌, List, [], ◌∷◌, length, None, arith, refl, sym, ap, subst, ◌∙◌}
 use Rattle.std.specs.Prelude.{Err, IsErrAnd, Ok, Result}
-use Rattle.qg_device.specs.History.{Event}
+use Rattle.qg_device.specs.History.{History}
 use Rattle.qg_num.specs.declared.fault.BlockFault.{BlockFault}
 use Rattle.qg_image.specs.declared.element.Element.{Element}
 use Rattle.qg_blocks.specs.Told.{BreaksNone, IsBacked, held_at}
@@ -14,7 +14,7 @@ use Rattle.qg_ground.proofs.Lands.{IsDrafted-fewer}
 use Rattle.qg_ground.proofs.Slots.{free_slots-same}
 use Rattle.qg_drop.specs.Dropping.{RestsButRuns}
 
-pub RestsButRuns-same : (land : Ground) (history : Option (List Event)) (generation : ℕ)
+pub RestsButRuns-same : (land : Ground) (history : History) (generation : ℕ)
     → IsBacked land.blocks history → IsDrafted land generation → RestsButRuns land land history generation
 RestsButRuns-same land history generation backed drafted = record {
   backed = backed;
@@ -35,7 +35,7 @@ module _ (land mid new : Ground) (gone : List Element)
       (IsDrafted-fewer land (record land { space = record land.space { runs = without_runs gone land.space.runs } })
       generation refl refl refl (λ at node there. (there, λ has. has)) drafted)
 
-  pub RestsButRuns-given : (history : Option (List Event)) (generation : ℕ)
+  pub RestsButRuns-given : (history : History) (generation : ℕ)
       → free_slots land.space ≤ free_slots new.space
       → (IsBacked mid.blocks history → IsDrafted mid generation → Rests mid new history generation)
       → IsBacked land.blocks history → IsDrafted land generation → RestsButRuns land new history generation

@@ -8,7 +8,7 @@ use Rattle.std.proofs.lemmas.Bool.{cases_Bool, ltb-false, ltb-true, or_left, tru
 use Rattle.std.proofs.lemmas.Bool.Decides.{eqb_tells}
 use Rattle.std.proofs.lemmas.List.Elements.{All-nil, Contains-append_cases, Contains-get_or}
 use Rattle.std.proofs.lemmas.Option.{same_Some}
-use Rattle.qg_device.specs.History.{Event}
+use Rattle.qg_device.specs.History.{History}
 use Rattle.qg_items.specs.declared.extent.Reference.{Reference}
 use Rattle.qg_items.specs.declared.extent.Reference.TheVariants.{KeyedBlock, SharedBlock, KeyedData, SharedData}
 use Rattle.qg_node.specs.declared.node.Node.{Node}
@@ -58,7 +58,7 @@ turns_bare count placed tree turns = by (count == 0) (owner_of placed == tree) p
   by false true false is = refl
   by false false full is = absurd cc
 
-module _ (land : Ground) (history : Option (List Event)) (book : TreeRefs) (state : State) (sub : ℕ)
+module _ (land : Ground) (history : History) (book : TreeRefs) (state : State) (sub : ℕ)
     (waiting : ℕ → Bool) (holds : HoldsPartly land history book state sub waiting)
     (at : ℕ) (placed : Placed) (there : value_at at state.layout ≡ Some placed) (waits : waiting at ≡ true) where
   -- what an open node owes is there
@@ -104,7 +104,7 @@ value_of_key : (state : State) (q : ℕ) (o : Option Placed) → value_at q stat
 value_of_key state q None here some = absurd (true≢false (sym some))
 value_of_key state q (Some p) here some = (p, here)
 
-module _ (land : Ground) (history : Option (List Event)) (book : TreeRefs) (state : State) (sub : ℕ)
+module _ (land : Ground) (history : History) (book : TreeRefs) (state : State) (sub : ℕ)
     (waiting : ℕ → Bool) (holds : HoldsPartly land history book state sub waiting) (is : IsBook (book_of book.refs))
     (at : ℕ) (placed : Placed) (there : value_at at state.layout ≡ Some placed) (waits : waiting at ≡ true) where
   abbrev named : Placed
@@ -168,7 +168,7 @@ module _ (land : Ground) (history : Option (List Event)) (book : TreeRefs) (stat
 
 -- ---- shared references in place of keyed ones
 
-module _ (land : Ground) (history : Option (List Event)) (book : TreeRefs) (state : State) (sub : ℕ)
+module _ (land : Ground) (history : History) (book : TreeRefs) (state : State) (sub : ℕ)
     (waiting : ℕ → Bool) (holds : HoldsPartly land history book state sub waiting) (is : IsBook (book_of book.refs))
     (fitting : (q : ℕ) (reference : Reference) → count_at (book_of book.refs) q reference ≤ greatest_count reference)
     (small : state.sizes.nodesize ≤ 16384)

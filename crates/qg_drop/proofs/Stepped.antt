@@ -8,7 +8,7 @@ use Rattle.std.proofs.lemmas.Bool.{and_parts, cases_Bool, cond-false, cond-true,
 use Rattle.std.proofs.lemmas.Bool.{or_cases, or_left, or_right, true≢false}
 use Rattle.std.proofs.lemmas.Bool.Decides.{eqb_tells}
 use Rattle.std.proofs.lemmas.Option.{same_Some}
-use Rattle.qg_device.specs.History.{Event}
+use Rattle.qg_device.specs.History.{History}
 use Rattle.qg_node.specs.declared.node.Node.{Node}
 use Rattle.qg_node.specs.Nodes.{header_of, own_pointers}
 use Rattle.qg_super.specs.declared.sizes.Sizes.{Sizes}
@@ -50,7 +50,7 @@ use Rattle.qg_drop.proofs.Parted.{agrees-then, but, but_here, but_past, full-bef
 use Rattle.qg_drop.proofs.Parted.{reached-some, some-reached}
 
 -- a node has gone from memory with its slot, and runs are given back
-pub record LandGoes (land new : Ground) (history : Option (List Event)) (at : ℕ) (gone : List Element) : Type 0 where
+pub record LandGoes (land new : Ground) (history : History) (at : ℕ) (gone : List Element) : Type 0 where
   pub others : (q : ℕ) → q ≢ at → told new.blocks.draft history q ≡ told land.blocks.draft history q
   pub fresh : (q : ℕ) → q ≢ at → fresh_at new.blocks.draft q ≡ fresh_at land.blocks.draft q
   pub none : fresh_at new.blocks.draft at ≡ None
@@ -76,7 +76,7 @@ pub record IsNamed (state : State) (sub : ℕ) (waiting : ℕ → Bool) (run : E
   pub stays : keeps state sub waiting from ≡ true
   pub names : Contains (named_by placed.node) run
 
-module _ (land : Ground) (history : Option (List Event)) (book : TreeRefs) (state : State) (sub : ℕ)
+module _ (land : Ground) (history : History) (book : TreeRefs) (state : State) (sub : ℕ)
     (waiting : ℕ → Bool) (holds : HoldsPartly land history book state sub waiting) where
   pub named-from : (w : ℕ → Bool) (run : Element) → Contains (layout_extents (layout_partly state sub w)) run
       → IsNamed state sub w run
@@ -109,7 +109,7 @@ module _ (land : Ground) (history : Option (List Event)) (book : TreeRefs) (stat
       let owes = named-run w run named in
       extents-named (layout_partly state sub w) owes.entry run owes.has owes.names
 
-module _ (land : Ground) (history : Option (List Event)) (book : TreeRefs) (state : State) (sub : ℕ)
+module _ (land : Ground) (history : History) (book : TreeRefs) (state : State) (sub : ℕ)
     (waiting : ℕ → Bool) (holds : HoldsPartly land history book state sub waiting) (is : IsBook (book_of book.refs))
     (at : ℕ) (placed : Placed) (there : value_at at state.layout ≡ Some placed) (waits : waiting at ≡ true)
     (under : IsUnder state waiting at) (after : TreeRefs) (firm : IsBook (book_of after.refs))

@@ -1,13 +1,11 @@
 -- What stands while the parts of a tree are dropped one after the other.
-use Rattle.std.proofs.Common.{◌≡◌, ℕ, zero, suc, ◌<◌, ◌+◌, ◌*◌, ◌≤◌, Bool, List, [], ◌∷◌, length, map, Option, Some}
+use Rattle.std.proofs.Common.{◌≡◌, ℕ, zero, suc, ◌<◌, ◌+◌, ◌*◌, ◌≤◌, Bool, List, [], ◌∷◌, length, map}
 use Rattle.std.proofs.Common.{arith, refl, sym, ap, subst, ◌∙◌}
 use Rattle.std.specs.Prelude.{Err, IsErrAnd, Ok, OnOk, Result}
 use Rattle.std.specs.List.{filter}
 use Rattle.std.proofs.lemmas.List.Sums.{sum_by-cons}
-use Rattle.qg_device.specs.Cause.{HasCause}
-use Rattle.qg_device.specs.History.{Event}
+use Rattle.qg_device.specs.History.{Event, History, Recorded}
 use Rattle.qg_num.specs.declared.fault.BlockFault.{BlockFault}
-use Rattle.qg_num.specs.declared.fault.BlockFault.TheVariants.{Disk}
 use Rattle.qg_super.specs.Places.{second_place}
 use Rattle.qg_image.specs.Table.{has_key}
 use Rattle.qg_image.specs.Reach.{distinct, reach_under}
@@ -21,18 +19,18 @@ use Rattle.qg_weighed.specs.Weight.{weight_of}
 use Rattle.qg_tree_refs.specs.declared.tree_refs.TreeRefs.{TreeRefs}
 use Rattle.qg_tree_edits.specs.Editing.{IsEditable}
 use Rattle.qg_tree_refs.specs.Heavier.{BookGetsHeavier}
-use Rattle.qg_drop.proofs.Resting.{RestsButRuns-same, handed}
+use Rattle.qg_drop.proofs.Resting.{RestsButRuns-same}
 use Rattle.qg_drop.specs.declared.child.Child.{Child}
 use Rattle.qg_drop.specs.Dropping.{AreParts, HoldsPartly, RestsButRuns, parts_reached, without_part, without_parts}
 
 -- ---- what a call leaves so
 
-pub rests-still : (land : Ground) (history : Option (List Event)) (bytes generation : ℕ)
+pub rests-still : (land : Ground) (history : History) (bytes generation : ℕ)
     → IsEditable land history bytes generation → RestsButRuns land land history generation
 rests-still land history bytes generation editable =
     RestsButRuns-same land history generation editable.backed editable.drafted
 
-pub rests-on : (old mid new : Ground) (before after : Option (List Event)) (generation : ℕ)
+pub rests-on : (old mid new : Ground) (before after : History) (generation : ℕ)
     → RestsButRuns old mid before generation → RestsButRuns mid new after generation
     → RestsButRuns old new after generation
 rests-on old mid new before after generation first last = record {
@@ -47,7 +45,7 @@ rests-on old mid new before after generation first last = record {
 }
 
 -- reading leaves it so
-pub rests-read : (land : Ground) (blocks : Held) (after : Option (List Event)) (generation : ℕ)
+pub rests-read : (land : Ground) (blocks : Held) (after : History) (generation : ℕ)
     → blocks.draft ≡ land.blocks.draft → blocks.bound ≡ land.blocks.bound → IsBacked blocks after
     → IsDrafted land generation → RestsButRuns land (record land { blocks = blocks }) after generation
 rests-read land blocks after generation draft bound backed drafted =
@@ -63,7 +61,7 @@ rests-read land blocks after generation draft bound backed drafted =
       slots = omega arith;
     }
 
-pub edit-still : (land new : Ground) (before after : Option (List Event)) (bytes left generation : ℕ)
+pub edit-still : (land new : Ground) (before after : History) (bytes left generation : ℕ)
     → IsEditable land before bytes generation → left ≡ bytes → RestsButRuns land new after generation
     → IsEditable new after left generation
 edit-still land new before after bytes left generation editable size rests = record {
@@ -74,24 +72,11 @@ edit-still land new before after bytes left generation editable size rests = rec
 
 -- ---- an answer that is handed on
 
-pub never-err : {A : Type 0} (x : A) (fault : BlockFault) → ◌≡◌ {A = Result A BlockFault} (Ok x) (Err fault) → ⊥
-never-err {A} x fault is = cc
-
 -- it promises nothing of one that ended well
 pub never-ok : {T : Type 0} (result : Result T BlockFault) (fault : BlockFault)
     → IsErrAnd result (λ given. given ≡ fault) → (P : Type 0) → OnOk result P
 never-ok (Ok x) fault is P = absurd is
 never-ok (Err given) fault is P = tt
-
--- so its cause
-pub cause-handed : {B : Type 0} (before mid now : ℕ) (result : Result B BlockFault) (fault : BlockFault)
-    → IsErrAnd result (λ given. given ≡ fault) → before ≤ mid
-    → HasCause {T = B} Disk mid now (Err fault) → HasCause {T = B} Disk before now result
-cause-handed {B} before mid now result fault is earlier cause =
-    subst (λ (r : Result B BlockFault). HasCause {T = B} Disk before now r) (sym (handed result fault is)) (record {
-      later = let later = cause.later in omega (arith, later, earlier);
-      rose = λ disk. let rose = cause.rose disk in omega (arith, rose, earlier);
-    })
 
 -- ---- weights
 
@@ -152,7 +137,7 @@ reached-first state level part parts =
 
 -- the nodes that are open still, of which the rest are parts; so many nodes were visited
 pub record Went (state : State) (sub level capacity : ℕ) (waiting : ℕ → Bool) (parts rest : List Child) (land : Ground)
-    (history told : Option (List Event)) (old book : TreeRefs) (before reads : ℕ) : Type 0 where
+    (history told : History) (old book : TreeRefs) (before reads : ℕ) : Type 0 where
   pub left : ℕ → Bool
   pub holds : HoldsPartly land history book state sub left
   pub are : AreParts state left level rest
@@ -160,11 +145,11 @@ pub record Went (state : State) (sub level capacity : ℕ) (waiting : ℕ → Bo
       ≡ without_parts state level (map (λ part. part.way.address) parts) waiting
   pub passed : ℕ
   pub counted : passed + parts_reached state level rest ≡ parts_reached state level parts
-  pub few : (events : List Event) → told ≡ Some events → reads ≤ before + passed
+  pub few : (events : List Event) → told ≡ Recorded events → reads ≤ before + passed
   pub heavier : BookGetsHeavier old book (passed * capacity)
 
 module _ (state : State) (sub level capacity : ℕ) (waiting : ℕ → Bool) (parts : List Child) where
-  pub went-none : (land : Ground) (history told : Option (List Event)) (book : TreeRefs) (reads : ℕ)
+  pub went-none : (land : Ground) (history told : History) (book : TreeRefs) (reads : ℕ)
       → HoldsPartly land history book state sub waiting → AreParts state waiting level parts
       → Went state sub level capacity waiting parts parts land history told book book reads reads
   went-none land history told book reads holds are = record {
@@ -178,11 +163,11 @@ module _ (state : State) (sub level capacity : ℕ) (waiting : ℕ → Bool) (pa
     heavier = weighs-same book book (0 * capacity) refl;
   }
 
-  pub went-on : (part : Child) (rest : List Child) (land new : Ground) (history after told : Option (List Event))
+  pub went-on : (part : Child) (rest : List Child) (land new : Ground) (history after told : History)
       (old book next : TreeRefs) (before reads later : ℕ)
       → (went : Went state sub level capacity waiting parts (part ∷ rest) land history told old book before reads)
       → HoldsPartly new after next state sub (without_part state level part.way.address went.left)
-      → ((events : List Event) → told ≡ Some events → later ≤ reads + parts_reached state level (part ∷ []))
+      → ((events : List Event) → told ≡ Recorded events → later ≤ reads + parts_reached state level (part ∷ []))
       → BookGetsHeavier book next (parts_reached state level (part ∷ []) * capacity)
       → Went state sub level capacity waiting parts rest new after told old next before later
   went-on part rest land new history after told old book next before reads later went holds more heavier =
@@ -204,22 +189,22 @@ module _ (state : State) (sub level capacity : ℕ) (waiting : ℕ → Bool) (pa
             (weighs-on old book next (went.passed * capacity) (one * capacity) went.heavier heavier);
       }
 
-  pub went-all : (land : Ground) (history told : Option (List Event)) (old book : TreeRefs) (before reads : ℕ)
+  pub went-all : (land : Ground) (history told : History) (old book : TreeRefs) (before reads : ℕ)
       → Went state sub level capacity waiting parts [] land history told old book before reads
       → HoldsPartly land history book state sub
       (without_parts state level (map (λ part. part.way.address) parts) waiting)
   went-all land history told old book before reads went =
       subst (HoldsPartly land history book state sub) went.same went.holds
 
-  pub few-all : (land : Ground) (history told : Option (List Event)) (old book : TreeRefs) (before reads : ℕ)
+  pub few-all : (land : Ground) (history told : History) (old book : TreeRefs) (before reads : ℕ)
       → Went state sub level capacity waiting parts [] land history told old book before reads
-      → (events : List Event) → told ≡ Some events → reads ≤ before + parts_reached state level parts
+      → (events : List Event) → told ≡ Recorded events → reads ≤ before + parts_reached state level parts
   few-all land history told old book before reads went events is =
       let a = went.few events is in
       let b = went.counted in
       omega (arith, a, b)
 
-  pub weighs-all : (land : Ground) (history told : Option (List Event)) (old book : TreeRefs) (before reads : ℕ)
+  pub weighs-all : (land : Ground) (history told : History) (old book : TreeRefs) (before reads : ℕ)
       → Went state sub level capacity waiting parts [] land history told old book before reads
       → BookGetsHeavier old book (parts_reached state level parts * capacity)
   weighs-all land history told old book before reads went =
@@ -227,10 +212,10 @@ module _ (state : State) (sub level capacity : ℕ) (waiting : ℕ → Bool) (pa
       subst (λ (n : ℕ). BookGetsHeavier old book (n * capacity)) same went.heavier
 
   -- a part that was not dropped whole
-  pub few-part : (part : Child) (rest : List Child) (land : Ground) (history told : Option (List Event))
+  pub few-part : (part : Child) (rest : List Child) (land : Ground) (history told : History)
       (old book : TreeRefs) (before reads later : ℕ)
       → Went state sub level capacity waiting parts (part ∷ rest) land history told old book before reads
-      → (events : List Event) → told ≡ Some events → later ≤ reads + parts_reached state level (part ∷ [])
+      → (events : List Event) → told ≡ Recorded events → later ≤ reads + parts_reached state level (part ∷ [])
       → later ≤ before + parts_reached state level parts
   few-part part rest land history told old book before reads later went events is more =
       let a = went.few events is in

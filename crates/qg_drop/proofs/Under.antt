@@ -3,7 +3,7 @@ use Rattle.std.proofs.Common.{◌≡◌, ℕ, zero, suc, ◌-◌, ◌<◌, Bool,
 use Rattle.std.proofs.Common.{subst, ◌∙◌, inl, inr}
 use Rattle.std.specs.Prelude.{◌==◌, ◌&&◌, not, slice_get}
 use Rattle.std.proofs.lemmas.Bool.{and_from, and_parts, cases_Bool, eq-eqb, eqb-true, false≢true}
-use Rattle.qg_device.specs.History.{Event}
+use Rattle.qg_device.specs.History.{History}
 use Rattle.qg_node.specs.declared.node.Node.{Node}
 use Rattle.qg_node.specs.declared.node.Node.TheVariants.{Inner}
 use Rattle.qg_node.specs.declared.pointer.Pointer.{Pointer}
@@ -47,7 +47,7 @@ form_none super expected at node None is none = is
 form_none super expected at node (Some failure) is none =
     let wrong = sym none ∙ node_failure-form Files super expected at node failure is in absurd cc
 
-module _ (land : Ground) (history : Option (List Event)) (book : TreeRefs) (state : State) (sub : ℕ)
+module _ (land : Ground) (history : History) (book : TreeRefs) (state : State) (sub : ℕ)
     (waiting : ℕ → Bool) (holds : HoldsPartly land history book state sub waiting)
     (served : is_served land.space.sizes ≡ true) (level : ℕ) (part : Child) (is : IsPart state waiting level part) where
   abbrev at : ℕ

@@ -1,6 +1,6 @@
 -- What a book weighs once a node was parted with.
 use Rattle.std.proofs.Common.{◌≡◌, ℕ, ◌≤◌, List, Option, Some, None, arith, sym, ap, subst, ◌∙◌}
-use Rattle.qg_device.specs.History.{Event}
+use Rattle.qg_device.specs.History.{History}
 use Rattle.std.specs.Option.{option_or}
 use Rattle.qg_node.specs.declared.node.Node.{Node}
 use Rattle.qg_node.specs.Nodes.{used_bytes}
@@ -26,7 +26,7 @@ node_of : (fresh clean : Option Node) (node : Node) → first_of fresh clean ≡
 node_of (Some n) clean node held P by_fresh by_clean = by_fresh node held
 node_of None clean node held P by_fresh by_clean = by_clean node held
 
-pub held-node : (land : Ground) (history : Option (List Event)) (generation at : ℕ) (node : Node)
+pub held-node : (land : Ground) (history : History) (generation at : ℕ) (node : Node)
     → IsBacked land.blocks history → IsDrafted land generation → held_at land.blocks at ≡ Some node
     → IsNodeAt land.space.sizes.nodesize at node
 held-node land history generation at node backed drafted held =

@@ -1,7 +1,7 @@
 -- Where a state is held its nodes are told, the way to a subvolume's root leads to a branch, and the nodes are few.
 use Rattle.std.proofs.Common.{◌≡◌, ℕ, ◌≤◌, true, List, Option, Some, None, refl, sym, ap, subst, ◌∙◌}
 use Rattle.std.specs.Option.{option_map}
-use Rattle.qg_device.specs.History.{Event}
+use Rattle.qg_device.specs.History.{History}
 use Rattle.qg_node.specs.declared.node.Node.{Node}
 use Rattle.qg_node.specs.Nodes.{is_ascending, own_keys}
 use Rattle.qg_super.specs.declared.sizes.Sizes.{Sizes}
@@ -44,7 +44,7 @@ reach_value state sub mine there =
     ap (λ (o : Option ℕ). reach_of (layout_of state) o) (root-valued sub state.subvolumes
     ∙ ap (λ (o : Option Subvolume). option_map (λ (s : Subvolume). s.root) o) there)
 
-module _ (land : Ground) (history : Option (List Event)) (book : TreeRefs) (state : State)
+module _ (land : Ground) (history : History) (book : TreeRefs) (state : State)
     (holds : HoldsState land history book state) (ground : IsGround land) where
   -- the nodes are told, and no extent lies where one does
   pub tells-held : TellsNodes land.blocks.draft history state

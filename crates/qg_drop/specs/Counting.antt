@@ -1,7 +1,7 @@
 -- How many nodes a subvolume reaches (this project's own). Addresses are in bytes.
 use Rattle.std.specs.Prelude.{◌≡◌, ℕ, List, [], ◌∷◌, length, map, Option, Some, None, IsTrue}
 use Rattle.std.specs.List.{filter, sum_by}
-use Rattle.qg_device.specs.History.{Event}
+use Rattle.qg_device.specs.History.{History}
 use Rattle.qg_num.specs.declared.key.Key.{Key}
 use Rattle.qg_node.specs.declared.item.Item.{Item}
 use Rattle.qg_node.specs.declared.pointer.Pointer.{Pointer}
@@ -26,7 +26,7 @@ ways_told to level (pointer ∷ others) =
     record { address = pointer.child; expected = expected_below level to pointer others } ∷ ways_told to level others
 
 -- the nodes of a layout are told by nodes in memory and a disk. No extent that one of them names lies where a node does
-pub record TellsNodes (draft : Draft) (history : Option (List Event)) (state : State) : Type 0 where
+pub record TellsNodes (draft : Draft) (history : History) (state : State) : Type 0 where
   pub nodesize : draft.sizes.nodesize ≡ state.sizes.nodesize
   pub tells : (at : ℕ) (placed : Placed) → value_at at state.layout ≡ Some placed
       → told draft history at ≡ Some placed.node

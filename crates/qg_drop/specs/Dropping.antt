@@ -7,7 +7,7 @@ use Rattle.std.specs.Prelude.{Some, None, IsSome, IsTrue, Result, OnOk, Contains
 use Rattle.std.specs.List.{filter, filter_map, sum_by}
 use Rattle.std.specs.List.Sorted.{IsStrictlyIncreasing}
 use Rattle.std.specs.Option.{option_and_then}
-use Rattle.qg_device.specs.History.{Event}
+use Rattle.qg_device.specs.History.{History}
 use Rattle.qg_num.specs.declared.key.Key.{Key}
 use Rattle.qg_node.specs.declared.item.Item.{Item}
 use Rattle.qg_node.specs.declared.node.Node.{Node}
@@ -83,7 +83,7 @@ IsClosed state waiting = (q : ℕ) (node : Node) → node_at state.layout q ≡ 
     → IsTrue (has_key at state.layout) × IsTrue (waiting at)
 
 -- a node of the layout is told meanwhile. Where references lead to it the book knows what it is, and its mark
-pub record HoldsPart (land : Ground) (history : Option (List Event)) (book : TreeRefs) (at : ℕ)
+pub record HoldsPart (land : Ground) (history : History) (book : TreeRefs) (at : ℕ)
     (placed : Placed) : Type 0 where
   pub slot : IsTrue (is_slot land.space.sizes at)
   pub told : told land.blocks.draft history at ≡ Some placed.node
@@ -95,7 +95,7 @@ pub record HoldsPart (land : Ground) (history : Option (List Event)) (book : Tre
 -- counts exactly what that owes. The state is whole, each node that is not full is reached by its owner, and what open
 -- nodes lead to is open. Slots and runs are taken that this takes; what lies in a slot is fresh, or the last commit
 -- holds it
-pub record HoldsPartly (land : Ground) (history : Option (List Event)) (book : TreeRefs) (state : State) (sub : ℕ)
+pub record HoldsPartly (land : Ground) (history : History) (book : TreeRefs) (state : State) (sub : ℕ)
     (waiting : ℕ → Bool) : Type 0 where
   pub sizes : state.sizes ≡ land.space.sizes
   pub nodesize : book.nodesize ≡ state.sizes.nodesize
@@ -125,7 +125,7 @@ pub record HoldsPartly (land : Ground) (history : Option (List Event)) (book : T
 
 -- what a call leaves so, whatever it answers: clean nodes are those of the disk, fresh ones may be written, sizes and
 -- the bound on clean nodes are as they were, and so is what the last commit holds; no slot fewer is free
-pub record RestsButRuns (old new : Ground) (history : Option (List Event)) (generation : ℕ) : Type 0 where
+pub record RestsButRuns (old new : Ground) (history : History) (generation : ℕ) : Type 0 where
   pub backed : IsBacked new.blocks history
   pub drafted : IsDrafted new generation
   pub node_sizes : new.blocks.draft.sizes ≡ old.blocks.draft.sizes

@@ -1,7 +1,7 @@
 // How many nodes a subvolume reaches.
-ghost use Rattle.std.specs.Prelude.{◌≡◌, ◌+◌, ◌-◌, ◌^◌, ◌≤◌, min, List, Option, Some, All, IfOk, IsTrue};
+ghost use Rattle.std.specs.Prelude.{◌≡◌, ◌+◌, ◌-◌, ◌^◌, ◌≤◌, min, List, Some, All, IfOk, IsTrue};
 ghost use Rattle.qg_device.specs.Cause.{HasCause};
-ghost use Rattle.qg_device.specs.History.{Event};
+ghost use Rattle.qg_device.specs.History.{Event, Recorded};
 ghost use Rattle.qg_node.specs.Nodes.{own_pointers};
 ghost use Rattle.qg_image.specs.State.{State as MachineState, has_subvolume, next_generation};
 ghost use Rattle.qg_machine.specs.Refusals.{nodes_reached};
@@ -40,7 +40,8 @@ pub fn count_nodes<D: Disk, L: Ledger>(
     ensures counted { (state : MachineState) (book : BookOfTree) → HoldsState land.old (D.history disk.old) book state
         → IsTrue (has_subvolume state tree.now.owner) → tree.now ≡ tree_of state tree.now.owner
         → IfOk result (λ count. count ≡ nodes_reached state tree.now.owner) }
-    ensures sound { (state : MachineState) (book : BookOfTree) (events : List Event) → D.history disk.old ≡ Some events
+    ensures sound { (state : MachineState) (book : BookOfTree) (events : List Event)
+        → D.history disk.old ≡ Recorded events
         → HoldsState land.old (D.history disk.old) book state
         → IsTrue (has_subvolume state tree.now.owner) → tree.now ≡ tree_of state tree.now.owner → BreaksNone result }
     ensures reads { (state : MachineState) (book : BookOfTree) → HoldsState land.old (D.history disk.old) book state

@@ -1,7 +1,7 @@
 // A subvolume's tree, dropped whole.
 ghost use Rattle.std.specs.Prelude.{◌≡◌, ◌+◌, ◌*◌, ◌≤◌, ◌∷◌, [], ℕ, Bool, List, Some, All, OnOk, IsTrue, map};
 ghost use Rattle.qg_device.specs.Cause.{HasCause};
-ghost use Rattle.qg_device.specs.History.{Event};
+ghost use Rattle.qg_device.specs.History.{Event, Recorded};
 ghost use Rattle.qg_super.specs.Places.{capacity};
 ghost use Rattle.qg_image.specs.State.{State as MachineState, has_subvolume, next_generation};
 ghost use Rattle.qg_machine.specs.Refusals.{nodes_reached};
@@ -47,10 +47,10 @@ pub fn drop_all<D: Disk, L: Ledger>(
     ensures dropped { (state : MachineState) → HoldsState land.old (D.history disk.old) book.old state
         → IsTrue (has_subvolume state tree.now.owner) → tree.now ≡ tree_of state tree.now.owner
         → OnOk result (HoldsState land.new (D.history disk.new) book.new (deleted state tree.now.owner)) }
-    ensures sound { (state : MachineState) (events : List Event) → D.history disk.old ≡ Some events
+    ensures sound { (state : MachineState) (events : List Event) → D.history disk.old ≡ Recorded events
         → HoldsState land.old (D.history disk.old) book.old state
         → IsTrue (has_subvolume state tree.now.owner) → tree.now ≡ tree_of state tree.now.owner → BreaksNone result }
-    ensures reads { (state : MachineState) (events : List Event) → D.history disk.old ≡ Some events
+    ensures reads { (state : MachineState) (events : List Event) → D.history disk.old ≡ Recorded events
         → HoldsState land.old (D.history disk.old) book.old state
         → IsTrue (has_subvolume state tree.now.owner) → tree.now ≡ tree_of state tree.now.owner
         → reads.new ≤ reads.old + nodes_reached state tree.now.owner }
@@ -99,11 +99,13 @@ fn drop_under<D: Disk, L: Ledger>(
         → IsPart state waiting level part.now
         → OnOk result (HoldsPartly land.new (D.history disk.new) book.new state tree.now.owner
         (without_part state level part.now.way.address waiting)) }
-    ensures sound { (state : MachineState) (waiting : ℕ → Bool) (events : List Event) → D.history disk.old ≡ Some events
+    ensures sound { (state : MachineState) (waiting : ℕ → Bool) (events : List Event)
+        → D.history disk.old ≡ Recorded events
         → tree.now.next ≡ next_generation state
         → HoldsPartly land.old (D.history disk.old) book.old state tree.now.owner waiting
         → IsPart state waiting level part.now → BreaksNone result }
-    ensures reads { (state : MachineState) (waiting : ℕ → Bool) (events : List Event) → D.history disk.old ≡ Some events
+    ensures reads { (state : MachineState) (waiting : ℕ → Bool) (events : List Event)
+        → D.history disk.old ≡ Recorded events
         → HoldsPartly land.old (D.history disk.old) book.old state tree.now.owner waiting
         → IsPart state waiting level part.now
         → reads.new ≤ reads.old + parts_reached state level (part.now ∷ []) }
@@ -162,11 +164,13 @@ fn drop_each<D: Disk, L: Ledger>(
         → AreParts state waiting level parts.now
         → OnOk result (HoldsPartly land.new (D.history disk.new) book.new state tree.now.owner
         (without_parts state level (map (λ part. part.way.address) parts.now) waiting)) }
-    ensures sound { (state : MachineState) (waiting : ℕ → Bool) (events : List Event) → D.history disk.old ≡ Some events
+    ensures sound { (state : MachineState) (waiting : ℕ → Bool) (events : List Event)
+        → D.history disk.old ≡ Recorded events
         → tree.now.next ≡ next_generation state
         → HoldsPartly land.old (D.history disk.old) book.old state tree.now.owner waiting
         → AreParts state waiting level parts.now → BreaksNone result }
-    ensures reads { (state : MachineState) (waiting : ℕ → Bool) (events : List Event) → D.history disk.old ≡ Some events
+    ensures reads { (state : MachineState) (waiting : ℕ → Bool) (events : List Event)
+        → D.history disk.old ≡ Recorded events
         → HoldsPartly land.old (D.history disk.old) book.old state tree.now.owner waiting
         → AreParts state waiting level parts.now
         → reads.new ≤ reads.old + parts_reached state level parts.now }

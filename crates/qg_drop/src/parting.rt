@@ -1,6 +1,6 @@
 // One node that a subvolume reaches no more.
-ghost use Rattle.std.specs.Prelude.{◌≡◌, ◌≤◌, ◌&&◌, ◌==◌, ℕ, Bool, List, Option, IfErr, IsSome, IsTrue, OnOk, not};
-ghost use Rattle.qg_device.specs.History.{Event};
+ghost use Rattle.std.specs.Prelude.{◌≡◌, ◌≤◌, ◌&&◌, ◌==◌, ℕ, Bool, List, IfErr, IsSome, IsTrue, OnOk, not};
+ghost use Rattle.qg_device.specs.History.{History};
 ghost use Rattle.qg_image.specs.Table.{value_at};
 ghost use Rattle.qg_image.specs.State.{Placed as PlacedValue, State as MachineState};
 ghost use Rattle.qg_super.specs.Places.{capacity};
@@ -30,22 +30,22 @@ pub(crate) fn part_with(
     full: bool,
 ) -> Result<(), BlockFault>
     requires held { IsSome (held_at land.old.blocks at) }
-    ensures parted { (state : MachineState) (sub : ℕ) (waiting : ℕ → Bool) (history : Option (List Event))
+    ensures parted { (state : MachineState) (sub : ℕ) (waiting : ℕ → Bool) (history : History)
         (placed : PlacedValue)
         → IsBacked land.old.blocks history → HoldsPartly land.old history book.old state sub waiting
         → value_at at state.layout ≡ Some placed → placed.full ≡ full → IsTrue (waiting at) → IsUnder state waiting at
         → OnOk result (HoldsPartly land.new history book.new state sub (λ q. waiting q && not (q == at))) }
-    ensures sound { (state : MachineState) (sub : ℕ) (waiting : ℕ → Bool) (history : Option (List Event))
+    ensures sound { (state : MachineState) (sub : ℕ) (waiting : ℕ → Bool) (history : History)
         (placed : PlacedValue)
         (generation : ℕ) → IsBacked land.old.blocks history → IsDrafted land.old generation
         → HoldsPartly land.old history book.old state sub waiting → value_at at state.layout ≡ Some placed
         → placed.full ≡ full → IsTrue (waiting at) → IsUnder state waiting at → BreaksNone result }
     ensures slots { free_slots land.old.space ≤ free_slots land.new.space }
     ensures book { StaysBook book.old book.new result }
-    ensures heavier { (history : Option (List Event)) (generation : ℕ) → IsBacked land.old.blocks history
+    ensures heavier { (history : History) (generation : ℕ) → IsBacked land.old.blocks history
         → IsDrafted land.old generation
         → OnOk result (BookGetsHeavier book.old book.new (capacity land.old.space.sizes.nodesize)) }
-    ensures rests { (history : Option (List Event)) (generation : ℕ) → IsBacked land.old.blocks history
+    ensures rests { (history : History) (generation : ℕ) → IsBacked land.old.blocks history
         → IsDrafted land.old generation → RestsButRuns land.old land.new history generation }
     ensures no_disk { IfErr result (λ fault. fault ≡ BlockFault.Disk → ⊥) }
 {

@@ -7,7 +7,7 @@ use std::alloc::{AllocError, AllocFailed};
 /// Why a source or a sink could not do what it was asked (this project's own).
 #[derive(Clone, Copy, Debug, PartialEq, Eq)]
 pub enum EdgeFault {
-    /// The object failed, and its count of faults rose.
+    /// The object failed, and counted a fault.
     Failed,
     /// Memory was refused, and the object's bytes are unchanged. Only an object in memory answers it.
     NoMemory,

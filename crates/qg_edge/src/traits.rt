@@ -15,7 +15,7 @@ pub trait Source {
     /// The bytes that were not taken yet, in order; `None` where the source tells nothing of them.
     ghost bytes_left: { Self → Option (List ℕ) };
 
-    /// How many calls of `take` have failed.
+    /// How many calls of `take` have failed, up to the last number of 64 bits.
     ghost faults: { Self → ℕ };
 
     /// Moves some of the bytes that are left to the front of the buffer and answers how many, none
@@ -31,7 +31,7 @@ pub trait Source {
         ensures none_at_end { IfOk result (λ count. bytes_left self.old ≡ Some [] → count ≡ 0) }
         ensures err { OnErr result (bytes_left self.new ≡ bytes_left self.old) }
 
-        // The count of faults never falls, and `Failed` comes only where it rose.
+        // The count of faults rises by one where it answers `Failed`, and stands still where it answers anything else.
         ensures cause { HasCause EdgeFault.Failed (faults self.old) (faults self.new) result };
 }
 
@@ -40,7 +40,7 @@ pub trait Sink {
     /// The bytes that were put, in order; `None` where the sink tells nothing of them.
     ghost bytes_held: { Self → Option (List ℕ) };
 
-    /// How many calls of `put` have failed.
+    /// How many calls of `put` have failed, up to the last number of 64 bits.
     ghost faults: { Self → ℕ };
 
     /// Appends the piece. A put that fails appends a front of it, and one for which memory is refused
@@ -51,6 +51,6 @@ pub trait Sink {
             AppendsFront (bytes_held self.old) (bytes_held self.new) piece.now }
         ensures no_memory { result ≡ Err EdgeFault.NoMemory → bytes_held self.new ≡ bytes_held self.old }
 
-        // The count of faults never falls, and `Failed` comes only where it rose.
+        // The count of faults rises by one where it answers `Failed`, and stands still where it answers anything else.
         ensures cause { HasCause EdgeFault.Failed (faults self.old) (faults self.new) result };
 }

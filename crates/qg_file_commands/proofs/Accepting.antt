@@ -1,6 +1,6 @@
 -- What a command that reserves knows between its judgement and what it holds. All in bytes.
 use Rattle.std.proofs.Common.{◌≡◌, ℕ, ◌+◌, ◌≤◌, true, List, Option, sym, ap, subst, ◌∙◌, arith, inl, inr}
-use Rattle.qg_device.specs.History.{Event}
+use Rattle.qg_device.specs.History.{History}
 use Rattle.qg_node.specs.NodeText.{IsNodeSize}
 use Rattle.qg_image.specs.Table.{has_key}
 use Rattle.qg_image.specs.State.{State}
@@ -30,7 +30,7 @@ pub quota-turned : (old new : Kept) → SameButClean old new → new.quota ≡ o
 quota-turned old new same = ap (λ (kept : Kept). kept.quota) same.rest
 
 -- and where nodes were read
-pub quota-read : (old new : Kept) (before after : Option (List Event)) (bytes left : ℕ)
+pub quota-read : (old new : Kept) (before after : History) (bytes left : ℕ)
     → HasReadNodes old new before after bytes left → new.quota ≡ old.quota
 quota-read old new before after bytes left looked = ap (λ (kept : Kept). kept.quota) looked.same
 
@@ -38,7 +38,7 @@ quota-read old new before after bytes left looked = ap (λ (kept : Kept). kept.q
 pub nodesize-turned : (old new : Kept) → SameButClean old new → new.superblock.nodesize ≡ old.superblock.nodesize
 nodesize-turned old new same = ap (λ (kept : Kept). kept.superblock.nodesize) same.rest
 
-pub nodesize-read : (old new : Kept) (before after : Option (List Event)) (bytes left : ℕ)
+pub nodesize-read : (old new : Kept) (before after : History) (bytes left : ℕ)
     → HasReadNodes old new before after bytes left → new.superblock.nodesize ≡ old.superblock.nodesize
 nodesize-read old new before after bytes left looked = ap (λ (kept : Kept). kept.superblock.nodesize) looked.same
 
@@ -75,7 +75,7 @@ module _ (kept : Kept) (fits : IsFitted kept) where
 
 -- ---- the judgement
 
-module _ (kept : Kept) (state : State) (history : Option (List Event)) (keeps : IsKeptOf kept state history)
+module _ (kept : Kept) (state : State) (history : History) (keeps : IsKeptOf kept state history)
     (fits : IsFitted kept) (sub n : ℕ) (judged : Judged) (told : refusal_in judged ≡ over_limit state sub n) where
   -- of a write's amount
   pub judged-range : (len : ℕ) → n ≡ write_reserves kept len

@@ -1,6 +1,6 @@
 -- What comes of a clone, told by what is kept. Positions and lengths are in bytes.
 use Rattle.std.proofs.Common.{◌≡◌, ℕ, ◌+◌, ◌≤◌, true, List, [], Some, None, Option, refl, sym, ap, subst, ◌∙◌}
-use Rattle.qg_device.specs.History.{Event}
+use Rattle.qg_device.specs.History.{History}
 use Rattle.qg_num.specs.declared.answer.Answer.TheVariants.{Done, Refused}
 use Rattle.qg_num.specs.declared.command.Command.TheVariants.{Clone}
 use Rattle.qg_num.specs.declared.refusal.Refusal.{Refusal}
@@ -29,7 +29,7 @@ use Rattle.qg_kept.proofs.Stepped.{Follows, IsLate, Reserves, change_to, does_ed
 use Rattle.qg_kept.proofs.Stepped.{late-refusal, reserves-so}
 
 -- it is refused
-pub refuses-clone : (kept : Kept) (state : State) (history : Option (List Event))
+pub refuses-clone : (kept : Kept) (state : State) (history : History)
     (sub ino off len to_sub to_ino to_off : ℕ) (reason : Refusal) → IsKeptOf kept state history
     → clone_refusal state sub ino off len to_sub to_ino to_off ≡ Some reason
     → Answered state (Clone sub ino off len to_sub to_ino to_off) (Refused reason) [] kept history
@@ -38,7 +38,7 @@ refuses-clone kept state history sub ino off len to_sub to_ino to_off reason kee
     (early-clone state sub ino off len to_sub to_ino to_off reason is)
 
 -- a limit is passed
-pub refuses-limit : (kept : Kept) (state : State) (history : Option (List Event))
+pub refuses-limit : (kept : Kept) (state : State) (history : History)
     (sub ino off len to_sub to_ino to_off : ℕ) (reason : Refusal) → IsKeptOf kept state history
     → clone_refusal state sub ino off len to_sub to_ino to_off ≡ None
     → over_limit state to_sub state.sizes.nodesize ≡ Some reason
@@ -48,20 +48,20 @@ refuses-limit kept state history sub ino off len to_sub to_ino to_off reason kee
     (limit-clone state sub ino off len to_sub to_ino to_off reason passes passed)
 
 -- the subvolume at hand is the source
-pub source-there : (kept : Kept) (state : State) (history : Option (List Event)) (keeps : IsKeptOf kept state history)
+pub source-there : (kept : Kept) (state : State) (history : History) (keeps : IsKeptOf kept state history)
     (sub : ℕ) → kept.fs.tree.owner ≡ sub → value_at sub state.subvolumes ≡ Some keeps.mine
 source-there kept state history keeps sub hand =
     ap (λ (n : ℕ). value_at n state.subvolumes) (sym hand) ∙ keeps.keeps.there
 
 -- a subvolume that was there is there still, as the state is the same
-pub target-listed : (old kept : Kept) (state : State) (before history : Option (List Event))
+pub target-listed : (old kept : Kept) (state : State) (before history : History)
     → IsKeptOf old state before → IsKeptOf kept state history → (sub : ℕ) → has_key sub old.snapshots ≡ true
     → has_key sub kept.snapshots ≡ true
 target-listed old kept state before history first keeps sub is =
     sym (sub-known kept state history keeps sub) ∙ sub-known old state before first sub ∙ is
 
 -- It may go on into a file of the subvolume at hand, from a file of a subvolume, and so many pieces are touched
-module _ (kept : Kept) (state : State) (history : Option (List Event))
+module _ (kept : Kept) (state : State) (history : History)
     (bytes sub ino off len to_sub to_ino to_off pieces : ℕ) (source : Subvolume) (fits : IsKept kept history bytes)
     (keeps : IsKeptOf kept state history) (table : IsTable kept.fs.refs.refs)
     (there : value_at sub state.subvolumes ≡ Some source) (hand : to_sub ≡ kept.fs.tree.owner)
@@ -101,7 +101,7 @@ module _ (kept : Kept) (state : State) (history : Option (List Event))
   amount-told : (reserved : ℕ) → reserved ≡ clone_reserves kept → reserved ≡ amount
   amount-told reserved is = is ∙ sym (ap (λ (sizes : Sizes). sizes.nodesize) fits.fitted.sizes)
 
-  pub clones : (fs : FsTree) (quota : Option QuotaState) (after : Option (List Event))
+  pub clones : (fs : FsTree) (quota : Option QuotaState) (after : History)
       → None ≡ slots_refusal kept pieces
       → Follows kept fs state keeps.mine history files_now pieces → after ≡ history → Reserves kept quota amount
       → Answered state (Clone sub ino off len to_sub to_ino to_off) Done [] (edited kept fs quota) after
@@ -112,7 +112,7 @@ module _ (kept : Kept) (state : State) (history : Option (List Event))
       files_now amount pieces fits keeps table is-late enough refl follows same quota reserves (λ done. done))
 
   -- the range was cloned, and so many bytes were reserved
-  pub cloned : (fs : FsTree) (new : Kept) (after : Option (List Event)) (left reserved : ℕ)
+  pub cloned : (fs : FsTree) (new : Kept) (after : History) (left reserved : ℕ)
       → new ≡ edited kept fs new.quota → reserved ≡ clone_reserves kept → Reserves kept new.quota reserved
       → IsTable new.fs.refs.refs → None ≡ slots_refusal kept pieces
       → need_of kept pieces ≤ free_slots kept.fs.land.space

@@ -3,7 +3,7 @@ use Rattle.std.proofs.Common.{◌≡◌, ℕ, ◌+◌, ◌*◌, ◌≤◌, List,
 use Rattle.std.specs.Prelude.{IfNone, None}
 use Rattle.std.specs.List.{Contains}
 use Rattle.std.specs.List.Sorted.{IsPermutation, IsStrictlyIncreasing}
-use Rattle.qg_device.specs.History.{Event}
+use Rattle.qg_device.specs.History.{History}
 use Rattle.qg_num.specs.declared.refusal.Refusal.{Refusal}
 use Rattle.qg_super.specs.Places.{total_bytes}
 use Rattle.qg_super.specs.SuperText.{sizes_of}
@@ -57,7 +57,7 @@ abbrev pub with_trees : Kept → FsTree → Kept
 with_trees old fs = record old { fs = fs }
 
 -- the trees were edited, and the command isn't counted yet
-pub kept-changed : (old : Kept) (fs : FsTree) (before after : Option (List Event)) (bytes left : ℕ)
+pub kept-changed : (old : Kept) (fs : FsTree) (before after : History) (bytes left : ℕ)
     → IsKept old before bytes → LeavesHeld old.fs fs before after bytes left → StaysOwn old.fs fs
     → IsKept (with_trees old fs) after left
 kept-changed old fs before after bytes left kept held stays = record {
@@ -97,7 +97,7 @@ fitted-more kept fits = record {
   drafted = fits.drafted;
 }
 
-pub kept-edited : (old : Kept) (fs : FsTree) (new : Kept) (before after : Option (List Event)) (bytes left : ℕ)
+pub kept-edited : (old : Kept) (fs : FsTree) (new : Kept) (before after : History) (bytes left : ℕ)
     → IsKept old before bytes → LeavesHeld old.fs fs before after bytes left → StaysOwn old.fs fs
     → new ≡ edited old fs old.quota → IsKept new after left
 kept-edited old fs new before after bytes left kept held stays is =
@@ -115,7 +115,7 @@ module _ (old : Kept) (fs : FsTree) (new : Kept)
   pub accepted-is : new ≡ edited old fs new.quota
   accepted-is = rest ∙ ap (λ (n : ℕ). record old { fs = fs; quota = new.quota; pending = n }) more
 
-  pub kept-accepted : (before after : Option (List Event)) (bytes left : ℕ) → IsKept old before bytes
+  pub kept-accepted : (before after : History) (bytes left : ℕ) → IsKept old before bytes
       → LeavesHeld old.fs fs before after bytes left → StaysOwn old.fs fs → IsFitted new → IsKept new after left
   kept-accepted before after bytes left kept held stays fitted =
       let changed = kept-changed old fs before after bytes left kept held stays in

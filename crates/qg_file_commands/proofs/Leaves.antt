@@ -1,7 +1,7 @@
 -- What an edit leaves follows the state, and leaves the slots that a commit may want. Weights are in bytes.
-use Rattle.std.proofs.Common.{◌≡◌, ℕ, ◌+◌, ◌*◌, ◌^◌, ◌<◌, ◌≤◌, List, Option, sym, ap, subst, arith}
+use Rattle.std.proofs.Common.{◌≡◌, ℕ, ◌+◌, ◌*◌, ◌^◌, ◌<◌, ◌≤◌, List, sym, ap, subst, arith}
 use Rattle.std.proofs.Common.{inl, inr}
-use Rattle.qg_device.specs.History.{Event}
+use Rattle.qg_device.specs.History.{History}
 use Rattle.qg_node.specs.NodeText.{IsNodeSize}
 use Rattle.qg_super.specs.declared.sizes.Sizes.{Sizes}
 use Rattle.qg_image.specs.declared.file.File.{File}
@@ -48,7 +48,7 @@ pub parts-need : (book root quota all left : ℕ) → book + root + quota ≤ al
 parts-need book root quota all left parts enough = omega (arith, parts, enough)
 
 -- a tree that is left for the next edit, with a table of references
-module _ (old : Kept) (fs : FsTree) (before after : Option (List Event)) (bytes left : ℕ) (state : State)
+module _ (old : Kept) (fs : FsTree) (before after : History) (bytes left : ℕ) (state : State)
     (files : List (ℕ × File)) (pieces : ℕ) (fits : IsKept old before bytes) (keeps : IsKeptOf old state before)
     (table : IsTable old.fs.refs.refs) (table_new : IsTable fs.refs.refs)
     (held : LeavesHeld old.fs fs before after bytes left)
@@ -67,7 +67,7 @@ module _ (old : Kept) (fs : FsTree) (before after : Option (List Event)) (bytes 
   tree-now : step.IsKept fs before left
   tree-now =
       let kept : step.IsKept fs after left = record { subvolume = held.subvolume; table = table_new; near = near } in
-      subst (λ (history : Option (List Event)). step.IsKept fs history left) held.history kept
+      subst (λ (history : History). step.IsKept fs history left) held.history kept
 
   weighs : book_weight (edited old fs old.quota) ≤ book_weight old
       + ((pieces + 3) * edit_bytes old.fs.land.space.sizes.nodesize 3 + names * name_new_bytes)

@@ -1,7 +1,7 @@
 -- What is told of a file, and why it is not, by what is kept. Sizes are in bytes.
 use Rattle.std.proofs.Common.{◌≡◌, ℕ, false, List, [], ◌∷◌, None, Some, Option, refl, sym, ap, subst, ◌∙◌}
 use Rattle.std.specs.Prelude.{MatchOption, is_none}
-use Rattle.qg_device.specs.History.{Event}
+use Rattle.qg_device.specs.History.{History}
 use Rattle.qg_num.specs.declared.answer.Answer.TheVariants as answer
 use Rattle.qg_num.specs.declared.command.Command.TheVariants.{Ls}
 use Rattle.qg_num.specs.declared.refusal.Refusal.{Refusal}
@@ -20,7 +20,7 @@ use Rattle.qg_kept.proofs.Known.{file-known, file-missing, hand-there, no-other}
 use Rattle.qg_kept.proofs.Stepped.{does_nothing}
 
 -- there is no such subvolume, which a tree was asked of before
-pub lists-no-sub : (old kept : Kept) (state : State) (history : Option (List Event)) (sub ino : ℕ)
+pub lists-no-sub : (old kept : Kept) (state : State) (history : History) (sub ino : ℕ)
     → IsKeptOf old state history → IsKeptOf kept state history → has_key sub old.snapshots ≡ false
     → Answered state (Ls sub ino) (answer.Refused why.NoSub) [] kept history
 unfolding refusal
@@ -29,7 +29,7 @@ lists-no-sub old kept state history sub ino before keeps other =
     (ap (λ (first : Option Refusal). first_some (first ∷ no_file state sub ino ∷ []))
     (no-other old state history before sub other))
 
-module _ (kept : Kept) (state : State) (history : Option (List Event)) (sub ino : ℕ)
+module _ (kept : Kept) (state : State) (history : History) (sub ino : ℕ)
     (keeps : IsKeptOf kept state history) where
   -- a file of the subvolume at hand is there, or not
   refused : (file : Option File) → value_at ino keeps.files ≡ file

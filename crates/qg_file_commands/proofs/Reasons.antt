@@ -5,7 +5,7 @@ use Rattle.std.proofs.Common.{ap, ◌∙◌}
 use Rattle.std.specs.Prelude.{◌==◌, ◌&&◌, is_none, is_some, nat_le, nat_lt, not}
 use Rattle.std.specs.Option.{option_map}
 use Rattle.std.proofs.lemmas.Bool.{le-leb, lt-leb, true≢false}
-use Rattle.qg_device.specs.History.{Event}
+use Rattle.qg_device.specs.History.{History}
 use Rattle.qg_num.specs.declared.refusal.Refusal.{Refusal}
 use Rattle.qg_num.specs.declared.refusal.Refusal.TheVariants as why
 use Rattle.qg_items.specs.declared.file.InodeItem.{InodeItem}
@@ -65,7 +65,7 @@ first-same : (there : Bool) (later : List (Option Refusal)) → first_some later
 first-same true later is = is
 first-same false later is = refl
 
-module _ (kept : Kept) (state : State) (history : Option (List Event)) (keeps : IsKeptOf kept state history) where
+module _ (kept : Kept) (state : State) (history : History) (keeps : IsKeptOf kept state history) where
   abbrev pub many : Option Refusal
   many = refuse (nat_le most_pending kept.pending) why.TooMany
 

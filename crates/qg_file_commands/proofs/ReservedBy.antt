@@ -8,7 +8,7 @@ use Rattle.std.specs.List.Sorted.{IsStrictlySortedBy}
 use Rattle.std.specs.Ordering.{nat_cmp}
 use Rattle.std.proofs.lemmas.Bool.{and_parts}
 use Rattle.std.proofs.lemmas.List.Elements.{All-contains}
-use Rattle.qg_device.specs.History.{Event}
+use Rattle.qg_device.specs.History.{History}
 use Rattle.qg_image.specs.ItemMeaning.{is_subvolume_number}
 use Rattle.qg_image.specs.Table.{has_key, keys_of}
 use Rattle.qg_image.specs.declared.quota.Quota.{Quota}
@@ -108,7 +108,7 @@ module _ (kept : Kept) (fits : IsFitted kept) where
 
 -- ---- how it is judged
 
-module _ (kept : Kept) (state : State) (history : Option (List Event)) (names : List Record)
+module _ (kept : Kept) (state : State) (history : History) (names : List Record)
     (keeps : IsKeptWith kept state history names) (sub n : ℕ) where
   -- while quota is off no limit is in the way
   pub judged-off : kept.quota ≡ None → over_limit state sub n ≡ None
@@ -130,7 +130,7 @@ pub judged-all : {E : Type 0} (kept : Kept) (tracked : QuotaState) (result : Res
     → kept.quota ≡ Some tracked
     → IfOk result (λ judged. (pending : List Accepted) → HoldsAll tracked pending
     → over_in judged ≡ over tracked.quota pending sub n)
-    → IfOk result (λ judged. (state : State) (names : List Record) (history : Option (List Event))
+    → IfOk result (λ judged. (state : State) (names : List Record) (history : History)
     → IsKeptWith kept state history names → refusal_in judged ≡ over_limit state sub n)
 judged-all kept tracked (Ok judged) sub n on value = λ state names history keeps.
     judged-on kept state history names keeps sub n tracked judged on value

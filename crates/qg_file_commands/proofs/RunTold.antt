@@ -2,7 +2,7 @@
 use Rattle.std.proofs.Common.{◌≡◌, ℕ, ◌*◌, ◌/◌, ◌%◌, true, List, None, Some, Option, sym, ap, ◌∙◌, arith}
 use Rattle.std.specs.Prelude.{IfSome, IsTrue}
 use Rattle.std.proofs.lemmas.Bool.{eqb-true}
-use Rattle.qg_device.specs.History.{Event}
+use Rattle.qg_device.specs.History.{History}
 use Rattle.qg_super.specs.Places.{sector}
 use Rattle.qg_image.specs.FilesOf.{is_aligned}
 use Rattle.qg_image.specs.State.{State}
@@ -23,7 +23,7 @@ module _ (len : ℕ) (found : Option ℕ) (aligned : is_aligned len ≡ true) wh
   pub run-first : (space : Holding) → found ≡ first_run space (len / sector * sector) → found ≡ first_run space len
   run-first space is = is ∙ ap (first_run space) (whole-sectors len aligned)
 
-  pub run-told : (kept : Kept) (state : State) (history : Option (List Event)) (bytes : ℕ) → IsKept kept history bytes
+  pub run-told : (kept : Kept) (state : State) (history : History) (bytes : ℕ) → IsKept kept history bytes
       → IsKeptOf kept state history → IsTable kept.fs.refs.refs
       → found ≡ first_run kept.fs.land.space (len / sector * sector) → found ≡ present.first_run state len
   run-told kept state history bytes fits keeps table is =

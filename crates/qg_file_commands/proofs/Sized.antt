@@ -1,6 +1,6 @@
 -- What comes of a file that is cut or grows, told by what is kept. Sizes are in bytes.
-use Rattle.std.proofs.Common.{◌≡◌, ℕ, ◌≤◌, List, [], Some, None, Option, refl, sym, ap, subst, ◌∙◌}
-use Rattle.qg_device.specs.History.{Event}
+use Rattle.std.proofs.Common.{◌≡◌, ℕ, ◌≤◌, List, [], Some, None, refl, sym, ap, subst, ◌∙◌}
+use Rattle.qg_device.specs.History.{History}
 use Rattle.qg_num.specs.declared.answer.Answer.TheVariants.{Done, Refused}
 use Rattle.qg_num.specs.declared.command.Command.TheVariants.{Truncate}
 use Rattle.qg_num.specs.declared.refusal.Refusal.{Refusal}
@@ -25,7 +25,7 @@ use Rattle.qg_kept.proofs.Stepped.{Follows, IsLate, change_to, does_edit, does_n
 use Rattle.qg_kept.proofs.Stepped.{late-refusal, reserves-nothing}
 
 -- it is refused
-pub refuses-size : (kept : Kept) (state : State) (history : Option (List Event)) (sub ino size : ℕ)
+pub refuses-size : (kept : Kept) (state : State) (history : History) (sub ino size : ℕ)
     (reason : Refusal) → IsKeptOf kept state history → size_refusal state sub ino size ≡ Some reason
     → Answered state (Truncate sub ino size) (Refused reason) [] kept history
 refuses-size kept state history sub ino size reason keeps is =
@@ -33,7 +33,7 @@ refuses-size kept state history sub ino size reason keeps is =
     (early-size state sub ino size reason is)
 
 -- it may go on, and so many pieces are touched
-module _ (kept : Kept) (state : State) (history : Option (List Event)) (bytes sub ino size pieces : ℕ) (file : File)
+module _ (kept : Kept) (state : State) (history : History) (bytes sub ino size pieces : ℕ) (file : File)
     (fits : IsKept kept history bytes) (keeps : IsKeptOf kept state history) (table : IsTable kept.fs.refs.refs)
     (top : sub ≡ kept.fs.tree.owner) (passes : size_refusal state kept.fs.tree.owner ino size ≡ None)
     (there : value_at ino keeps.files ≡ Some file) (touched : pieces ≡ pieces_past size file.pieces) where
@@ -56,7 +56,7 @@ module _ (kept : Kept) (state : State) (history : Option (List Event)) (bytes su
       is-late
       ∙ sym is))
 
-  pub sizes : (fs : FsTree) (after : Option (List Event)) → None ≡ slots_refusal kept pieces
+  pub sizes : (fs : FsTree) (after : History) → None ≡ slots_refusal kept pieces
       → Follows kept fs state keeps.mine history files_now pieces → after ≡ history
       → Answered state (Truncate sub ino size) Done [] (edited kept fs kept.quota) after
   sizes fs after enough follows same =
@@ -66,7 +66,7 @@ module _ (kept : Kept) (state : State) (history : Option (List Event)) (bytes su
       table is-late enough refl follows same kept.quota (reserves-nothing kept) (λ done. done))
 
   -- the file was cut, or grew
-  pub sized : (fs : FsTree) (new : Kept) (after : Option (List Event)) (left : ℕ) → new ≡ edited kept fs kept.quota
+  pub sized : (fs : FsTree) (new : Kept) (after : History) (left : ℕ) → new ≡ edited kept fs kept.quota
       → IsTable new.fs.refs.refs → None ≡ slots_refusal kept pieces
       → need_of kept pieces ≤ free_slots kept.fs.land.space
       → LeavesHeld kept.fs fs history after bytes left

@@ -1,6 +1,6 @@
 -- What comes of a file that is taken away, told by what is kept.
-use Rattle.std.proofs.Common.{◌≡◌, ℕ, ◌≤◌, List, [], length, Some, None, Option, refl, sym, ap, subst, ◌∙◌}
-use Rattle.qg_device.specs.History.{Event}
+use Rattle.std.proofs.Common.{◌≡◌, ℕ, ◌≤◌, List, [], length, Some, None, refl, sym, ap, subst, ◌∙◌}
+use Rattle.qg_device.specs.History.{History}
 use Rattle.qg_num.specs.declared.answer.Answer.TheVariants.{Done, Refused}
 use Rattle.qg_num.specs.declared.command.Command.TheVariants.{Unlink}
 use Rattle.qg_num.specs.declared.refusal.Refusal.{Refusal}
@@ -23,14 +23,14 @@ use Rattle.qg_kept.proofs.Stepped.{Follows, IsLate, change_to, does_edit, does_n
 use Rattle.qg_kept.proofs.Stepped.{late-refusal, reserves-nothing}
 
 -- it is refused
-pub refuses-unlink : (kept : Kept) (state : State) (history : Option (List Event)) (sub ino : ℕ)
+pub refuses-unlink : (kept : Kept) (state : State) (history : History) (sub ino : ℕ)
     (reason : Refusal) → IsKeptOf kept state history → unlink_refusal state sub ino ≡ Some reason
     → Answered state (Unlink sub ino) (Refused reason) [] kept history
 refuses-unlink kept state history sub ino reason keeps is =
     does_nothing kept state history (Unlink sub ino) reason keeps (early-unlink state sub ino reason is)
 
 -- it may go on, and so many pieces are touched
-module _ (kept : Kept) (state : State) (history : Option (List Event)) (bytes sub ino pieces : ℕ) (file : File)
+module _ (kept : Kept) (state : State) (history : History) (bytes sub ino pieces : ℕ) (file : File)
     (fits : IsKept kept history bytes) (keeps : IsKeptOf kept state history) (table : IsTable kept.fs.refs.refs)
     (top : sub ≡ kept.fs.tree.owner) (passes : unlink_refusal state kept.fs.tree.owner ino ≡ None)
     (there : value_at ino keeps.files ≡ Some file) (touched : pieces ≡ length file.pieces) where
@@ -52,7 +52,7 @@ module _ (kept : Kept) (state : State) (history : Option (List Event)) (bytes su
       (late-refusal kept state history bytes fits keeps table (Unlink kept.fs.tree.owner ino) files_now 0 pieces is-late
       ∙ sym is))
 
-  pub unlinks : (fs : FsTree) (after : Option (List Event)) → None ≡ slots_refusal kept pieces
+  pub unlinks : (fs : FsTree) (after : History) → None ≡ slots_refusal kept pieces
       → Follows kept fs state keeps.mine history files_now pieces → after ≡ history
       → Answered state (Unlink sub ino) Done [] (edited kept fs kept.quota) after
   unlinks fs after enough follows same =
@@ -62,7 +62,7 @@ module _ (kept : Kept) (state : State) (history : Option (List Event)) (bytes su
       is-late enough refl follows same kept.quota (reserves-nothing kept) (λ done. done))
 
   -- the file went
-  pub unlinked : (fs : FsTree) (new : Kept) (after : Option (List Event)) (left : ℕ) → new ≡ edited kept fs kept.quota
+  pub unlinked : (fs : FsTree) (new : Kept) (after : History) (left : ℕ) → new ≡ edited kept fs kept.quota
       → IsTable new.fs.refs.refs → None ≡ slots_refusal kept pieces
       → need_of kept pieces ≤ free_slots kept.fs.land.space
       → LeavesHeld kept.fs fs history after bytes left

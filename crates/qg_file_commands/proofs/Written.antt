@@ -1,7 +1,7 @@
 -- What comes of a write whose range may be written, told by what is kept. Positions and lengths are in bytes.
 use Rattle.std.proofs.Common.{◌≡◌, ℕ, ◌+◌, ◌≤◌, List, [], Some, None, Option, sym, ap, subst, ◌∙◌}
 use Rattle.std.specs.Option.{option_map}
-use Rattle.qg_device.specs.History.{Event}
+use Rattle.qg_device.specs.History.{History}
 use Rattle.qg_num.specs.declared.answer.Answer.TheVariants.{Extent, Refused}
 use Rattle.qg_num.specs.declared.command.Command.TheVariants.{Write}
 use Rattle.qg_num.specs.declared.refusal.Refusal.{Refusal}
@@ -31,7 +31,7 @@ use Rattle.qg_kept.proofs.Stepped.{Follows, IsLate, Reserves, change_to, does_ed
 use Rattle.qg_kept.proofs.Stepped.{late-refusal, reserves-so}
 
 -- the range may not be written
-pub refuses-range : (kept : Kept) (state : State) (history : Option (List Event)) (sub ino off len : ℕ)
+pub refuses-range : (kept : Kept) (state : State) (history : History) (sub ino off len : ℕ)
     (reason : Refusal) → IsKeptOf kept state history → Some reason ≡ range_refusal state sub off len
     → Answered state (Write sub ino off len) (Refused reason) [] kept history
 refuses-range kept state history sub ino off len reason keeps is =
@@ -39,7 +39,7 @@ refuses-range kept state history sub ino off len reason keeps is =
     (early-write state sub ino off len reason (sym is))
 
 -- a limit is passed
-pub refuses-limit : (kept : Kept) (state : State) (history : Option (List Event)) (sub ino off len : ℕ)
+pub refuses-limit : (kept : Kept) (state : State) (history : History) (sub ino off len : ℕ)
     (reason : Refusal) → IsKeptOf kept state history → None ≡ range_refusal state sub off len
     → over_limit state sub (len + state.sizes.nodesize) ≡ Some reason
     → Answered state (Write sub ino off len) (Refused reason) [] kept history
@@ -48,7 +48,7 @@ refuses-limit kept state history sub ino off len reason keeps range passed =
     (limit-write state sub ino off len reason (sym range) passed)
 
 -- no run is free
-pub lacks-run : (kept : Kept) (state : State) (history : Option (List Event)) (sub ino off len : ℕ)
+pub lacks-run : (kept : Kept) (state : State) (history : History) (sub ino off len : ℕ)
     → IsKeptOf kept state history → None ≡ range_refusal state sub off len
     → over_limit state sub (len + state.sizes.nodesize) ≡ None
     → None ≡ first_run state len → Answered state (Write sub ino off len) (Refused why.NoRun) [] kept history
@@ -57,7 +57,7 @@ lacks-run kept state history sub ino off len keeps range limits none =
     (runless-write state sub ino off len (sym range) limits (sym none))
 
 -- a run is free, and so many pieces are touched
-module _ (kept : Kept) (state : State) (history : Option (List Event)) (bytes sub ino off len run pieces : ℕ)
+module _ (kept : Kept) (state : State) (history : History) (bytes sub ino off len run pieces : ℕ)
     (fits : IsKept kept history bytes) (keeps : IsKeptOf kept state history) (table : IsTable kept.fs.refs.refs)
     (top : sub ≡ kept.fs.tree.owner) (range : None ≡ range_refusal state sub off len)
     (limits : over_limit state sub (len + state.sizes.nodesize) ≡ None) (found : Some run ≡ first_run state len)
@@ -91,7 +91,7 @@ module _ (kept : Kept) (state : State) (history : Option (List Event)) (bytes su
   amount-told reserved is =
       is ∙ ap (λ (nodesize : ℕ). len + nodesize) (sym (ap (λ (sizes : Sizes). sizes.nodesize) fits.fitted.sizes))
 
-  pub writes : (fs : FsTree) (quota : Option QuotaState) (after : Option (List Event))
+  pub writes : (fs : FsTree) (quota : Option QuotaState) (after : History)
       → None ≡ slots_refusal kept pieces
       → Follows kept fs state keeps.mine history files_now pieces → after ≡ history → Reserves kept quota amount
       → Answered state (Write sub ino off len) (Extent run) [] (edited kept fs quota) after
@@ -103,7 +103,7 @@ module _ (kept : Kept) (state : State) (history : Option (List Event)) (bytes su
       reserves (λ done. done))
 
   -- the run was written there, and so many bytes were reserved
-  pub written : (fs : FsTree) (new : Kept) (after : Option (List Event)) (left reserved : ℕ)
+  pub written : (fs : FsTree) (new : Kept) (after : History) (left reserved : ℕ)
       → new ≡ edited kept fs new.quota → reserved ≡ write_reserves kept len → Reserves kept new.quota reserved
       → IsTable new.fs.refs.refs → None ≡ slots_refusal kept pieces
       → need_of kept pieces ≤ free_slots kept.fs.land.space

@@ -1,7 +1,7 @@
 // A range of a file is cloned.
 ghost use Rattle.std.specs.Prelude.{◌≡◌, ◌+◌, ◌<◌, ◌≤◌, [], ℕ, List, None, Some, IfOk, IsTrue};
 ghost use Rattle.qg_device.specs.Cause.{HasCause};
-ghost use Rattle.qg_device.specs.History.{Event};
+ghost use Rattle.qg_device.specs.History.{Event, Recorded};
 ghost use Rattle.qg_num.specs.declared.command.Command.TheVariants.{Clone};
 ghost use Rattle.qg_image.specs.FilesOf.{inodes_end, least_inode};
 ghost use Rattle.qg_image.specs.Table.{value_at};
@@ -45,7 +45,7 @@ pub fn clone<D: Disk, L: Ledger>(
     ensures step { (state : State) → IsKeptOf kept.old state (D.history disk.old)
         → IfOk result (λ answer. Answered state (Clone sub ino off len to_sub to_ino to_off) answer [] kept.new
         (D.history disk.new)) }
-    ensures sound { (state : State) (events : List Event) → D.history disk.old ≡ Some events
+    ensures sound { (state : State) (events : List Event) → D.history disk.old ≡ Recorded events
         → IsKeptOf kept.old state (D.history disk.old) → BreaksNone result }
     ensures unchanged { IfOk result (λ answer. IsTrue (is_unchanging answer) → SameButClean kept.old kept.new) }
     ensures superblock { kept.new.superblock ≡ kept.old.superblock }
@@ -111,7 +111,7 @@ fn clone_pieces<D: Disk, L: Ledger>(
         → IfOk result (λ answer. Answered state (Clone sub ino off len to_sub to_ino to_off) answer [] kept.new
         (D.history disk.new)) }
     ensures sound { (state : State) (events : List Event) (sub ino : ℕ) (from : Subvolume)
-        → D.history disk.old ≡ Some events → IsKeptOf kept.old state (D.history disk.old)
+        → D.history disk.old ≡ Recorded events → IsKeptOf kept.old state (D.history disk.old)
         → value_at sub state.subvolumes ≡ Some from → source.now ≡ pieces_met off (off + len) (pieces_of ino from.files)
         → BreaksNone result }
     ensures unchanged { IfOk result (λ answer. IsTrue (is_unchanging answer) → SameButClean kept.old kept.new) }

@@ -1,7 +1,7 @@
 // A file's pieces are listed.
-ghost use Rattle.std.specs.Prelude.{◌≡◌, [], List, Some, IfOk};
+ghost use Rattle.std.specs.Prelude.{◌≡◌, [], List, IfOk};
 ghost use Rattle.qg_device.specs.Cause.{HasCause};
-ghost use Rattle.qg_device.specs.History.{Event};
+ghost use Rattle.qg_device.specs.History.{Event, Recorded};
 ghost use Rattle.qg_num.specs.declared.command.Command.TheVariants.{Ls};
 ghost use Rattle.qg_image.specs.State.{State};
 ghost use Rattle.qg_blocks.specs.Told.{BreaksNone};
@@ -27,7 +27,7 @@ pub fn list<D: Disk, L: Ledger>(
     ensures kept { IsKept kept.new (D.history disk.new) (D.size disk.new) }
     ensures step { (state : State) → IsKeptOf kept.old state (D.history disk.old)
         → IfOk result (λ answer. Answered state (Ls sub ino) answer [] kept.new (D.history disk.new)) }
-    ensures sound { (state : State) (events : List Event) → D.history disk.old ≡ Some events
+    ensures sound { (state : State) (events : List Event) → D.history disk.old ≡ Recorded events
         → IsKeptOf kept.old state (D.history disk.old) → BreaksNone result }
     ensures looked { HasLooked kept.old kept.new (D.history disk.old) (D.history disk.new) (D.size disk.old)
         (D.size disk.new) }

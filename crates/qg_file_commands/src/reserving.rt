@@ -1,6 +1,6 @@
 // Reservations: judged by the limits on the way up, and held for what is pending.
-ghost use Rattle.std.specs.Prelude.{◌≡◌, ◌+◌, ◌^◌, ◌<◌, ◌≤◌, ℕ, ◌∷◌, All, IfOk, IfSome, IsTrue, List, OnOk, Option};
-ghost use Rattle.qg_device.specs.History.{Event};
+ghost use Rattle.std.specs.Prelude.{◌≡◌, ◌+◌, ◌^◌, ◌<◌, ◌≤◌, ℕ, ◌∷◌, All, IfOk, IfSome, IsTrue, List, OnOk};
+ghost use Rattle.qg_device.specs.History.{History};
 ghost use Rattle.qg_image.specs.Table.{has_key};
 ghost use Rattle.qg_image.specs.Record.{Record};
 ghost use Rattle.qg_image.specs.State.{Accepted, State};
@@ -21,7 +21,7 @@ use qg_num::{GroupId, GroupList, NoMemory, RootId};
 pub(crate) fn judge(kept: &Kept, sub: RootId, n: u64) -> Result<Judged, NoMemory>
     requires fitted { IsFitted kept.now }
     requires there { IsTrue (has_key sub kept.now.snapshots) }
-    ensures value { IfOk result (λ judged. (state : State) (names : List Record) (history : Option (List Event))
+    ensures value { IfOk result (λ judged. (state : State) (names : List Record) (history : History)
         → IsKeptWith kept.now state history names → refusal_in judged ≡ over_limit state sub n) }
     ensures path { IfOk result (λ judged. IfPath judged (λ path. path ≡ path_in (quota_of kept.now.quota) sub)) }
 {

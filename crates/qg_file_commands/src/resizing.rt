@@ -1,7 +1,7 @@
 // A file is cut to a size, or grows to it.
-ghost use Rattle.std.specs.Prelude.{◌≡◌, ◌≤◌, ◌<◌, ◌∷◌, [], not, List, Option, Some, IfNone, IfOk, IsTrue, nat_le};
+ghost use Rattle.std.specs.Prelude.{◌≡◌, ◌≤◌, ◌<◌, ◌∷◌, [], not, List, IfNone, IfOk, IsTrue, nat_le};
 ghost use Rattle.qg_device.specs.Cause.{HasCause};
-ghost use Rattle.qg_device.specs.History.{Event};
+ghost use Rattle.qg_device.specs.History.{Event, Recorded};
 ghost use Rattle.qg_num.specs.declared.command.Command.TheVariants.{Truncate};
 ghost use Rattle.qg_num.specs.declared.refusal.Refusal.TheVariants as why;
 ghost use Rattle.qg_image.specs.FilesOf.{is_aligned, largest_size};
@@ -35,7 +35,7 @@ pub fn truncate<D: Disk, L: Ledger>(
     ensures kept { IfOk result (λ answer. IsKept kept.new (D.history disk.new) (D.size disk.new)) }
     ensures step { (state : State) → IsKeptOf kept.old state (D.history disk.old)
         → IfOk result (λ answer. Answered state (Truncate sub ino size) answer [] kept.new (D.history disk.new)) }
-    ensures sound { (state : State) (events : List Event) → D.history disk.old ≡ Some events
+    ensures sound { (state : State) (events : List Event) → D.history disk.old ≡ Recorded events
         → IsKeptOf kept.old state (D.history disk.old) → BreaksNone result }
     ensures unchanged { IfOk result (λ answer. IsTrue (is_unchanging answer) → SameButClean kept.old kept.new) }
     ensures superblock { kept.new.superblock ≡ kept.old.superblock }

@@ -1,7 +1,7 @@
 // A file is taken away.
-ghost use Rattle.std.specs.Prelude.{◌≡◌, [], List, Some, IfOk, IsTrue};
+ghost use Rattle.std.specs.Prelude.{◌≡◌, [], List, IfOk, IsTrue};
 ghost use Rattle.qg_device.specs.Cause.{HasCause};
-ghost use Rattle.qg_device.specs.History.{Event};
+ghost use Rattle.qg_device.specs.History.{Event, Recorded};
 ghost use Rattle.qg_num.specs.declared.command.Command.TheVariants.{Unlink};
 ghost use Rattle.qg_image.specs.State.{State};
 ghost use Rattle.qg_blocks.specs.Told.{BreaksNone};
@@ -28,7 +28,7 @@ pub fn unlink<D: Disk, L: Ledger>(
     ensures kept { IfOk result (λ answer. IsKept kept.new (D.history disk.new) (D.size disk.new)) }
     ensures step { (state : State) → IsKeptOf kept.old state (D.history disk.old)
         → IfOk result (λ answer. Answered state (Unlink sub ino) answer [] kept.new (D.history disk.new)) }
-    ensures sound { (state : State) (events : List Event) → D.history disk.old ≡ Some events
+    ensures sound { (state : State) (events : List Event) → D.history disk.old ≡ Recorded events
         → IsKeptOf kept.old state (D.history disk.old) → BreaksNone result }
     ensures unchanged { IfOk result (λ answer. IsTrue (is_unchanging answer) → SameButClean kept.old kept.new) }
     ensures superblock { kept.new.superblock ≡ kept.old.superblock }

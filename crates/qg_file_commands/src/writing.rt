@@ -1,7 +1,7 @@
 // A range of a file is written.
-ghost use Rattle.std.specs.Prelude.{◌≡◌, ◌≤◌, ◌<◌, ℕ, [], List, Option, Some, IfOk, IfSome, IsTrue};
+ghost use Rattle.std.specs.Prelude.{◌≡◌, ◌≤◌, ◌<◌, ℕ, [], List, IfOk, IfSome, IsTrue};
 ghost use Rattle.qg_device.specs.Cause.{HasCause};
-ghost use Rattle.qg_device.specs.History.{Event};
+ghost use Rattle.qg_device.specs.History.{Event, History, Recorded};
 ghost use Rattle.qg_num.specs.declared.command.Command.TheVariants.{Write};
 ghost use Rattle.qg_image.specs.FilesOf.{inodes_end, is_aligned, least_inode};
 ghost use Rattle.qg_image.specs.Space.{first_run};
@@ -37,7 +37,7 @@ pub fn write<D: Disk, L: Ledger>(
     ensures kept { IfOk result (λ answer. IsKept kept.new (D.history disk.new) (D.size disk.new)) }
     ensures step { (state : State) → IsKeptOf kept.old state (D.history disk.old)
         → IfOk result (λ answer. Answered state (Write sub ino off len) answer [] kept.new (D.history disk.new)) }
-    ensures sound { (state : State) (events : List Event) → D.history disk.old ≡ Some events
+    ensures sound { (state : State) (events : List Event) → D.history disk.old ≡ Recorded events
         → IsKeptOf kept.old state (D.history disk.old) → BreaksNone result }
     ensures unchanged { IfOk result (λ answer. IsTrue (is_unchanging answer) → SameButClean kept.old kept.new) }
     ensures superblock { kept.new.superblock ≡ kept.old.superblock }
@@ -83,7 +83,7 @@ pub fn write<D: Disk, L: Ledger>(
 // The free run of so many bytes with the least address.
 fn run_for(kept: &Kept, len: u64) -> Option<Address>
     requires aligned { IsTrue (is_aligned len) }
-    ensures run { (state : State) (history : Option (List Event)) (bytes : ℕ) → IsKept kept.now history bytes
+    ensures run { (state : State) (history : History) (bytes : ℕ) → IsKept kept.now history bytes
         → IsKeptOf kept.now state history → result ≡ first_run state len }
     ensures free { IfSome result (λ run. IsTrue (is_free_run kept.now.fs.land.space run len)) }
 {

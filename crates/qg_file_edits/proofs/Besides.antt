@@ -4,7 +4,7 @@ use Rattle.std.specs.Prelude.{OnOk}
 use Rattle.std.specs.Option.{option_to_list}
 use Rattle.std.proofs.lemmas.List.{append_assoc}
 use Rattle.std.proofs.lemmas.List.Elements.{All-weaker}
-use Rattle.qg_device.specs.History.{Event}
+use Rattle.qg_device.specs.History.{History}
 use Rattle.qg_num.specs.declared.fault.BlockFault.{BlockFault}
 use Rattle.qg_num.specs.declared.piece.Piece.{Piece}
 use Rattle.qg_node.specs.declared.item.Item.{Item}
@@ -26,7 +26,7 @@ known-more some names elsewhere pieces known =
     (named-more some names elsewhere) pieces known
 
 module _ (old mid new : FsTree) (ino : ℕ) (pieces : List Piece) (first : Option Piece) (slice : List Piece)
-    (is : slice ≡ pieces) (history : Option (List Event)) (bytes : ℕ) (items : List Item) (names : List (ℕ × Piece))
+    (is : slice ≡ pieces) (history : History) (bytes : ℕ) (items : List Item) (names : List (ℕ × Piece))
     (result : Result (Unit {0}) BlockFault) where
   abbrev others : List (ℕ × Piece)
   others = names_of ino (option_to_list first) ++ names

@@ -1,7 +1,7 @@
 -- Several edits of a tree, one after the other.
-use Rattle.std.proofs.Common.{◌≡◌, ℕ, ◌+◌, ◌*◌, ◌≤◌, List, Option, Some, Result, Ok, Err, arith, sym, subst}
+use Rattle.std.proofs.Common.{◌≡◌, ℕ, ◌+◌, ◌*◌, ◌≤◌, List, Result, Ok, Err, arith, sym, subst}
 use Rattle.std.specs.Prelude.{OnOk}
-use Rattle.qg_device.specs.History.{Event}
+use Rattle.qg_device.specs.History.{Event, History, Recorded}
 use Rattle.qg_num.specs.declared.fault.BlockFault.{BlockFault}
 use Rattle.qg_num.specs.declared.piece.Piece.{Piece}
 use Rattle.qg_node.specs.declared.item.Item.{Item}
@@ -25,7 +25,7 @@ use Rattle.qg_file_edits.specs.Files.{LeavesHeld}
 use Rattle.qg_file_edits.specs.Naming.{AreNamed, KeepsNodes, StandsMoved}
 
 -- a tree that stands has three levels above its leaves at most
-pub stands-low : (fs : FsTree) (history : Option (List Event)) (bytes : ℕ) (items : List Item)
+pub stands-low : (fs : FsTree) (history : History) (bytes : ℕ) (items : List Item)
     (names : List (ℕ × Piece))
     → IsSubvolume fs history bytes → Stands fs history items names → fs.tree.height ≤ 3
 stands-low fs history bytes items names subvolume stands =
@@ -57,7 +57,7 @@ low_bytes nodesize height low = mul-le-mul_right (node_bytes + capacity nodesize
 
 -- ---- none, one, and one after another
 
-pub edited-none : (fs : FsTree) (history : Option (List Event)) (items : List Item) (names : List (ℕ × Piece))
+pub edited-none : (fs : FsTree) (history : History) (items : List Item) (names : List (ℕ × Piece))
     → Stands fs history items names → IsEditedBy 0 0 fs fs history items names
 edited-none fs history items names stands = record {
   stands = stands;
@@ -71,7 +71,7 @@ edited-none fs history items names stands = record {
 }
 
 -- names alone
-pub edited-named : (added : ℕ) (old new : FsTree) (history : Option (List Event)) (items : List Item)
+pub edited-named : (added : ℕ) (old new : FsTree) (history : History) (items : List Item)
     (names : List (ℕ × Piece)) → KeepsNodes old new → BookGetsHeavier old.refs new.refs (added * name_new_bytes)
     → StandsMoved old new history items names → IsEditedBy 0 added old new history items names
 edited-named added old new history items names nodes heavier named = record {
@@ -85,7 +85,7 @@ edited-named added old new history items names nodes heavier named = record {
       (0 * edit_of old + added * name_new_bytes) (no_bytes (edit_of old) added) heavier;
 }
 
-pub edited-once : (old new : FsTree) (before after : Option (List Event)) (bytes left most : ℕ)
+pub edited-once : (old new : FsTree) (before after : History) (bytes left most : ℕ)
     (items items_new : List Item)
     (names : List (ℕ × Piece)) → IsSubvolume old before bytes → Stands old before items names
     → IsEditedTo old new before items_new names (old.tree.height + 2)
@@ -119,7 +119,7 @@ edited-once old new before after bytes left most items items_new names subvolume
           edited.heavier;
     }
 
-pub edited-then : (i j m n : ℕ) (a b c : FsTree) (history : Option (List Event)) (items items_new : List Item)
+pub edited-then : (i j m n : ℕ) (a b c : FsTree) (history : History) (items items_new : List Item)
     (names names_new : List (ℕ × Piece)) → IsEditedBy i m a b history items names
     → IsEditedBy j n b c history items_new names_new → IsEditedBy (i + j) (m + n) a c history items_new names_new
 edited-then i j m n a b c history items items_new names names_new first later =
@@ -147,7 +147,7 @@ edited-then i j m n a b c history items items_new names names_new first later =
           first.heavier back);
     }
 
-pub edited-most : (i j m n : ℕ) (old new : FsTree) (history : Option (List Event)) (items : List Item)
+pub edited-most : (i j m n : ℕ) (old new : FsTree) (history : History) (items : List Item)
     (names : List (ℕ × Piece)) → i ≤ j → m ≤ n → IsEditedBy i m old new history items names
     → IsEditedBy j n old new history items names
 edited-most i j m n old new history items names most more edited =
@@ -168,7 +168,7 @@ edited-most i j m n old new history items names most more edited =
 -- ---- calls that make them
 
 -- a call that gives up, and answers no rule
-pub made-not : (edits added : ℕ) (old new : FsTree) (history : Option (List Event)) (items : List Item)
+pub made-not : (edits added : ℕ) (old new : FsTree) (history : History) (items : List Item)
     (names : List (ℕ × Piece)) (reads : ℕ) (fault : BlockFault) → BreaksNone {A = Unit {0}} (Err fault)
     → AreMade edits added old new history items names reads reads (Err fault)
 made-not edits added old new history items names reads fault none = record {
@@ -178,13 +178,13 @@ made-not edits added old new history items names reads fault none = record {
 }
 
 -- one edit
-pub made-once : (old new : FsTree) (before after : Option (List Event)) (bytes left most : ℕ)
+pub made-once : (old new : FsTree) (before after : History) (bytes left most : ℕ)
     (items items_new : List Item)
     (names : List (ℕ × Piece)) (reads reads_new : ℕ) (result : Result (Unit {0}) BlockFault)
     → IsSubvolume old before bytes → Stands old before items names
     → OnOk result (IsEditedTo old new before items_new names (old.tree.height + 2))
     → OnOk result (Grows most old.tree new.tree old.land new.land) → LeavesHeld old new before after bytes left
-    → ((events : List Event) → before ≡ Some events → 3 * (old.tree.height + 2) ≤ free_slots old.land.space
+    → ((events : List Event) → before ≡ Recorded events → 3 * (old.tree.height + 2) ≤ free_slots old.land.space
     → BreaksNone result)
     → reads_new ≤ reads + 9 * (old.tree.height + 2)
     → AreMade 1 0 old new before items_new names reads reads_new result
@@ -205,7 +205,7 @@ made-once old new before after bytes left most items items_new names reads reads
       both (Err fault) is grown = tt
 
 -- some edits were done, and a call follows
-pub made-then : (i j most m n sum : ℕ) (a b c : FsTree) (history : Option (List Event)) (items items_new : List Item)
+pub made-then : (i j most m n sum : ℕ) (a b c : FsTree) (history : History) (items items_new : List Item)
     (names names_new : List (ℕ × Piece)) (reads some reads_new : ℕ) (result : Result (Unit {0}) BlockFault) → i + j ≤
     most → m + n ≤ sum
     → IsEditedBy i m a b history items names → some ≤ reads + 45 * i
@@ -228,7 +228,7 @@ made-then i j most m n sum a b c history items items_new names names_new reads s
       after (Err fault) edited = tt
 
 -- a call gave up in the midst
-pub made-failed : (i most m n : ℕ) (old new other : FsTree) (history : Option (List Event)) (items others : List Item)
+pub made-failed : (i most m n : ℕ) (old new other : FsTree) (history : History) (items others : List Item)
     (names names_other : List (ℕ × Piece)) (reads reads_new : ℕ) (fault : BlockFault) → i ≤ most
     → AreMade i m old new history items names reads reads_new (Err fault)
     → AreMade most n old other history others names_other reads reads_new (Err fault)
@@ -241,7 +241,7 @@ made-failed i most m n old new other history items others names names_other read
     }
 
 -- names alone
-pub made-named : (added : ℕ) (old new : FsTree) (history : Option (List Event)) (items : List Item)
+pub made-named : (added : ℕ) (old new : FsTree) (history : History) (items : List Item)
     (names : List (ℕ × Piece)) (reads : ℕ) (result : Result (Unit {0}) BlockFault) → KeepsNodes old new
     → OnOk result (BookGetsHeavier old.refs new.refs (added * name_new_bytes))
     → AreNamed old new history items names result → AreMade 0 added old new history items names reads reads result

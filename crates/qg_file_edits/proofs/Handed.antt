@@ -1,8 +1,7 @@
 -- What a call answers that hands on a fault.
-use Rattle.std.proofs.Common.{◌≡◌, ℕ, ◌≤◌, List, Option, Result, Ok, Err, arith, refl, sym, ap, subst, ◌∙◌}
+use Rattle.std.proofs.Common.{◌≡◌, ℕ, List, Result, Ok, Err, refl, sym, ap, subst, ◌∙◌}
 use Rattle.std.specs.Prelude.{⊤, IsErrAnd, IsErrOf, MatchResult}
-use Rattle.qg_device.specs.Cause.{HasCause}
-use Rattle.qg_device.specs.History.{Event}
+use Rattle.qg_device.specs.History.{History}
 use Rattle.qg_num.specs.declared.fault.BlockFault.{BlockFault}
 use Rattle.qg_num.specs.declared.fault.BlockFault.TheVariants.{Disk, NoMemory}
 use Rattle.qg_num.specs.declared.piece.Piece.{Piece}
@@ -19,7 +18,7 @@ pub handed : {A : Type 0} (result : Result A BlockFault) (fault : BlockFault) �
 handed (Ok x) fault is = absurd is
 handed (Err given) fault is = ap (λ (f : BlockFault). Err f) is
 
-pub named-failed : (old new : FsTree) (history : Option (List Event)) (items : List Item) (names : List (ℕ × Piece))
+pub named-failed : (old new : FsTree) (history : History) (items : List Item) (names : List (ℕ × Piece))
     (result : Result (Unit {0}) BlockFault) (fault : BlockFault) → result ≡ Err fault
     → BreaksNone {A = Unit {0}} (Err fault)
     → AreNamed old new history items names result
@@ -27,7 +26,7 @@ named-failed old new history items names result fault is none =
     subst (λ (r : Result (Unit {0}) BlockFault). AreNamed old new history items names r) (sym is)
     (record { done = tt; sound = none })
 
-pub made-handed : (edits added : ℕ) (old new : FsTree) (history : Option (List Event)) (items : List Item)
+pub made-handed : (edits added : ℕ) (old new : FsTree) (history : History) (items : List Item)
     (names : List (ℕ × Piece)) (reads reads_new : ℕ) (result : Result (Unit {0}) BlockFault) (fault : BlockFault)
     → result ≡ Err fault → AreMade edits added old new history items names reads reads_new (Err fault)
     → AreMade edits added old new history items names reads reads_new result
@@ -48,28 +47,6 @@ pub misfit-none : {A : Type 0} (at : ℕ) (result : Result A BlockFault)
     → MatchResult result (λ done. ⊤) (IsMisfitAt at) → IsErrOf result Disk → ⊥
 misfit-none {A} at (Ok x) met disk = cc
 misfit-none {A} at (Err fault) met disk = misfit-other at (Err fault) fault refl met disk
-
--- a fault that is none of the disk's
-pub cause-other : {A : Type 0} (before now : ℕ) (result : Result A BlockFault) → before ≤ now
-    → (IsErrOf result Disk → ⊥)
-    → HasCause Disk before now result
-cause-other before now result later none = record { later = later; rose = λ is. absurd (none is) }
-
--- a fault that a later call answered
-pub cause-later : (before mid now : ℕ) (result : Result (Unit {0}) BlockFault) (fault : BlockFault) → before ≤ mid
-    → result ≡ Err fault → HasCause {T = Unit {0}} Disk mid now (Err fault) → HasCause Disk before now result
-cause-later before mid now result fault order is cause = record {
-  later = let later = cause.later in omega (arith, order, later);
-  rose = λ disk. let rose = cause.rose (sym is ∙ disk) in omega (arith, order, rose);
-}
-
--- or that the last one may answer
-pub cause-last : (before mid now : ℕ) (result : Result (Unit {0}) BlockFault) → before ≤ mid
-    → HasCause Disk mid now result → HasCause Disk before now result
-cause-last before mid now result order cause = record {
-  later = let later = cause.later in omega (arith, order, later);
-  rose = λ disk. let rose = cause.rose disk in omega (arith, order, rose);
-}
 
 -- want of memory that is handed on
 pub memory-sound : (result : Result (Unit {0}) BlockFault) → result ≡ Err NoMemory → BreaksNone result

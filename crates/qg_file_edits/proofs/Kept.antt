@@ -1,9 +1,9 @@
 -- What stays over several calls.
-use Rattle.std.proofs.Common.{◌≡◌, ℕ, List, Option, Result, refl, ap, ◌∙◌}
+use Rattle.std.proofs.Common.{◌≡◌, ℕ, List, Result, refl, ap, ◌∙◌}
 use Rattle.std.specs.Prelude.{OnOk}
 use Rattle.std.specs.List.{filter_map, flat_map}
 use Rattle.std.proofs.lemmas.Result.{on_ok_weaker}
-use Rattle.qg_device.specs.History.{Event}
+use Rattle.qg_device.specs.History.{History}
 use Rattle.qg_num.specs.declared.fault.BlockFault.{BlockFault}
 use Rattle.qg_ground.specs.declared.ground.Ground.{Ground}
 use Rattle.qg_ground.specs.Calls.{LeavesBe}
@@ -28,7 +28,7 @@ keeps-then a b c first later = record {
 }
 
 -- what the other trees name stays
-pub elsewhere-same : (old new : FsTree) (history : Option (List Event)) → KeepsTree old new
+pub elsewhere-same : (old new : FsTree) (history : History) → KeepsTree old new
     → names_elsewhere new history ≡ names_elsewhere old history
 unfolding names_elsewhere
 elsewhere-same old new history keeps =
@@ -41,7 +41,7 @@ elsewhere-same old new history keeps =
     others_same : new.others ≡ old.others → new.others.items ≡ old.others.items
     others_same same = rw same refl
 
-pub leaves-kept : (old new : FsTree) (history : Option (List Event)) (bytes : ℕ) → KeepsNodes old new
+pub leaves-kept : (old new : FsTree) (history : History) (bytes : ℕ) → KeepsNodes old new
     → IsSubvolume old history bytes → LeavesHeld old new history history bytes bytes
 leaves-kept old new history bytes nodes subvolume = let keeps = nodes.tree in record {
   subvolume = nodes.subvolume history bytes subvolume;
@@ -63,7 +63,7 @@ own-kept old new nodes = let keeps = nodes.tree in record {
 
 -- ---- an edit
 
-pub leaves-edited : (old new : FsTree) (before after : Option (List Event)) (bytes left generation : ℕ)
+pub leaves-edited : (old new : FsTree) (before after : History) (bytes left generation : ℕ)
     → LeavesBe old.land new.land before after bytes left generation → IsSubvolume new after left
     → new.others ≡ old.others → LeavesHeld old new before after bytes left
 leaves-edited old new before after bytes left generation leaves subvolume others = record {
@@ -97,11 +97,11 @@ nodes-then a b c first later = record {
   slots = later.slots ∙ first.slots;
 }
 
-pub leaves-itself : (fs : FsTree) (history : Option (List Event)) (bytes : ℕ) → IsSubvolume fs history bytes
+pub leaves-itself : (fs : FsTree) (history : History) (bytes : ℕ) → IsSubvolume fs history bytes
     → LeavesHeld fs fs history history bytes bytes
 leaves-itself fs history bytes subvolume = leaves-kept fs fs history bytes (nodes-itself fs) subvolume
 
-pub leaves-then : (a b c : FsTree) (first second third : Option (List Event)) (bytes some left : ℕ)
+pub leaves-then : (a b c : FsTree) (first second third : History) (bytes some left : ℕ)
     → LeavesHeld a b first second bytes some → LeavesHeld b c second third some left
     → LeavesHeld a c first third bytes left
 leaves-then a b c first second third bytes some left one two = record {

@@ -1,11 +1,11 @@
 -- What a command leaves, once its edits are done.
-use Rattle.std.proofs.Common.{◌≡◌, ℕ, zero, suc, ◌+◌, ◌*◌, ◌≤◌, List, ◌++◌, length, Option, Some, Result, Ok, Err}
+use Rattle.std.proofs.Common.{◌≡◌, ℕ, zero, suc, ◌+◌, ◌*◌, ◌≤◌, List, ◌++◌, length, Result, Ok, Err}
 use Rattle.std.proofs.Common.{arith, refl, sym, subst}
 use Rattle.std.specs.Prelude.{OnOk}
 use Rattle.std.specs.List.{All, flat_map}
 use Rattle.std.specs.Option.{option_to_list}
 use Rattle.std.proofs.Math.Nat.{mul-le-mul_right}
-use Rattle.qg_device.specs.History.{Event}
+use Rattle.qg_device.specs.History.{Event, History, Recorded}
 use Rattle.qg_num.specs.declared.fault.BlockFault.{BlockFault}
 use Rattle.qg_num.specs.declared.piece.Piece.{Piece}
 use Rattle.qg_node.specs.declared.item.Item.{Item}
@@ -64,7 +64,7 @@ come_covered (suc height) edits pieces taken there come most low few all each =
     omega (arith, each, bound)
 
 -- what the clauses of a command say, by what its exchange did
-module _ (edits added pieces : ℕ) (old new : FsTree) (history : Option (List Event)) (files_new : List (ℕ × File))
+module _ (edits added pieces : ℕ) (old new : FsTree) (history : History) (files_new : List (ℕ × File))
     (reads reads_new : ℕ) (result : Result (Unit {0}) BlockFault) (most : edits ≤ pieces + 3)
     (names : added ≤ 2 * (pieces + 3))
     (made : AreMade edits added old new history (flat_map items_of_file files_new) (named files_new) reads reads_new
@@ -107,7 +107,7 @@ module _ (edits added pieces : ℕ) (old new : FsTree) (history : Option (List E
           }
       cases (Err fault) edited table_new = tt
 
-    pub left-sound : (events : List Event) → history ≡ Some events
+    pub left-sound : (events : List Event) → history ≡ Recorded events
         → 10 * file_copies old.tree.height pieces ≤ free_slots old.land.space → BreaksNone result
     left-sound events is room =
         made.sound events is
@@ -118,7 +118,7 @@ module _ (edits added pieces : ℕ) (old new : FsTree) (history : Option (List E
     left-reads = let steps = made.reads in omega (arith, steps, most)
 
 -- the same, by what is told of the exchange
-module _ (pieces : ℕ) (old new : FsTree) (ino : ℕ) (change : Exchange) (history : Option (List Event))
+module _ (pieces : ℕ) (old new : FsTree) (ino : ℕ) (change : Exchange) (history : History)
     (files files_new : List (ℕ × File)) (reads reads_new : ℕ) (result : Result (Unit {0}) BlockFault)
     (holds : HoldsFiles old history files) (told : IsToldFor pieces old history ino change files files_new)
     (called : (edits : ℕ) (files files_new : List (ℕ × File))
@@ -139,7 +139,7 @@ module _ (pieces : ℕ) (old new : FsTree) (ino : ℕ) (change : Exchange) (hist
       (flat_map items_of_file files) (named files) holds.stands subvolume.editable.drafted drafted_new table still
       told.writable told.by
 
-  pub done-sound : (events : List Event) → history ≡ Some events
+  pub done-sound : (events : List Event) → history ≡ Recorded events
       → 10 * file_copies old.tree.height pieces ≤ free_slots old.land.space → BreaksNone result
   done-sound = left-sound told.edits (length (change.named ++ option_to_list change.new)) pieces old new history
       files_new reads reads_new result told.most told.few all_made

@@ -1,13 +1,13 @@
 -- Pieces that name extents, or name them no more, one after the other.
 use Rattle.std.proofs.Common.{◌≡◌, ◌≢◌, ℕ, ◌+◌, ◌*◌, ◌<◌, ◌≤◌, List, [], ◌∷◌, ◌++◌, map, take, drop, length}
-use Rattle.std.proofs.Common.{length-append, Option, Result, Ok, Err, arith, sym, ap, subst, true, ◌∙◌}
+use Rattle.std.proofs.Common.{length-append, Result, Ok, Err, arith, sym, ap, subst, true, ◌∙◌}
 use Rattle.std.specs.Prelude.{Contains, OnOk}
 use Rattle.std.specs.List.{filter_map}
 use Rattle.std.proofs.lemmas.Bool.{and_parts, leb-true}
 use Rattle.std.proofs.lemmas.List.{append_assoc, map-append}
 use Rattle.std.proofs.lemmas.List.Elements.{All-contains, All-contains_itself, All-head, Contains-append_right}
 use Rattle.std.proofs.lemmas.List.Sorted.{IsPermutation-middle, IsPermutation-sym}
-use Rattle.qg_device.specs.History.{Event}
+use Rattle.qg_device.specs.History.{History}
 use Rattle.qg_num.specs.declared.fault.BlockFault.{BlockFault}
 use Rattle.qg_num.specs.declared.piece.Piece.{Piece}
 use Rattle.qg_node.specs.declared.item.Item.{Item}
@@ -26,7 +26,8 @@ use Rattle.qg_fs_layout.specs.Types.{TreeRefs}
 use Rattle.qg_fs_layout.specs.Heavier.{BookGetsHeavier, name_bytes, name_new_bytes}
 use Rattle.qg_fs_layout.proofs.Sums.{BookGetsHeavier-most, BookGetsHeavier-same, BookGetsHeavier-then}
 use Rattle.qg_fs_layout.specs.Types.{FsTree}
-use Rattle.qg_fs_layout.specs.Standing.{IsKnownExtent, IsSubvolume, KeepsTree, Stands, extents_named, name_of, name_told}
+use Rattle.qg_fs_layout.specs.Standing.{IsKnownExtent, IsSubvolume, KeepsTree, Stands, extents_named, name_of}
+use Rattle.qg_fs_layout.specs.Standing.{name_told}
 use Rattle.qg_fs_layout.specs.Standing.{names_elsewhere, names_times}
 use Rattle.qg_fs_layout.proofs.Ordered.{stands-ordered}
 use Rattle.qg_fs_layout.proofs.Moved.{moves-itself, moves-then, names-move}
@@ -74,7 +75,7 @@ run_behind sizes address bytes is =
     let d = and_parts _ _ c.0 in
     leb-true data_begin address d.0
 
-first_behind : (fs : FsTree) (history : Option (List Event)) (items : List Item) (ino : ℕ) (piece : Piece)
+first_behind : (fs : FsTree) (history : History) (items : List Item) (ino : ℕ) (piece : Piece)
     (names : List (ℕ × Piece)) → Stands fs history items ((ino, piece) ∷ names) → data_begin ≤ piece.extent
 first_behind fs history items ino piece names stands =
     let known = All-head
@@ -85,7 +86,7 @@ first_behind fs history items ino piece names stands =
 -- ---- one call
 
 -- what a call that names a piece asks
-pub record CanName (fs : FsTree) (history : Option (List Event)) (bytes : ℕ) (items : List Item)
+pub record CanName (fs : FsTree) (history : History) (bytes : ℕ) (items : List Item)
     (names : List (ℕ × Piece))
     (ino : ℕ) (piece : Piece) : Type 0 where
   pub subvolume : IsSubvolume fs history bytes
@@ -94,7 +95,7 @@ pub record CanName (fs : FsTree) (history : Option (List Event)) (bytes : ℕ) (
   pub few : names_times fs.tree.owner names piece.extent (name_of fs.tree.owner (ino, piece)).reference < 4294967295
 
 -- one that names it no more
-pub record CanUnname (fs : FsTree) (history : Option (List Event)) (bytes : ℕ) (items : List Item)
+pub record CanUnname (fs : FsTree) (history : History) (bytes : ℕ) (items : List Item)
     (names : List (ℕ × Piece)) (ino : ℕ) (piece : Piece) : Type 0 where
   pub subvolume : IsSubvolume fs history bytes
   pub stands : Stands fs history items ((ino, piece) ∷ names)
@@ -113,7 +114,7 @@ KeepsMarks old new at = (q : ℕ) → q ≢ at
 pub record NamesUpTo (old now : FsTree) (ino : ℕ) (pieces : List Piece) (count : ℕ) : Type 0 where
   pub nodes : KeepsNodes old now
   pub heavier : BookGetsHeavier old.refs now.refs (length (take count pieces) * name_bytes)
-  pub told : (history : Option (List Event)) (bytes : ℕ) (items : List Item) (names : List (ℕ × Piece))
+  pub told : (history : History) (bytes : ℕ) (items : List Item) (names : List (ℕ × Piece))
       → IsSubvolume old history bytes → Stands old history items names
       → AreOfNamed (names ++ names_elsewhere old history) pieces
       → AreFewNames old.tree.owner (names_of ino pieces ++ names)
@@ -123,7 +124,7 @@ pub record NamesUpTo (old now : FsTree) (ino : ℕ) (pieces : List Piece) (count
 pub record UnnamesUpTo (old now : FsTree) (ino : ℕ) (pieces : List Piece) (count : ℕ) : Type 0 where
   pub nodes : KeepsNodes old now
   pub heavier : BookGetsHeavier old.refs now.refs 0
-  pub told : (history : Option (List Event)) (bytes : ℕ) (items : List Item) (names : List (ℕ × Piece))
+  pub told : (history : History) (bytes : ℕ) (items : List Item) (names : List (ℕ × Piece))
       → IsSubvolume old history bytes → Stands old history items (names_of ino pieces ++ names)
       → AreCovered old.tree.owner (filter_map name_told items) names
       → StandsMoved old now history items (names_of ino (drop count pieces) ++ names)
@@ -156,7 +157,7 @@ module _ (old mid : FsTree) (ino : ℕ) (pieces : List Piece) (i : ℕ) (piece :
       (All-contains_itself (piece ∷ drop (i + 1) pieces))))
 
   -- the next piece can be named
-  pub can-name : NamesUpTo old mid ino pieces i → (history : Option (List Event)) (bytes : ℕ) (items : List Item)
+  pub can-name : NamesUpTo old mid ino pieces i → (history : History) (bytes : ℕ) (items : List Item)
       (names : List (ℕ × Piece)) → IsSubvolume old history bytes → Stands old history items names
       → AreOfNamed (names ++ names_elsewhere old history) pieces
       → AreFewNames old.tree.owner (names_of ino pieces ++ names)
@@ -193,7 +194,7 @@ module _ (old mid : FsTree) (ino : ℕ) (pieces : List Piece) (i : ℕ) (piece :
   -- and then it is
   pub names-more : (new : FsTree) → NamesUpTo old mid ino pieces i → KeepsNodes mid new
       → KeepsMarks mid new piece.extent → BookGetsHeavier mid.refs new.refs name_bytes
-      → ((history : Option (List Event)) (bytes : ℕ) (items : List Item) (names : List (ℕ × Piece))
+      → ((history : History) (bytes : ℕ) (items : List Item) (names : List (ℕ × Piece))
       → CanName mid history bytes items names ino piece → Stands new history items ((ino, piece) ∷ names))
       → NamesUpTo old new ino pieces (i + 1)
   names-more new so_far nodes marks heavier named = record {
@@ -224,7 +225,7 @@ module _ (old mid : FsTree) (ino : ℕ) (pieces : List Piece) (i : ℕ) (piece :
   }
 
   -- the next piece can be named no more
-  pub can-unname : UnnamesUpTo old mid ino pieces i → (history : Option (List Event)) (bytes : ℕ) (items : List Item)
+  pub can-unname : UnnamesUpTo old mid ino pieces i → (history : History) (bytes : ℕ) (items : List Item)
       (names : List (ℕ × Piece)) → IsSubvolume old history bytes
       → Stands old history items (names_of ino pieces ++ names)
       → AreCovered old.tree.owner (filter_map name_told items) names
@@ -250,7 +251,7 @@ module _ (old mid : FsTree) (ino : ℕ) (pieces : List Piece) (i : ℕ) (piece :
   -- and then it is
   pub unnames-more : (new : FsTree) → UnnamesUpTo old mid ino pieces i → KeepsNodes mid new
       → KeepsMarks mid new piece.extent → BookGetsHeavier mid.refs new.refs 0
-      → ((history : Option (List Event)) (bytes : ℕ) (items : List Item) (names : List (ℕ × Piece))
+      → ((history : History) (bytes : ℕ) (items : List Item) (names : List (ℕ × Piece))
       → CanUnname mid history bytes items names ino piece → Stands new history items names)
       → UnnamesUpTo old new ino pieces (i + 1)
   unnames-more new so_far nodes marks heavier unnamed = record {
@@ -271,7 +272,7 @@ module _ (old mid : FsTree) (ino : ℕ) (pieces : List Piece) (i : ℕ) (piece :
 
 -- ---- a new extent
 
-pub named-new : (old new : FsTree) (ino : ℕ) (piece : Piece) (history : Option (List Event)) (bytes : ℕ)
+pub named-new : (old new : FsTree) (ino : ℕ) (piece : Piece) (history : History) (bytes : ℕ)
     (items : List Item) (names : List (ℕ × Piece)) (result : Result (Unit {0}) BlockFault) → IsSubvolume old history
     bytes
     → Stands old history items names → KeepsNodes old new

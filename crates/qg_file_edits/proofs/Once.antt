@@ -1,9 +1,9 @@
 -- One edit of an item, by a key and a body that are known.
-use Rattle.std.proofs.Common.{◌≡◌, ℕ, ◌+◌, ◌*◌, ◌≤◌, List, Option, Some, Result, sym, subst}
+use Rattle.std.proofs.Common.{◌≡◌, ℕ, ◌+◌, ◌*◌, ◌≤◌, List, Result, sym, subst}
 use Rattle.std.specs.Prelude.{IsTrue, OnOk}
 use Rattle.std.specs.List.{filter_map}
 use Rattle.std.proofs.lemmas.Result.{on_ok_weaker}
-use Rattle.qg_device.specs.History.{Event}
+use Rattle.qg_device.specs.History.{Event, History, Recorded}
 use Rattle.qg_num.specs.declared.fault.BlockFault.{BlockFault}
 use Rattle.qg_num.specs.declared.key.Key.{Key}
 use Rattle.qg_num.specs.declared.piece.Piece.{Piece}
@@ -21,7 +21,7 @@ use Rattle.qg_file_edits.specs.Naming.{AreCovered}
 use Rattle.qg_file_edits.proofs.Edited.{made-once}
 use Rattle.qg_file_edits.proofs.Kept.{leaves-edited, own-grown}
 
-module _ (old new : FsTree) (before after : Option (List Event)) (bytes left reads reads_new : ℕ)
+module _ (old new : FsTree) (before after : History) (bytes left reads reads_new : ℕ)
     (result : Result (Unit {0}) BlockFault) (subvolume : IsSubvolume old before bytes)
     (rests : LeavesBe old.land new.land before after bytes left old.tree.next) (still : IsSubvolume new after left)
     (others : new.others ≡ old.others)
@@ -40,7 +40,7 @@ module _ (old new : FsTree) (before after : Option (List Event)) (bytes left rea
       MakesOnce most items_new =
           OnOk result (IsEditedTo old new before items_new names (old.tree.height + 2))
           × OnOk result (Grows most old.tree new.tree old.land new.land)
-          × ((events : List Event) → before ≡ Some events → 3 * (old.tree.height + 2) ≤ free_slots old.land.space
+          × ((events : List Event) → before ≡ Recorded events → 3 * (old.tree.height + 2) ≤ free_slots old.land.space
           → BreaksNone result)
 
       made : (most : ℕ) (items_new : List Item) → MakesOnce most items_new
@@ -55,7 +55,7 @@ module _ (old new : FsTree) (before after : Option (List Event)) (bytes left rea
           → (IsTrue (has_key key items)
           → OnOk result (IsEditedTo old new before (without_key key items) names (old.tree.height + 2)))
           → OnOk result (Grows 0 old.tree new.tree old.land new.land)
-          → ((events : List Event) → before ≡ Some events → IsTrue (has_key key items)
+          → ((events : List Event) → before ≡ Recorded events → IsTrue (has_key key items)
           → 3 * (old.tree.height + 2) ≤ free_slots old.land.space → BreaksNone result)
           → IsTrue (has_key wanted items)
           → AreMade 1 0 old new before (without_key wanted items) names reads reads_new result
@@ -71,7 +71,7 @@ module _ (old new : FsTree) (before after : Option (List Event)) (bytes left rea
           → OnOk result (IsEditedTo old new before (with_item (record { key = key; body = body }) items) names
           (old.tree.height + 2)))
           → OnOk result (Grows 1 old.tree new.tree old.land new.land)
-          → ((events : List Event) → before ≡ Some events → can key
+          → ((events : List Event) → before ≡ Recorded events → can key
           → 3 * (old.tree.height + 2) ≤ free_slots old.land.space → BreaksNone result)
           → can wanted
           → AreCovered old.tree.owner (filter_map name_told (with_item (record { key = wanted; body = text }) items))

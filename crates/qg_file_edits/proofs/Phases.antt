@@ -1,5 +1,5 @@
 -- The phases of an exchange: pieces are named, items edited, and pieces named no more.
-use Rattle.std.proofs.Common.{◌≡◌, ℕ, ◌+◌, ◌*◌, ◌≤◌, List, ◌++◌, length, Option, Result, Ok, Err, arith, sym, subst}
+use Rattle.std.proofs.Common.{◌≡◌, ℕ, ◌+◌, ◌*◌, ◌≤◌, List, ◌++◌, length, Result, Ok, Err, arith, sym, subst}
 use Rattle.std.specs.List.{filter_map, flat_map}
 use Rattle.std.specs.List.Sorted.{IsPermutation}
 use Rattle.std.specs.Prelude.{OnOk}
@@ -7,7 +7,7 @@ use Rattle.std.specs.Option.{option_to_list}
 use Rattle.std.proofs.lemmas.List.{append_assoc}
 use Rattle.std.proofs.lemmas.List.Sorted.{IsPermutation-append_comm, IsPermutation-append_left}
 use Rattle.std.proofs.lemmas.List.Sorted.{IsPermutation-append_right, IsPermutation-sym, IsPermutation-trans}
-use Rattle.qg_device.specs.History.{Event}
+use Rattle.qg_device.specs.History.{History}
 use Rattle.qg_num.specs.declared.fault.BlockFault.{BlockFault}
 use Rattle.qg_num.specs.declared.piece.Piece.{Piece}
 use Rattle.qg_node.specs.declared.item.Item.{Item}
@@ -68,7 +68,7 @@ module _ (some put gone old new : List (ℕ × Piece)) (same : IsPermutation som
       (IsPermutation-trans (put ++ old) (put ++ (gone ++ rest)) (gone ++ new) all
       (IsPermutation-trans (put ++ (gone ++ rest)) (gone ++ (put ++ rest)) (gone ++ new) turned back))
 
-  pub stands-gone_first : (fs : FsTree) (history : Option (List Event)) (items : List Item)
+  pub stands-gone_first : (fs : FsTree) (history : History) (items : List Item)
       → Stands fs history items (some ++ old) → Stands fs history items (gone ++ new)
   stands-gone_first fs history items stands =
       stands-ordered fs history items (some ++ old) (gone ++ new) gone_first stands
@@ -77,8 +77,8 @@ module _ (some put gone old new : List (ℕ × Piece)) (same : IsPermutation som
 
 -- steps are taken, and then the INODE_ITEM follows
 module _ (edits ino : ℕ) (change : Exchange) (steps : List Step) (old mid : FsTree)
-    (before : Option (List Event)) (reads some : ℕ) (are : AreSteps change.gone change.put steps) where
-  pub items-edited : (new : FsTree) (after : Option (List Event)) (reads_new : ℕ)
+    (before : History) (reads some : ℕ) (are : AreSteps change.gone change.put steps) where
+  pub items-edited : (new : FsTree) (after : History) (reads_new : ℕ)
       (result : Result (Unit {0}) BlockFault) → after ≡ before
       → ((items : List Item) (names : List (ℕ × Piece)) → Stands old before items names → Applies ino steps items
       → AreCoveredThroughout old.tree.owner ino steps items names
@@ -101,8 +101,8 @@ module _ (edits ino : ℕ) (change : Exchange) (steps : List Step) (old mid : Fs
       let left = exchanged ino change.gone change.put items in
       let edited = subst (λ (xs : List Item). IsEditedBy (length steps) 0 old mid before xs names) makes.made first.done
       in
-      let here = subst (λ (h : Option (List Event)). Stands mid h left names) (sym same) edited.stands in
-      let later = subst (λ (h : Option (List Event)). AreMade 1 0 mid new h (after_inode ino change.inode left) names
+      let here = subst (λ (h : History). Stands mid h left names) (sym same) edited.stands in
+      let later = subst (λ (h : History). AreMade 1 0 mid new h (after_inode ino change.inode left) names
       some
       reads_new result) same (followed left names here can.inode last) in
       made-then (length steps) 1 edits 0 0 0 old mid new before left (after_exchange ino change items) names names reads
@@ -130,7 +130,7 @@ module _ (edits ino : ℕ) (change : Exchange) (steps : List Step) (old mid : Fs
 -- ---- all of it
 
 module _ (edits ino : ℕ) (change : Exchange) (files files_new : List (ℕ × File)) (old named_tree : FsTree)
-    (before : Option (List Event)) (bytes : ℕ) (subvolume : IsSubvolume old before bytes)
+    (before : History) (bytes : ℕ) (subvolume : IsSubvolume old before bytes)
     (stands : Stands old before (flat_map items_of_file files) (named files))
     (makes : MakesFiles edits old.tree.owner ino change (names_elsewhere old before) files files_new) where
   -- what is named meanwhile
@@ -220,7 +220,7 @@ module _ (edits ino : ℕ) (change : Exchange) (files files_new : List (ℕ × F
         (flat_map items_of_file files_new) besides (named files_new) reads some fault (omega arith) all
 
     -- and pieces are named no more
-    pub last-unnamed : (edited new : FsTree) (after : Option (List Event)) (left reads some : ℕ)
+    pub last-unnamed : (edited new : FsTree) (after : History) (left reads some : ℕ)
         (result : Result (Unit {0}) BlockFault) → after ≡ before → IsSubvolume edited after left → KeepsNodes edited new
         → OnOk result (BookGetsHeavier edited.refs new.refs 0)
         → AreMade edits 0 named_tree edited before (flat_map items_of_file files_new) besides reads some (Ok tt)
@@ -241,11 +241,11 @@ module _ (edits ino : ℕ) (change : Exchange) (files files_new : List (ℕ × F
         (names_of ino change.put) (names_of ino change.gone) (named files) (named files_new) makes.put makes.names
         edited
         before items edited_all.stands in
-        let here = subst (λ (h : Option (List Event)). Stands edited h items (names_of ino change.gone ++ named
+        let here = subst (λ (h : History). Stands edited h items (names_of ino change.gone ++ named
         files_new))
         (sym same) turned in
         let unnamed = called items (named files_new) here (λ at reference. omega arith) in
-        let last = subst (λ (h : Option (List Event)). AreMade 0 0 edited new h items (named files_new) some some
+        let last = subst (λ (h : History). AreMade 0 0 edited new h items (named files_new) some some
         result)
         same
         (made-named 0 edited new after items (named files_new) some result kept light unnamed) in

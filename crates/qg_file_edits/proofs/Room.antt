@@ -1,6 +1,6 @@
 -- The slots that a command leaves for the next commit.
-use Rattle.std.proofs.Common.{ℕ, ◌+◌, ◌*◌, ◌≤◌, List, Option, arith}
-use Rattle.qg_device.specs.History.{Event}
+use Rattle.std.proofs.Common.{ℕ, ◌+◌, ◌*◌, ◌≤◌, List, arith}
+use Rattle.qg_device.specs.History.{History}
 use Rattle.qg_image.specs.declared.file.File.{File}
 use Rattle.qg_image.specs.Need.{file_copies, nodes_filled}
 use Rattle.qg_space.specs.Holding.{free_slots}
@@ -16,7 +16,7 @@ weighs_besides : (before besides after edits names : ℕ) → after ≤ before +
     → after ≤ before + besides + edits + names
 weighs_besides before besides after edits names most = omega (arith, most)
 
-module _ (old new : FsTree) (history : Option (List Event)) (files : List (ℕ × File)) (pieces besides : ℕ)
+module _ (old new : FsTree) (history : History) (files : List (ℕ × File)) (pieces besides : ℕ)
     (wide : 4096 ≤ old.land.space.sizes.nodesize) (leaves : LeavesFiles old new history files pieces) where
   abbrev before : ℕ
   before = weight_of old.refs.held old.refs.refs

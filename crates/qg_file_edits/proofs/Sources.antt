@@ -1,8 +1,8 @@
 -- Files that are read of any tree: the extents that their pieces name are named.
-use Rattle.std.proofs.Common.{◌≡◌, ℕ, ◌^◌, ◌<◌, List, ◌++◌, Option, refl, sym, ap, subst, ◌∙◌, inl, inr}
+use Rattle.std.proofs.Common.{◌≡◌, ℕ, ◌^◌, ◌<◌, List, ◌++◌, refl, sym, ap, subst, ◌∙◌, inl, inr}
 use Rattle.std.specs.List.{All, Contains, filter_map, flat_map}
 use Rattle.std.proofs.lemmas.List.Elements.{All-weaker, Contains-append_left, Contains-append_right}
-use Rattle.qg_device.specs.History.{Event}
+use Rattle.qg_device.specs.History.{History}
 use Rattle.qg_num.specs.declared.piece.Piece.{Piece}
 use Rattle.qg_node.specs.declared.item.Item.{Item}
 use Rattle.qg_image.specs.declared.file.File.{File}
@@ -19,11 +19,11 @@ use Rattle.qg_file_edits.specs.Files.{HasFiles, HoldsFiles, pieces_of}
 use Rattle.qg_file_edits.proofs.Extents.{IsOfNamed, named-among, pieces-named}
 
 -- the tree at hand has the items of the files that it holds
-own_items : (fs : FsTree) (history : Option (List Event)) (items : List Item)
+own_items : (fs : FsTree) (history : History) (items : List Item)
     → TellsTree Files fs.tree fs.land.blocks.draft history items → items_in fs history fs.tree ≡ items
 own_items fs history items tells = rw tells.items_are refl
 
-pub own_files : (fs : FsTree) (history : Option (List Event)) (files : List (ℕ × File)) → HoldsFiles fs history files
+pub own_files : (fs : FsTree) (history : History) (files : List (ℕ × File)) → HoldsFiles fs history files
     → HasFiles fs history fs.tree files
 own_files fs history files holds = record {
   items = own_items fs history (flat_map items_of_file files) holds.stands.rooted.tells;
@@ -32,7 +32,7 @@ own_files fs history files holds = record {
 }
 
 -- a file of any tree names extents that the files at hand name, or another tree does
-module _ (fs : FsTree) (history : Option (List Event)) (files source_files : List (ℕ × File)) (tree : Root)
+module _ (fs : FsTree) (history : History) (files source_files : List (ℕ × File)) (tree : Root)
     (source : ℕ) (fits : fs.tree.next < 2 ^ 64) (holds : HoldsFiles fs history files)
     (among : Contains (trees_of fs) tree) (has : HasFiles fs history tree source_files) where
   told_there : filter_map name_told (items_in fs history tree) ≡ names_by source_files

@@ -1,8 +1,8 @@
 -- Steps on a file's items, one after the other.
-use Rattle.std.proofs.Common.{◌≡◌, ℕ, ◌+◌, ◌*◌, ◌<◌, ◌≤◌, List, [], ◌∷◌, ◌++◌, length, take, drop, Option, Ok, Err}
+use Rattle.std.proofs.Common.{◌≡◌, ℕ, ◌+◌, ◌*◌, ◌<◌, ◌≤◌, List, [], ◌∷◌, ◌++◌, length, take, drop, Ok, Err}
 use Rattle.std.proofs.Common.{arith, refl, sym, ap, subst, ◌∙◌}
 use Rattle.std.specs.List.{filter_map}
-use Rattle.qg_device.specs.History.{Event}
+use Rattle.qg_device.specs.History.{History}
 use Rattle.qg_num.specs.declared.fault.BlockFault.{BlockFault}
 use Rattle.qg_num.specs.declared.piece.Piece.{Piece}
 use Rattle.qg_node.specs.declared.item.Item.{Item}
@@ -32,21 +32,21 @@ applies-behind ino (step ∷ front) back items applies =
 -- ---- up to a step
 
 -- what the first steps made of items and names
-pub record IsSteppedTo (ino : ℕ) (steps : List Step) (count : ℕ) (old now : FsTree) (history : Option (List Event))
+pub record IsSteppedTo (ino : ℕ) (steps : List Step) (count : ℕ) (old now : FsTree) (history : History)
     (items : List Item) (names : List (ℕ × Piece)) (taken taken_now : ℕ) : Type 0 where
   pub edited : IsEditedBy count 0 old now history (after_steps ino (take count steps) items) names
   pub reads : taken_now ≤ taken + 45 * count
 
-pub record StepsUpTo (ino : ℕ) (steps : List Step) (count : ℕ) (old now : FsTree) (before after : Option (List Event))
+pub record StepsUpTo (ino : ℕ) (steps : List Step) (count : ℕ) (old now : FsTree) (before after : History)
     (bytes left faults faults_now reads reads_now : ℕ) : Type 0 where
   pub leaves : LeavesHeld old now before after bytes left
   pub own : StaysOwn old now
-  pub later : faults ≤ faults_now
+  pub later : faults_now ≡ faults
   pub told : (items : List Item) (names : List (ℕ × Piece)) → Stands old before items names
       → Applies ino steps items → AreCoveredThroughout old.tree.owner ino steps items names
       → IsSteppedTo ino steps count old now before items names reads reads_now
 
-pub steps-none : (ino : ℕ) (steps : List Step) (fs : FsTree) (history : Option (List Event)) (bytes faults reads : ℕ)
+pub steps-none : (ino : ℕ) (steps : List Step) (fs : FsTree) (history : History) (bytes faults reads : ℕ)
     → IsSubvolume fs history bytes → StepsUpTo ino steps 0 fs fs history history bytes bytes faults faults reads reads
 steps-none ino steps fs history bytes faults reads subvolume = record {
   leaves = leaves-itself fs history bytes subvolume;
@@ -57,7 +57,7 @@ steps-none ino steps fs history bytes faults reads subvolume = record {
 }
 
 module _ (ino : ℕ) (steps : List Step) (i : ℕ) (step : Step) (at : IsAt steps i step) (old mid : FsTree)
-    (before after : Option (List Event)) (bytes left faults faults_now reads reads_now : ℕ)
+    (before after : History) (bytes left faults faults_now reads reads_now : ℕ)
     (so_far : StepsUpTo ino steps i old mid before after bytes left faults faults_now reads reads_now) where
   -- the next step can be made
   can_step : (items : List Item) → Applies ino steps items
@@ -82,8 +82,8 @@ module _ (ino : ℕ) (steps : List Step) (i : ℕ) (step : Step) (at : IsAt step
       (named (i + 1)))
 
   -- and then it is
-  pub steps-more : (new : FsTree) (now : Option (List Event)) (size faults_new reads_new : ℕ)
-      → LeavesHeld mid new after now left size → StaysOwn mid new → faults_now ≤ faults_new
+  pub steps-more : (new : FsTree) (now : History) (size faults_new reads_new : ℕ)
+      → LeavesHeld mid new after now left size → StaysOwn mid new → faults_new ≡ faults_now
       → ((items : List Item) (names : List (ℕ × Piece)) → Stands mid after items names → CanApply ino step items
       → AreCovered mid.tree.owner (filter_map name_told (after_step ino step items)) names
       → AreMade 1 0 mid new after (after_step ino step items) names reads_now reads_new (Ok tt))
@@ -97,7 +97,7 @@ module _ (ino : ℕ) (steps : List Step) (i : ℕ) (step : Step) (at : IsAt step
         told = λ items names stands applies named.
             let here = so_far.told items names stands applies named in
             let items_here = after_steps ino (take i steps) items in
-            let told_here = subst (λ (h : Option (List Event)). (items : List Item) (names : List (ℕ × Piece))
+            let told_here = subst (λ (h : History). (items : List Item) (names : List (ℕ × Piece))
             → Stands mid h items names → CanApply ino step items
             → AreCovered mid.tree.owner (filter_map name_told (after_step ino step items)) names
             → AreMade 1 0 mid new h (after_step ino step items) names reads_now reads_new (Ok tt)) so_far.leaves.history
@@ -126,7 +126,7 @@ module _ (ino : ℕ) (steps : List Step) (i : ℕ) (step : Step) (at : IsAt step
   steps-failed new reads_new fault below told items names stands applies named =
       let here = so_far.told items names stands applies named in
       let items_here = after_steps ino (take i steps) items in
-      let told_here = subst (λ (h : Option (List Event)). (items : List Item) (names : List (ℕ × Piece))
+      let told_here = subst (λ (h : History). (items : List Item) (names : List (ℕ × Piece))
       → Stands mid h items names → CanApply ino step items
       → AreCovered mid.tree.owner (filter_map name_told (after_step ino step items)) names
       → AreMade 1 0 mid new h (after_step ino step items) names reads_now reads_new (Err fault)) so_far.leaves.history
@@ -141,7 +141,7 @@ module _ (ino : ℕ) (steps : List Step) (i : ℕ) (step : Step) (at : IsAt step
       (after_steps ino steps items) names names reads reads_new fault (omega arith) failed
 
 -- all steps are made
-pub steps-all : (ino : ℕ) (steps : List Step) (i : ℕ) (old new : FsTree) (before after : Option (List Event))
+pub steps-all : (ino : ℕ) (steps : List Step) (i : ℕ) (old new : FsTree) (before after : History)
     (bytes left faults faults_now reads reads_now : ℕ) → length steps ≤ i → i ≤ length steps
     → take i steps ≡ steps
     → StepsUpTo ino steps i old new before after bytes left faults faults_now reads reads_now

@@ -9,7 +9,7 @@ use Rattle.std.specs.List.Sorted.{IsPermutation}
 use Rattle.std.specs.Option.{option_map, option_to_list}
 use Rattle.std.proofs.lemmas.List.{length-map}
 use Rattle.std.proofs.lemmas.List.Elements.{All-cons, All-nil}
-use Rattle.qg_device.specs.History.{Event}
+use Rattle.qg_device.specs.History.{History}
 use Rattle.qg_num.specs.declared.piece.Piece.{Piece}
 use Rattle.qg_items.specs.declared.file.InodeItem.{InodeItem}
 use Rattle.qg_image.specs.declared.file.File.{File}
@@ -45,7 +45,7 @@ use Rattle.qg_file_edits.proofs.Sources.{source-named}
 use Rattle.qg_file_edits.proofs.Taken.{IsGiven, given-named, given-sound, taken-few, within-met}
 
 -- an exchange makes these files of others, by so few edits that no more than some pieces are touched
-pub record IsToldFor (pieces : ℕ) (fs : FsTree) (history : Option (List Event)) (ino : ℕ) (change : Exchange)
+pub record IsToldFor (pieces : ℕ) (fs : FsTree) (history : History) (ino : ℕ) (change : Exchange)
     (files files_new : List (ℕ × File)) : Type 0 where
   pub edits : ℕ
   pub most : edits ≤ pieces + 3
@@ -69,7 +69,7 @@ new_given generation off len run off_aligned len_aligned some fits near =
       stamped = All-cons Stamped piece [] (omega arith) (All-nil Stamped);
     }
 
-module _ (fs : FsTree) (history : Option (List Event)) (ino off len run : ℕ) (found : Found) (change : Exchange)
+module _ (fs : FsTree) (history : History) (ino off len run : ℕ) (found : Found) (change : Exchange)
     (files : List (ℕ × File)) (fits : fs.tree.next < 2 ^ 64) (run_fits : run < 2 ^ 64) (range : IsFileRange ino off len)
     (holds : HoldsFiles fs history files) (finds : Finds files ino off (off + len) found)
     (is : IsRangeChange fs.tree.next off (off + len) (new_piece fs.tree.next off len run ∷ [])
@@ -125,7 +125,7 @@ module _ (fs : FsTree) (history : Option (List Event)) (ino off len run : ℕ) (
 
 -- ---- a clone
 
-module _ (fs : FsTree) (history : Option (List Event)) (other from len ino off : ℕ) (source : List Piece)
+module _ (fs : FsTree) (history : History) (other from len ino off : ℕ) (source : List Piece)
     (found : Found)
     (change : Exchange) (files source_files : List (ℕ × File)) (tree : Root) (fits : fs.tree.next < 2 ^ 64)
     (from_aligned : is_aligned from ≡ true) (range : IsFileRange ino off len) (holds : HoldsFiles fs history files)
@@ -217,7 +217,7 @@ module _ (fs : FsTree) (history : Option (List Event)) (other from len ino off :
 
 -- ---- a cut and a removal
 
-module _ (fs : FsTree) (history : Option (List Event)) (ino : ℕ) (file : File) (change : Exchange)
+module _ (fs : FsTree) (history : History) (ino : ℕ) (file : File) (change : Exchange)
     (files : List (ℕ × File)) (fits : fs.tree.next < 2 ^ 64) (there : value_at ino files ≡ Some file)
     (holds : HoldsFiles fs history files) where
   pub told-cut : (size : ℕ) (inode : InodeItem) (met : List Piece) → is_aligned size ≡ true → size ≤ largest_size

@@ -1,6 +1,6 @@
 -- Several edits of a subvolume's tree, one after the other (this project's own).
-use Rattle.std.specs.Prelude.{◌≡◌, ℕ, ◌+◌, ◌*◌, ◌≤◌, List, Option, Some, Result, OnOk, IsTrue, not}
-use Rattle.qg_device.specs.History.{Event}
+use Rattle.std.specs.Prelude.{◌≡◌, ℕ, ◌+◌, ◌*◌, ◌≤◌, List, Result, OnOk, IsTrue, not}
+use Rattle.qg_device.specs.History.{Event, History, Recorded}
 use Rattle.qg_num.specs.declared.fault.BlockFault.{BlockFault}
 use Rattle.qg_num.specs.declared.key.Key.{Key}
 use Rattle.qg_num.specs.declared.piece.Piece.{Piece}
@@ -48,7 +48,7 @@ CanEditInode ino Remove items = IsTrue (has_key (inode_key ino) items)
 -- above its leaves at most: so with each edit it reaches at most five slots more, at most nine fewer are free, and at
 -- most nine are taken that were not before. What the other trees reach they reached before. What the extent tree's
 -- items take grows by no more than so many edits and so many names more bring
-pub record IsEditedBy (edits added : ℕ) (old new : FsTree) (history : Option (List Event)) (items : List Item)
+pub record IsEditedBy (edits added : ℕ) (old new : FsTree) (history : History) (items : List Item)
     (names : List (ℕ × Piece)) : Type 0 where
   pub stands : Stands new history items names
   pub moved : IsMoved old new history
@@ -61,9 +61,9 @@ pub record IsEditedBy (edits added : ℕ) (old new : FsTree) (history : Option (
 
 -- So it is once a call is done that takes so many edits and names so many extents at most. It answers no rule where
 -- enough slots are free, and takes at most 45 steps for each edit
-pub record AreMade (edits added : ℕ) (old new : FsTree) (history : Option (List Event)) (items : List Item)
+pub record AreMade (edits added : ℕ) (old new : FsTree) (history : History) (items : List Item)
     (names : List (ℕ × Piece)) (steps steps_new : ℕ) (result : Result (Unit {0}) BlockFault) : Type 0 where
   pub done : OnOk result (IsEditedBy edits added old new history items names)
-  pub sound : (events : List Event) → history ≡ Some events → 9 * edits + 15 ≤ free_slots old.land.space
+  pub sound : (events : List Event) → history ≡ Recorded events → 9 * edits + 15 ≤ free_slots old.land.space
       → BreaksNone result
   pub reads : steps_new ≤ steps + 45 * edits

@@ -1,10 +1,10 @@
 -- Trees that have the items of files: the one at hand before a command and after it, and others (this project's own).
 --
 -- Positions, lengths and sizes are in bytes.
-use Rattle.std.specs.Prelude.{◌≡◌, ℕ, ◌+◌, ◌*◌, ◌<◌, ◌≤◌, List, All, Option, IsTrue}
+use Rattle.std.specs.Prelude.{◌≡◌, ℕ, ◌+◌, ◌*◌, ◌<◌, ◌≤◌, List, All, IsTrue}
 use Rattle.std.specs.List.{flat_map}
 use Rattle.std.specs.Option.{option_map}
-use Rattle.qg_device.specs.History.{Event}
+use Rattle.qg_device.specs.History.{History}
 use Rattle.qg_num.specs.declared.piece.Piece.{Piece}
 use Rattle.qg_image.specs.declared.file.File.{File}
 use Rattle.qg_image.specs.FilesOf.{inodes_end, is_aligned, largest_size, least_inode}
@@ -27,13 +27,13 @@ use Rattle.qg_file_edits.specs.declared.found.Found.{Found}
 
 -- a tree has the items of these files, and the pieces that name extents are theirs. The files can be written, and tell
 -- no generation past the one to come
-pub record HoldsFiles (fs : FsTree) (history : Option (List Event)) (files : List (ℕ × File)) : Type 0 where
+pub record HoldsFiles (fs : FsTree) (history : History) (files : List (ℕ × File)) : Type 0 where
   pub stands : Stands fs history (flat_map items_of_file files) (named files)
   pub writable : AreWritableFiles files
   pub by : All (IsFileBy fs.tree.next) files
 
 -- a tree has the items of these files, which can be written, and tell no generation past the one to come
-pub record HasFiles (fs : FsTree) (history : Option (List Event)) (tree : Root) (files : List (ℕ × File)) : Type 0 where
+pub record HasFiles (fs : FsTree) (history : History) (tree : Root) (files : List (ℕ × File)) : Type 0 where
   pub items : items_in fs history tree ≡ flat_map items_of_file files
   pub writable : AreWritableFiles files
   pub by : All (IsFileBy fs.tree.next) files
@@ -51,7 +51,7 @@ pub record Finds (files : List (ℕ × File)) (ino from to : ℕ) (found : Found
 -- it gave back, and at most so many that were not taken before; and at most so many fewer are free. What the extent
 -- tree's items take grows by no more than edits and names bring, as many as pieces that are touched and three, and
 -- twice so many
-pub record LeavesFiles (old new : FsTree) (history : Option (List Event)) (files : List (ℕ × File)) (pieces : ℕ)
+pub record LeavesFiles (old new : FsTree) (history : History) (files : List (ℕ × File)) (pieces : ℕ)
     : Type 0 where
   pub holds : HoldsFiles new history files
   pub moved : IsMoved old new history
@@ -65,7 +65,7 @@ pub record LeavesFiles (old new : FsTree) (history : Option (List Event)) (files
 
 -- nodes and space are such as a tree is edited in; the other trees, sizes, and what the last commit holds, stay, and
 -- the disk is not written
-pub record LeavesHeld (old new : FsTree) (before after : Option (List Event)) (bytes left : ℕ) : Type 0 where
+pub record LeavesHeld (old new : FsTree) (before after : History) (bytes left : ℕ) : Type 0 where
   pub subvolume : IsSubvolume new after left
   pub others : new.others ≡ old.others
   pub node_sizes : new.land.blocks.draft.sizes ≡ old.land.blocks.draft.sizes

@@ -1,7 +1,7 @@
 -- Pieces of a file that name extents, or name them no more, while the tree's items stay (this project's own).
-use Rattle.std.specs.Prelude.{◌≡◌, ℕ, ◌<◌, ◌≤◌, List, map, Option, Result, OnOk, Contains}
+use Rattle.std.specs.Prelude.{◌≡◌, ℕ, ◌<◌, ◌≤◌, List, map, Result, OnOk, Contains}
 use Rattle.std.specs.List.{All}
-use Rattle.qg_device.specs.History.{Event}
+use Rattle.qg_device.specs.History.{History}
 use Rattle.qg_num.specs.declared.fault.BlockFault.{BlockFault}
 use Rattle.qg_num.specs.declared.piece.Piece.{Piece}
 use Rattle.qg_node.specs.declared.item.Item.{Item}
@@ -30,18 +30,18 @@ AreCovered owner told names = (at : ℕ) (reference : Reference)
 -- before
 pub record KeepsNodes (old new : FsTree) : Type 0 where
   pub tree : KeepsTree old new
-  pub subvolume : (history : Option (List Event)) (bytes : ℕ) → IsSubvolume old history bytes
+  pub subvolume : (history : History) (bytes : ℕ) → IsSubvolume old history bytes
       → IsSubvolume new history bytes
   pub slots : free_slots new.land.space ≡ free_slots old.land.space
 
 -- a tree stands with these items and names, as edits between two commits leave it
-pub record StandsMoved (old new : FsTree) (history : Option (List Event)) (items : List Item) (names : List (ℕ × Piece))
+pub record StandsMoved (old new : FsTree) (history : History) (items : List Item) (names : List (ℕ × Piece))
     : Type 0 where
   pub stands : Stands new history items names
   pub moved : IsMoved old new history
 
 -- so it does once a call is done, and the call answers no rule
-pub record AreNamed (old new : FsTree) (history : Option (List Event)) (items : List Item) (names : List (ℕ × Piece))
+pub record AreNamed (old new : FsTree) (history : History) (items : List Item) (names : List (ℕ × Piece))
     (result : Result (Unit {0}) BlockFault) : Type 0 where
   pub done : OnOk result (StandsMoved old new history items names)
   pub sound : BreaksNone result

@@ -1,7 +1,7 @@
 // What each file command does to a subvolume's tree.
 ghost use Rattle.std.specs.Prelude.{◌≡◌, ◌+◌, ◌*◌, ◌^◌, ◌<◌, ◌≤◌, ℕ, Contains, List, OnOk, IsTrue, length};
 ghost use Rattle.qg_device.specs.Cause.{HasCause};
-ghost use Rattle.qg_device.specs.History.{Event};
+ghost use Rattle.qg_device.specs.History.{Event, Recorded};
 ghost use Rattle.qg_image.specs.declared.file.File.{File as FileValue};
 ghost use Rattle.qg_image.specs.FilesOf.{is_aligned, largest_size};
 ghost use Rattle.qg_image.specs.Table.{value_at, without_key};
@@ -52,7 +52,7 @@ pub fn write<D: Disk, L: Ledger>(
         → OnOk result (LeavesFiles fs.old fs.new (D.history disk.old)
         (files_written fs.old.tree.next ino off len run files)
         (pieces_meeting off (off + len) (pieces_of ino files))) }
-    ensures sound { (events : List Event) → D.history disk.old ≡ Some events → (files : List (ℕ × FileValue))
+    ensures sound { (events : List Event) → D.history disk.old ≡ Recorded events → (files : List (ℕ × FileValue))
         → HoldsFiles fs.old (D.history disk.old) files → Finds files ino off (off + len) found
         → 10 * file_copies fs.old.tree.height (pieces_meeting off (off + len) (pieces_of ino files))
         ≤ free_slots fs.old.land.space → BreaksNone result }
@@ -102,7 +102,7 @@ pub fn clone_into<D: Disk, L: Ledger>(
         (files_cloned_from fs.old.tree.next (pieces_of other source_files) from len ino off files)
         (pieces_meeting off (off + len) (pieces_of ino files)
         + pieces_meeting from (from + len) (pieces_of other source_files))) }
-    ensures sound { (events : List Event) → D.history disk.old ≡ Some events
+    ensures sound { (events : List Event) → D.history disk.old ≡ Recorded events
         → (files source_files : List (ℕ × FileValue)) (tree : Root) (other : ℕ)
         → HoldsFiles fs.old (D.history disk.old) files → Contains (trees_of fs.old) tree
         → HasFiles fs.old (D.history disk.old) tree source_files
@@ -149,7 +149,7 @@ pub fn truncate<D: Disk, L: Ledger>(
         → value_at ino files ≡ Some file → Finds files ino size largest_size found
         → OnOk result (LeavesFiles fs.old fs.new (D.history disk.old) (files_cut fs.old.tree.next ino size file files)
         (pieces_past size file.pieces)) }
-    ensures sound { (events : List Event) → D.history disk.old ≡ Some events → (files : List (ℕ × FileValue))
+    ensures sound { (events : List Event) → D.history disk.old ≡ Recorded events → (files : List (ℕ × FileValue))
         (file : FileValue) → HoldsFiles fs.old (D.history disk.old) files → value_at ino files ≡ Some file
         → Finds files ino size largest_size found
         → 10 * file_copies fs.old.tree.height (pieces_past size file.pieces) ≤ free_slots fs.old.land.space
@@ -187,7 +187,7 @@ pub fn unlink<D: Disk, L: Ledger>(
         → value_at ino files ≡ Some file → met ≡ pieces_met 0 largest_size file.pieces
         → OnOk result (LeavesFiles fs.old fs.new (D.history disk.old) (without_key ino files)
         (length file.pieces)) }
-    ensures sound { (events : List Event) → D.history disk.old ≡ Some events → (files : List (ℕ × FileValue))
+    ensures sound { (events : List Event) → D.history disk.old ≡ Recorded events → (files : List (ℕ × FileValue))
         (file : FileValue) → HoldsFiles fs.old (D.history disk.old) files → value_at ino files ≡ Some file
         → met ≡ pieces_met 0 largest_size file.pieces
         → 10 * file_copies fs.old.tree.height (length file.pieces) ≤ free_slots fs.old.land.space → BreaksNone result }

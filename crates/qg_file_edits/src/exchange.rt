@@ -1,9 +1,9 @@
 // Pieces of a file come in the place of others, and its INODE_ITEM follows.
-ghost use Rattle.std.specs.Prelude.{◌++◌, ◌*◌, ℕ, List, Option, OnOk, IsErrOf, length};
+ghost use Rattle.std.specs.Prelude.{◌++◌, ◌*◌, ℕ, List, OnOk, IsErrOf, length};
 ghost use Rattle.std.specs.List.{flat_map};
 ghost use Rattle.std.specs.Option.{option_to_list};
 ghost use Rattle.qg_device.specs.Cause.{HasCause};
-ghost use Rattle.qg_device.specs.History.{Event};
+ghost use Rattle.qg_device.specs.History.{History};
 ghost use Rattle.qg_num.specs.declared.piece.Piece.{Piece as PieceValue};
 ghost use Rattle.qg_node.specs.declared.item.Item.{Item as ItemValue};
 ghost use Rattle.qg_image.specs.declared.file.File.{File as FileValue};
@@ -80,7 +80,7 @@ pub(crate) fn make_exchange<D: Disk, L: Ledger>(
 /// The pieces that come name their extents.
 fn name_those_put(fs: &mut FsTree, ino: Ino, change: &Exchange) -> Result<(), BlockFault>
     requires { IsReadyFor fs.old.land.space change.now }
-    ensures named { (history : Option (List Event)) (bytes : ℕ) (items : List ItemValue) (names : List (ℕ × PieceValue))
+    ensures named { (history : History) (bytes : ℕ) (items : List ItemValue) (names : List (ℕ × PieceValue))
         → IsSubvolume fs.old history bytes → Stands fs.old history items names
         → AreOfNamed (names ++ names_elsewhere fs.old history) change.now.named
         → AreFewNames fs.old.tree.owner (names_of ino (change.now.named ++ option_to_list change.now.new) ++ names)

@@ -1,8 +1,8 @@
 // All of some pieces of a file name extents, or name them no more.
-ghost use Rattle.std.specs.Prelude.{◌++◌, ◌*◌, ℕ, ⊤, List, Option, MatchOption, IsErrOf, IsTrue, OnOk, length};
+ghost use Rattle.std.specs.Prelude.{◌++◌, ◌*◌, ℕ, ⊤, List, MatchOption, IsErrOf, IsTrue, OnOk, length};
 ghost use Rattle.std.specs.List.{filter_map};
 ghost use Rattle.std.specs.Option.{option_to_list};
-ghost use Rattle.qg_device.specs.History.{Event};
+ghost use Rattle.qg_device.specs.History.{History};
 ghost use Rattle.qg_num.specs.declared.piece.Piece.{Piece as PieceValue};
 ghost use Rattle.qg_node.specs.declared.item.Item.{Item as ItemValue};
 ghost use Rattle.qg_space.specs.Holding.{is_free_run};
@@ -16,7 +16,7 @@ use qg_num::{BlockFault, Ino, Piece};
 
 /// Pieces of a file name extents that others name already, in this tree or in another.
 pub(crate) fn name_each(fs: &mut FsTree, ino: Ino, pieces: &[Piece]) -> Result<(), BlockFault>
-    ensures named { (history : Option (List Event)) (bytes : ℕ) (items : List ItemValue) (names : List (ℕ × PieceValue))
+    ensures named { (history : History) (bytes : ℕ) (items : List ItemValue) (names : List (ℕ × PieceValue))
         → IsSubvolume fs.old history bytes → Stands fs.old history items names
         → AreOfNamed (names ++ names_elsewhere fs.old history) pieces.now
         → AreFewNames fs.old.tree.owner (names_of ino pieces.now ++ names)
@@ -33,7 +33,7 @@ pub(crate) fn name_each(fs: &mut FsTree, ino: Ino, pieces: &[Piece]) -> Result<(
 
 /// Pieces of a file name their extents no more. The runs of extents that none names any more are given back.
 pub(crate) fn unname_each(fs: &mut FsTree, ino: Ino, pieces: &[Piece]) -> Result<(), BlockFault>
-    ensures unnamed { (history : Option (List Event)) (bytes : ℕ) (items : List ItemValue)
+    ensures unnamed { (history : History) (bytes : ℕ) (items : List ItemValue)
         (names : List (ℕ × PieceValue))
         → IsSubvolume fs.old history bytes → Stands fs.old history items (names_of ino pieces.now ++ names)
         → AreCovered fs.old.tree.owner (filter_map name_told items) names
@@ -51,7 +51,7 @@ pub(crate) fn unname_each(fs: &mut FsTree, ino: Ino, pieces: &[Piece]) -> Result
 /// A piece, if there is one, names a new extent, whose run is free.
 pub(crate) fn name_new(fs: &mut FsTree, ino: Ino, new: Option<Piece>) -> Result<(), BlockFault>
     requires { MatchOption new ⊤ (λ piece. IsTrue (is_free_run fs.old.land.space piece.extent piece.extent_bytes)) }
-    ensures named { (history : Option (List Event)) (bytes : ℕ) (items : List ItemValue) (names : List (ℕ × PieceValue))
+    ensures named { (history : History) (bytes : ℕ) (items : List ItemValue) (names : List (ℕ × PieceValue))
         → IsSubvolume fs.old history bytes → Stands fs.old history items names
         → AreNamed fs.old fs.new history items (names_of ino (option_to_list new) ++ names) result }
     ensures nodes { KeepsNodes fs.old fs.new }

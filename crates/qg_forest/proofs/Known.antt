@@ -2,7 +2,7 @@
 use Rattle.std.proofs.Common.{◌≡◌, ℕ, ◌<◌, List, length, Option, Some, None, refl, sym, ap, ◌∙◌, inr}
 use Rattle.std.specs.Prelude.{is_some, nat_lt}
 use Rattle.std.proofs.lemmas.Bool.{lt-ltb}
-use Rattle.qg_device.specs.History.{Event}
+use Rattle.qg_device.specs.History.{History}
 use Rattle.qg_ground.specs.declared.ground.Ground.{Ground}
 use Rattle.qg_refs.specs.declared.kept.What.{What}
 use Rattle.qg_refs.specs.declared.kept.Kept.{Kept}
@@ -23,7 +23,7 @@ pub referred-known : (book : Book) → IsBook book → (at : ℕ)
     → nat_lt 0 (references_to book at) ≡ is_some (what_in (book at))
 referred-known book is at = kept_known (book at) (is.some at)
 
-pub Settled-known : (before after : TreeRefs) (land : Ground) (history : Option (List Event))
+pub Settled-known : (before after : TreeRefs) (land : Ground) (history : History)
     → IsBook (book_of before.refs) → IsBook (book_of after.refs) → after.nodesize ≡ before.nodesize
     → after.next ≡ before.next
     → ((at : ℕ) → what_in (book_of after.refs at) ≡ what_in (book_of before.refs at))

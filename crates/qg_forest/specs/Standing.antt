@@ -2,7 +2,7 @@
 -- nodes and extents (this project's own). Addresses and lengths are in bytes.
 use Rattle.std.specs.Prelude.{◌≡◌, ◌↔◌, ℕ, List, Option, Some, None, IsTrue, Contains}
 use Rattle.std.specs.List.Sorted.{IsStrictlyIncreasing}
-use Rattle.qg_device.specs.History.{Event}
+use Rattle.qg_device.specs.History.{History}
 use Rattle.qg_super.specs.declared.sizes.Sizes.{Sizes}
 use Rattle.qg_super.specs.Places.{is_run, is_slot}
 use Rattle.qg_image.specs.Table.{keys_of, value_at}
@@ -42,7 +42,7 @@ tree_of state sub = record {
 -- ---- nodes and extents
 
 -- a node of the layout lies in a slot and is told there, with the mark that the book has of it
-pub record HoldsNode (land : Ground) (history : Option (List Event)) (book : TreeRefs) (at : ℕ) (placed : Placed) :
+pub record HoldsNode (land : Ground) (history : History) (book : TreeRefs) (at : ℕ) (placed : Placed) :
     Type 0
   where
     pub slot : IsTrue (is_slot land.space.sizes at)
@@ -62,7 +62,7 @@ pub record IsKnownRun (sizes : Sizes) (book : Book) (run : Element) : Type 0 whe
 -- and each node that is not full is reached by its owner. The layout's nodes are told, and the book counts exactly
 -- what the layout owes; what stands of book, nodes and space between two edits stands. The runs that are taken are
 -- the extents of the present files, and slots and runs of the last commit are those that the state's holds
-pub record HoldsState (land : Ground) (history : Option (List Event)) (book : TreeRefs) (state : State) : Type 0 where
+pub record HoldsState (land : Ground) (history : History) (book : TreeRefs) (state : State) : Type 0 where
   pub sizes : state.sizes ≡ land.space.sizes
   pub nodesize : book.nodesize ≡ state.sizes.nodesize
   pub next : book.next ≡ next_generation state

@@ -7,7 +7,7 @@ use Rattle.std.specs.List.Sorted.{IsPermutation}
 use Rattle.std.proofs.lemmas.List.Elements.{All-weaker, Contains-append_cases, Contains-append_left}
 use Rattle.std.proofs.lemmas.List.Elements.{Contains-append_right}
 use Rattle.std.proofs.lemmas.List.Sorted.{Contains-permutation, IsPermutation-sym}
-use Rattle.qg_device.specs.History.{Event}
+use Rattle.qg_device.specs.History.{Event, History, Recorded}
 use Rattle.qg_num.specs.declared.counters.Counters.{Counters}
 use Rattle.qg_num.specs.declared.piece.Piece.{Piece}
 use Rattle.qg_node.specs.declared.node.Node.{Node}
@@ -66,7 +66,7 @@ key_in {A} n table (Some value) is some =
 -- ---- slots
 
 -- the slots of the present state are the addresses of its layout
-module _ (fs : FsTree) (history : Option (List Event)) (bytes : ℕ) (state : State) (mine : Subvolume)
+module _ (fs : FsTree) (history : History) (bytes : ℕ) (state : State) (mine : Subvolume)
     (files : List (ℕ × File)) (kept : IsKept fs history bytes) (keeps : KeepsState fs history state mine files)
     (slots : (slot : ℕ) → Contains fs.land.space.slots slot → is_slot fs.land.space.sizes slot ≡ true) where
   slots_laid : (slot : ℕ) → Contains fs.land.space.slots slot ↔ Contains (keys_of state.layout) slot
@@ -106,7 +106,7 @@ module _ (old new : FsTree) (events later : List Event) (bytes : ℕ) (state : S
     (lays : LaysTree old events bytes state mine files roots counters slots trees)
     (told : AreToldBy (committed others state (quota_laid old.tree.next counters state.quota)) slots trees others)
     (becomes : IsCommitted old new (map (λ node. (header_of node).address) (nodes_laid trees)))
-    (still : StandsStill old new (Some events) (Some later) (flat_map items_of_file files) (named files)) where
+    (still : StandsStill old new (Recorded events) (Recorded later) (flat_map items_of_file files) (named files)) where
   abbrev quota_now : Option Quota
   quota_now = quota_laid old.tree.next counters state.quota
 
@@ -126,7 +126,7 @@ module _ (old new : FsTree) (events later : List Event) (bytes : ℕ) (state : S
   by_then its by = subst (λ (n : ℕ). All (IsFileBy n) its) (sym next_is)
       (All-weaker (IsFileBy old.tree.next) (IsFileBy (old.tree.next + 1)) (later_file old.tree.next) its by)
 
-  holds : HoldsFiles new (Some later) files
+  holds : HoldsFiles new (Recorded later) files
   holds = record {
     stands = still.stands;
     writable = lays.keeps.holds.writable;
@@ -136,7 +136,7 @@ module _ (old new : FsTree) (events later : List Event) (bytes : ℕ) (state : S
   -- another tree has the files that it had
   has_still : (was : Root) (subvolume : Subvolume) → Contains old.others.items was
       → value_at was.owner state.subvolumes ≡ Some subvolume
-      → HasFiles new (Some later) (for_generation (old.tree.next + 1) was) subvolume.files
+      → HasFiles new (Recorded later) (for_generation (old.tree.next + 1) was) subvolume.files
   has_still was subvolume among there =
       let has = lays.keeps.have was subvolume among there in
       record {
@@ -145,15 +145,15 @@ module _ (old new : FsTree) (events later : List Event) (bytes : ℕ) (state : S
         by = by_then subvolume.files has.by;
       }
 
-  have : OthersHaveFiles after new (Some later)
+  have : OthersHaveFiles after new (Recorded later)
   have tree subvolume among there =
       let among_old = subst (λ (list : List Root). Contains list tree) becomes.others among in
       let was = from-mapped (for_generation (old.tree.next + 1)) old.others.items tree among_old in
       let listed = ap (λ (t : Root). value_at t.owner state.subvolumes) was.2 ∙ there in
-      subst (λ (t : Root). HasFiles new (Some later) t subvolume.files) was.2
+      subst (λ (t : Root). HasFiles new (Recorded later) t subvolume.files) was.2
       (has_still was.0 subvolume was.1 listed)
 
-  laid_out : IsLaidOut after new (Some later)
+  laid_out : IsLaidOut after new (Recorded later)
   laid_out = record {
     sizes = lays.keeps.laid.sizes ∙ sym becomes.sizes;
     generation = ap (λ (n : ℕ). n + 1) lays.keeps.laid.generation ∙ sym next_is;
@@ -165,7 +165,7 @@ module _ (old new : FsTree) (events later : List Event) (bytes : ℕ) (state : S
   held_slots : (slot : ℕ) → Contains new.land.space.held_slots slot ↔ Contains after.held.nodes slot
   held_slots slot = (into, back) where
     present : Contains old.land.space.slots slot ↔ Contains (keys_of state.layout) slot
-    present = slots_laid old (Some events) bytes state mine files lays.kept lays.keeps lays.order.slots slot
+    present = slots_laid old (Recorded events) bytes state mine files lays.kept lays.keeps lays.order.slots slot
 
     placed : Contains old.land.space.slots slot ⊎ Contains (addresses_of (nodes_laid trees)) slot
         → Contains (addresses_of others ++ keys_of state.layout) slot
@@ -191,7 +191,7 @@ module _ (old new : FsTree) (events later : List Event) (bytes : ℕ) (state : S
 
   held_runs : (run : Element) → Contains new.land.space.held_runs run ↔ Contains after.held.extents run
   held_runs run =
-      let same = runs-told old (Some events) bytes state mine files lays.kept lays.keeps run in (
+      let same = runs-told old (Recorded events) bytes state mine files lays.kept lays.keeps run in (
         λ has.
             subst (λ (extents : List Element). Contains extents run) (sym extents_now)
             (same.0 (subst (λ (runs : List Element). Contains runs run) becomes.held_runs has)),
@@ -205,7 +205,7 @@ module _ (old new : FsTree) (events later : List Event) (bytes : ℕ) (state : S
       (same-recorded old.land.space.sizes old.tree.next roots old.refs.refs quota_now slots trees lays.laid.laid others
       told.moved after lays.kept.table refl)
 
-  pub commit-kept : KeepsCommit new (Some later) after mine files
+  pub commit-kept : KeepsCommit new (Recorded later) after mine files
   commit-kept = record {
     keeps = record {
       there = ap (λ (n : ℕ). value_at n state.subvolumes) owner_is ∙ lays.keeps.there;

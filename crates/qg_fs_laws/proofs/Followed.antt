@@ -6,7 +6,7 @@ use Rattle.std.specs.List.{All, Contains, filter, filter_map, flat_map, list_any
 use Rattle.std.proofs.lemmas.Bool.{cases_Bool, cond-false, cond-true}
 use Rattle.std.proofs.lemmas.List.Sums.{sum_by-cons}
 use Rattle.std.specs.Option.{option_map}
-use Rattle.qg_device.specs.History.{Event}
+use Rattle.qg_device.specs.History.{History}
 use Rattle.qg_node.specs.declared.node.Node.{Node}
 use Rattle.qg_super.specs.declared.sizes.Sizes.{Sizes}
 use Rattle.qg_super.specs.Places.{is_slot}
@@ -105,13 +105,13 @@ placed_from true (Some node) at full entry is =
     ap (λ (e : ℕ × Placed). e.0) (sym same)
 placed_from false told at full entry is = let wrong : None ≡ Some entry = is in cc
 
-placed_own : (fs : FsTree) (history : Option (List Event)) (at : ℕ) (entry : ℕ × Placed)
+placed_own : (fs : FsTree) (history : History) (at : ℕ) (entry : ℕ × Placed)
     → placed_at fs history at ≡ Some entry → entry.0 ≡ at
 placed_own fs history at entry is =
     placed_from (list_any (λ tree. nat_lt 0 (ways_in fs history tree at)) (trees_of fs)) (nodes_of fs history at) at
     (full_in (book_of fs.refs.refs at)) entry is
 
-module _ (old new : FsTree) (history : Option (List Event)) (bytes left pieces : ℕ) (before : State)
+module _ (old new : FsTree) (history : History) (bytes left pieces : ℕ) (before : State)
     (mine : Subvolume) (files files_new : List (ℕ × File)) (last : Accepted) (kept : IsKept old history bytes)
     (keeps : KeepsState old history before mine files) (kept_new : IsKept new history left)
     (leaves : LeavesFiles old new history files_new pieces)

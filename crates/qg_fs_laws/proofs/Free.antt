@@ -6,7 +6,7 @@ use Rattle.std.specs.List.{count_by, list_any, range_with_len}
 use Rattle.std.proofs.lemmas.Bool.{cases_Bool, cond-false, cond-true}
 use Rattle.std.proofs.lemmas.List.Folds.{list_any-append}
 use Rattle.std.specs.Prelude.{map}
-use Rattle.qg_device.specs.History.{Event}
+use Rattle.qg_device.specs.History.{History}
 use Rattle.qg_super.specs.Places.{is_slot, slot_at}
 use Rattle.qg_image.specs.declared.file.File.{File}
 use Rattle.qg_image.specs.Table.{has_key, keys_of, value_at}
@@ -40,7 +40,7 @@ free_alike true xs ys held at same =
     ∙ sym (list_any-append (λ (s : ℕ). s == at) ys held))
 free_alike false xs ys held at same = refl
 
-module _ (fs : FsTree) (history : Option (List Event)) (bytes : ℕ) (state : State) (mine : Subvolume)
+module _ (fs : FsTree) (history : History) (bytes : ℕ) (state : State) (mine : Subvolume)
     (files : List (ℕ × File)) (kept : IsKept fs history bytes) (keeps : KeepsState fs history state mine files) where
   abbrev laid_slots : Holding
   laid_slots = record fs.land.space { slots = keys_of state.layout }

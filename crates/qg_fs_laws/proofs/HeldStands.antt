@@ -6,7 +6,7 @@ use Rattle.std.specs.List.{Contains, flat_map}
 use Rattle.std.proofs.lemmas.Bool.{eqb-true, lt-ltb, or_cases}
 use Rattle.std.proofs.lemmas.List.Elements.{All-append, All-cons, All-nil}
 use Rattle.std.proofs.lemmas.Option.{same_Some}
-use Rattle.qg_device.specs.History.{Event}
+use Rattle.qg_device.specs.History.{History}
 use Rattle.qg_num.specs.declared.piece.Piece.{Piece}
 use Rattle.qg_node.specs.declared.item.Item.{Item}
 use Rattle.qg_node.specs.declared.node.Node.{Node}
@@ -88,11 +88,11 @@ files_short (file ∷ files) =
     (All-cons IsShort (item_of_inode file.0 file.1) (map (item_of_piece file.0) file.1.pieces) (omega (arith, long))
     (pieces_short file.0 file.1.pieces)) (files_short files)
 
-items_told : (fs : FsTree) (history : Option (List Event)) (tree : Root) (items : List Item)
+items_told : (fs : FsTree) (history : History) (tree : Root) (items : List Item)
     → items_below (nodes_of fs history) tree.height tree.address ≡ Some items → items_in fs history tree ≡ items
 items_told fs history tree items is = rw is refl
 
-module _ (fs : FsTree) (history : Option (List Event)) (bytes : ℕ) (state : State) (mine : Subvolume)
+module _ (fs : FsTree) (history : History) (bytes : ℕ) (state : State) (mine : Subvolume)
     (kept : IsKept fs history bytes) (held : HoldsState fs.land history fs.refs state) (trees : AreTreesOf fs state)
     (there : value_at fs.tree.owner state.subvolumes ≡ Some mine) (hand : HasFiles fs history fs.tree mine.files)
     (others : OthersHaveFiles state fs history) where

@@ -1,8 +1,8 @@
 -- Trees that stand still, and of which nothing else has changed, are kept of the same state.
-use Rattle.std.proofs.Common.{◌≡◌, ℕ, List, Option, Some, refl, sym, ap, subst, ◌∙◌}
+use Rattle.std.proofs.Common.{◌≡◌, ℕ, List, Some, refl, sym, ap, subst, ◌∙◌}
 use Rattle.std.specs.Prelude.{◌↔◌}
 use Rattle.std.specs.List.{All, Contains, flat_map}
-use Rattle.qg_device.specs.History.{Event}
+use Rattle.qg_device.specs.History.{History}
 use Rattle.qg_image.specs.declared.file.File.{File}
 use Rattle.qg_image.specs.Table.{value_at}
 use Rattle.qg_image.specs.State.{State, Subvolume}
@@ -17,7 +17,7 @@ use Rattle.qg_standing.specs.Committing.{StandsStill}
 use Rattle.qg_file_edits.specs.Files.{HasFiles}
 use Rattle.qg_fs_laws.specs.Keeping.{KeepsState}
 
-module _ (old new : FsTree) (before after : Option (List Event)) (state : State) (mine : Subvolume)
+module _ (old new : FsTree) (before after : History) (state : State) (mine : Subvolume)
     (files : List (ℕ × File)) (tree : new.tree ≡ old.tree) (others : new.others ≡ old.others)
     (space : new.land.space ≡ old.land.space)
     (still : StandsStill old new before after (flat_map items_of_file files) (named files))

@@ -1,9 +1,9 @@
 -- What the items of trees name is what the files of their subvolumes have.
-use Rattle.std.proofs.Common.{◌≡◌, ℕ, List, ◌++◌, Option, Some, refl, sym, subst, inl, inr}
+use Rattle.std.proofs.Common.{◌≡◌, ℕ, List, ◌++◌, Some, refl, sym, subst, inl, inr}
 use Rattle.std.specs.Prelude.{◌↔◌}
 use Rattle.std.specs.List.{Contains, filter_map}
 use Rattle.std.proofs.lemmas.List.Elements.{Contains-append_cases, Contains-append_left, Contains-append_right}
-use Rattle.qg_device.specs.History.{Event}
+use Rattle.qg_device.specs.History.{History}
 use Rattle.qg_num.specs.declared.piece.Piece.{Piece}
 use Rattle.qg_node.specs.declared.item.Item.{Item}
 use Rattle.qg_image.specs.FilesOf.{files_of}
@@ -20,7 +20,7 @@ use Rattle.qg_file_edits.specs.Laying.{names_in}
 use Rattle.qg_file_edits.proofs.FsLayoutExtents.{TellsExtent, from-files, from-present, in-files, in-names, in-present}
 
 -- an item of a tree tells an extent
-record IsToldBy (fs : FsTree) (history : Option (List Event)) (run : Element) : Type 0 where
+record IsToldBy (fs : FsTree) (history : History) (run : Element) : Type 0 where
   tree : Root
   among : Contains (trees_of fs) tree
   item : Item
@@ -28,17 +28,17 @@ record IsToldBy (fs : FsTree) (history : Option (List Event)) (run : Element) : 
   tells : TellsExtent item run
 
 -- a tree has the items of a subvolume's files, and each tree has those of one
-pub record HasTree (fs : FsTree) (history : Option (List Event)) (subvolume : Subvolume) : Type 0 where
+pub record HasTree (fs : FsTree) (history : History) (subvolume : Subvolume) : Type 0 where
   pub tree : Root
   pub among : Contains (trees_of fs) tree
   pub files : files_of fs.tree.next (items_in fs history tree) ≡ Some subvolume.files
 
-pub record HasSubvolume (fs : FsTree) (history : Option (List Event)) (state : State) (tree : Root) : Type 0 where
+pub record HasSubvolume (fs : FsTree) (history : History) (state : State) (tree : Root) : Type 0 where
   pub entry : ℕ × Subvolume
   pub has : Contains state.subvolumes entry
   pub files : files_of fs.tree.next (items_in fs history tree) ≡ Some entry.1.files
 
-module _ (fs : FsTree) (history : Option (List Event)) (state : State) (items : List Item)
+module _ (fs : FsTree) (history : History) (state : State) (items : List Item)
     (hand : items_in fs history fs.tree ≡ items)
     (its : (tree : Root) → Contains (trees_of fs) tree → HasSubvolume fs history state tree)
     (each : (entry : ℕ × Subvolume) → Contains state.subvolumes entry → HasTree fs history entry.1) where

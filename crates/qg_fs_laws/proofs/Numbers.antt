@@ -1,10 +1,10 @@
 -- Subvolumes by number, and one of them with other files and another root.
-use Rattle.std.proofs.Common.{◌≡◌, ℕ, arith, Bool, true, false, List, [], ◌∷◌, map, Option, refl, sym, ap, subst, ◌∙◌}
+use Rattle.std.proofs.Common.{◌≡◌, ℕ, arith, Bool, true, false, List, [], ◌∷◌, map, refl, sym, ap, subst, ◌∙◌}
 use Rattle.std.specs.Prelude.{◌==◌, nat_lt}
 use Rattle.std.specs.List.{flat_map}
 use Rattle.std.specs.List.Sorted.{IsStrictlyIncreasing}
 use Rattle.std.proofs.lemmas.Bool.{eq-eqb, le-ltb}
-use Rattle.qg_device.specs.History.{Event}
+use Rattle.qg_device.specs.History.{History}
 use Rattle.qg_image.specs.declared.file.File.{File}
 use Rattle.qg_image.specs.Table.{keys_of, with_value}
 use Rattle.qg_image.specs.State.{State, Subvolume}
@@ -21,7 +21,7 @@ keys_same : (table : List (ℕ × Subvolume)) → keys_of (map root_entry table)
 keys_same [] = refl
 keys_same (entry ∷ table) = ap (λ (ns : List ℕ). entry.0 ∷ ns) (keys_same table)
 
-module _ (fs : FsTree) (history : Option (List Event)) (bytes : ℕ) (state : State) (mine : Subvolume)
+module _ (fs : FsTree) (history : History) (bytes : ℕ) (state : State) (mine : Subvolume)
     (files : List (ℕ × File)) (kept : IsKept fs history bytes) (keeps : KeepsState fs history state mine files) where
   pub numbers-ascend : IsStrictlyIncreasing (keys_of state.subvolumes)
   numbers-ascend = subst (λ (ns : List ℕ). IsStrictlyIncreasing ns)

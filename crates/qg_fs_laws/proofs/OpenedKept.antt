@@ -7,7 +7,7 @@ use Rattle.std.specs.Option.{option_map}
 use Rattle.std.proofs.lemmas.Bool.{cases_Bool}
 use Rattle.std.proofs.lemmas.List.Elements.{All-from_recursion, All-weaker, Contains-append_cases, Contains-append_left}
 use Rattle.std.proofs.lemmas.List.Elements.{Contains-append_right}
-use Rattle.qg_device.specs.History.{Event, content}
+use Rattle.qg_device.specs.History.{Event, Recorded, content}
 use Rattle.qg_num.specs.declared.piece.Piece.{Piece}
 use Rattle.qg_node.specs.declared.item.Item.{Item}
 use Rattle.qg_items.specs.declared.root.RootItem.{RootItem}
@@ -147,31 +147,31 @@ module _ (fs : FsTree) (super : Super) (events : List Event) (table : IsTable fs
 
     -- its tree has the items of its files
     has_files : (subvolume : Subvolume) → value_at entry.0 (state_in super (content events)).subvolumes ≡ Some subvolume
-        → HasFiles fs (Some events) (opened_tree super entry) subvolume.files
+        → HasFiles fs (Recorded events) (opened_tree super entry) subvolume.files
     has_files subvolume is =
         let told = read_as own.files own.files_are in
         let there = value_there super (content events) entry.0 entry.1 own.files value_is own.files_are in
         let e : Some (mine_opened own.files entry.1) ≡ Some subvolume = sym there ∙ is in
         let same : mine_opened own.files entry.1 ≡ subvolume = cc in
-        subst (λ (s : Subvolume). HasFiles fs (Some events) (opened_tree super entry) s.files) same (record {
+        subst (λ (s : Subvolume). HasFiles fs (Recorded events) (opened_tree super entry) s.files) same (record {
           items = made.each entry has ∙ told.are;
           writable = told.writable;
           by = All-weaker (IsFileBy super.generation) (IsFileBy fs.tree.next) by_next own.files told.by;
         })
 
-  have : OthersHaveFiles (state_in super (content events)) fs (Some events)
+  have : OthersHaveFiles (state_in super (content events)) fs (Recorded events)
   have tree subvolume has value =
       let found = tree-entry fs super events sound opened tree (contains_later fs.tree fs.others.items tree has) in
-      subst (λ (t : Root). HasFiles fs (Some events) t subvolume.files) found.2
+      subst (λ (t : Root). HasFiles fs (Recorded events) t subvolume.files) found.2
       (has_files found.0 found.1 subvolume
       (ap (λ (t : Root). value_at t.owner (state_in super (content events)).subvolumes) found.2 ∙ value))
 
   -- ---- the layout
 
-  layout_there : state.layout ≡ nodes_in fs (Some events)
+  layout_there : state.layout ≡ nodes_in fs (Recorded events)
   layout_there = ap (λ (layout : Layout). layout.nodes) (sym made.layout)
 
-  laid : IsLaidOut (state_in super (content events)) fs (Some events)
+  laid : IsLaidOut (state_in super (content events)) fs (Recorded events)
   laid = record {
     sizes = sizes_there super (content events) ∙ sym opened.sizes;
     generation = ap (λ (n : ℕ). n + 1) (generation_there super (content events)) ∙ sym next_is;
@@ -183,24 +183,25 @@ module _ (fs : FsTree) (super : Super) (events : List Event) (table : IsTable fs
   some : 0 < fs.land.space.sizes.nodesize
   some = (SlotsFit-is_served fs.land.space.sizes (drafted-there fs super events sound opened).sizes.served).some
 
-  key_met : (q : ℕ) → Contains (keys_of (nodes_in fs (Some events))) q → IsMet fs (Some events) q
+  key_met : (q : ℕ) → Contains (keys_of (nodes_in fs (Recorded events))) q → IsMet fs (Recorded events) q
   key_met q has =
-      let entry = from-mapped (λ (entry : ℕ × Placed). entry.0) (nodes_in fs (Some events)) q has in
-      let value = value_of_entry (nodes_in fs (Some events)) entry.0
-      (nodes-ascend fs (Some events) some (placed-opened fs super events sound opened)) entry.1 in
-      subst (λ (at : ℕ). IsMet fs (Some events) at) entry.2
-      (reached-by fs (Some events) entry.0.0 entry.0.1 value).met
+      let entry = from-mapped (λ (entry : ℕ × Placed). entry.0) (nodes_in fs (Recorded events)) q has in
+      let value = value_of_entry (nodes_in fs (Recorded events)) entry.0
+      (nodes-ascend fs (Recorded events) some (placed-opened fs super events sound opened)) entry.1 in
+      subst (λ (at : ℕ). IsMet fs (Recorded events) at) entry.2
+      (reached-by fs (Recorded events) entry.0.0 entry.0.1 value).met
 
-  met_key : (q : ℕ) → IsMet fs (Some events) q → Contains (keys_of (nodes_in fs (Some events))) q
+  met_key : (q : ℕ) → IsMet fs (Recorded events) q → Contains (keys_of (nodes_in fs (Recorded events))) q
   met_key q met =
       let node = node-met fs super events sound opened q met in
       let placed : Placed = record { node = node.0; full = full_in (book_of fs.refs.refs q) } in
-      let value = value-reached fs (Some events) some (placed-opened fs super events sound opened) q placed
+      let value = value-reached fs (Recorded events) some (placed-opened fs super events sound opened) q placed
       (record { met = met; told = node.1; full = refl }) in
-      has-mapped (λ (entry : ℕ × Placed). entry.0) (nodes_in fs (Some events)) (q, placed)
-      (entry_of_value q placed (nodes_in fs (Some events)) value)
+      has-mapped (λ (entry : ℕ × Placed). entry.0) (nodes_in fs (Recorded events)) (q, placed)
+      (entry_of_value q placed (nodes_in fs (Recorded events)) value)
 
-  held_is : state.held.nodes ≡ addresses_of (other_nodes super (content events)) ++ keys_of (nodes_in fs (Some events))
+  held_is : state.held.nodes ≡ addresses_of (other_nodes super (content events))
+      ++ keys_of (nodes_in fs (Recorded events))
   held_is = held_there super (content events)
       ∙ ap (λ (table : List (ℕ × Placed)). addresses_of (other_nodes super (content events)) ++ keys_of table)
       layout_there
@@ -213,10 +214,10 @@ module _ (fs : FsTree) (super : Super) (events : List Event) (table : IsTable fs
         (elim ((commit.slots slot).0 has) [
           | inl other ↦
               Contains-append_left (addresses_of (other_nodes super (content events)))
-              (keys_of (nodes_in fs (Some events))) slot other
+              (keys_of (nodes_in fs (Recorded events))) slot other
           | inr own ↦
               Contains-append_right (addresses_of (other_nodes super (content events)))
-              (keys_of (nodes_in fs (Some events))) slot
+              (keys_of (nodes_in fs (Recorded events))) slot
               (met_key slot (slot-met fs super events sound opened slot own))
         ])
 
@@ -224,7 +225,7 @@ module _ (fs : FsTree) (super : Super) (events : List Event) (table : IsTable fs
     back has =
         (commit.slots slot).1
         (elim (Contains-append_cases (addresses_of (other_nodes super (content events)))
-        (keys_of (nodes_in fs (Some events))) slot
+        (keys_of (nodes_in fs (Recorded events))) slot
         (subst (λ (nodes : List ℕ). Contains nodes slot) held_is has)) [
           | inl other ↦ inl other
           | inr key ↦ inr (met-slot fs super events sound opened slot (key_met slot key))
@@ -248,20 +249,20 @@ module _ (fs : FsTree) (super : Super) (events : List Event) (table : IsTable fs
       hand_read : AreItemsOf super.generation files (items_of_root Files super (content events) root)
       hand_read = read_as (fs.tree.owner, root) hand_has files is.are
 
-      hand_stands : Stands fs (Some events) (items_of_root Files super (content events) root)
+      hand_stands : Stands fs (Recorded events) (items_of_root Files super (content events) root)
           (names_in (items_of_root Files super (content events) root))
       hand_stands = made.stands root
           (subst (λ (n : ℕ). Contains (subvolume_roots (roots_in super (content events))) (n, root)) opened.number
           hand_has)
 
-      holds : HoldsFiles fs (Some events) files
+      holds : HoldsFiles fs (Recorded events) files
       holds = record {
-        stands = subst (λ (its : List Item). Stands fs (Some events) its (names_in its)) hand_read.are hand_stands;
+        stands = subst (λ (its : List Item). Stands fs (Recorded events) its (names_in its)) hand_read.are hand_stands;
         writable = hand_read.writable;
         by = All-weaker (IsFileBy super.generation) (IsFileBy fs.tree.next) by_next files hand_read.by;
       }
 
-      keeps : KeepsState fs (Some events) (state_in super (content events)) (mine_opened files root) files
+      keeps : KeepsState fs (Recorded events) (state_in super (content events)) (mine_opened files root) files
       keeps = record {
         there = value_there super (content events) fs.tree.owner root files is.there is.are;
         are = refl;

@@ -1,11 +1,11 @@
 -- What the items of a commit's other trees weigh, and what file commands change, by the tree.
-use Rattle.std.proofs.Common.{◌≡◌, ℕ, ◌+◌, Bool, true, false, List, [], ◌∷◌, ◌++◌, map, length, Option, Some}
+use Rattle.std.proofs.Common.{◌≡◌, ℕ, ◌+◌, Bool, true, false, List, [], ◌∷◌, ◌++◌, map, length, Some}
 use Rattle.std.proofs.Common.{sym, ap, ◌∙◌, inl, inr}
 use Rattle.std.specs.Prelude.{◌||◌}
 use Rattle.std.specs.Option.{option_map}
 use Rattle.std.proofs.lemmas.Bool.{cases_Bool, true≢false}
 use Rattle.std.proofs.lemmas.List.Folds.{list_any-append}
-use Rattle.qg_device.specs.History.{Event}
+use Rattle.qg_device.specs.History.{History}
 use Rattle.qg_image.specs.declared.file.File.{File}
 use Rattle.qg_image.specs.Table.{value_at, with_value, without_key}
 use Rattle.qg_image.specs.Need.{held_records, weight}
@@ -47,7 +47,7 @@ names_alike records names now apart same one =
         | inr other ↦ others-named records one other ∙ same one other
       ]
 
-module _ (fs : FsTree) (history : Option (List Event)) (bytes : ℕ) (state : State) (mine : Subvolume)
+module _ (fs : FsTree) (history : History) (bytes : ℕ) (state : State) (mine : Subvolume)
     (files : List (ℕ × File)) (kept : IsKept fs history bytes) (keeps : KeepsState fs history state mine files) where
   module _ (names : List Record) (recorded : IsRecorded state fs.refs.held) (others_are : NamesOthers state.held names)
     where

@@ -10,7 +10,7 @@ use Rattle.std.proofs.lemmas.Bool.Decides.{nat_tests}
 use Rattle.std.proofs.lemmas.List.Elements.{All-contains, All-from_recursion, Contains-append_cases}
 use Rattle.std.proofs.lemmas.List.Elements.{Contains-append_left, Contains-append_right}
 use Rattle.std.proofs.lemmas.Map.Keys.{sorted_from_strictly_increasing, sorted_head, sorted_tail}
-use Rattle.qg_device.specs.History.{Event}
+use Rattle.qg_device.specs.History.{History}
 use Rattle.qg_node.specs.declared.pointer.Pointer.{Pointer}
 use Rattle.qg_node.specs.declared.node.Node.{Node}
 use Rattle.qg_super.proofs.Runs.{WholeRun-is_run}
@@ -82,7 +82,7 @@ all_apart nodesize (slot ∷ slots) runs sorted apart elsewhere =
 
 -- ---- what subvolumes reach
 
-module _ (fs : FsTree) (history : Option (List Event)) (bytes : ℕ) (state : State) (mine : Subvolume)
+module _ (fs : FsTree) (history : History) (bytes : ℕ) (state : State) (mine : Subvolume)
     (files : List (ℕ × File)) (kept : IsKept fs history bytes) (keeps : KeepsState fs history state mine files) where
   abbrev slots : List ℕ
   slots = keys_of state.layout

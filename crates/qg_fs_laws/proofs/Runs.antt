@@ -1,9 +1,9 @@
 -- Trees that are kept of a state: the runs that are taken are the extents of the present files, and what is held of the
 -- state.
-use Rattle.std.proofs.Common.{◌≡◌, ℕ, true, false, List, Option, Some, sym, ap, subst, ◌∙◌}
+use Rattle.std.proofs.Common.{◌≡◌, ℕ, true, false, List, Some, sym, ap, subst, ◌∙◌}
 use Rattle.std.specs.Prelude.{◌↔◌}
 use Rattle.std.specs.List.{Contains, flat_map}
-use Rattle.qg_device.specs.History.{Event}
+use Rattle.qg_device.specs.History.{History}
 use Rattle.qg_node.specs.Nodes.{header_of}
 use Rattle.qg_super.specs.declared.sizes.Sizes.{Sizes}
 use Rattle.qg_super.specs.Places.{is_run}
@@ -30,7 +30,7 @@ use Rattle.qg_fs_laws.proofs.Kept.{counted, have, stands, whole}
 use Rattle.qg_fs_laws.proofs.Named.{HasSubvolume, HasTree, named-present}
 use Rattle.qg_fs_laws.proofs.Numbers.{numbers-ascend}
 
-module _ (fs : FsTree) (history : Option (List Event)) (bytes : ℕ) (state : State) (mine : Subvolume)
+module _ (fs : FsTree) (history : History) (bytes : ℕ) (state : State) (mine : Subvolume)
     (files : List (ℕ × File)) (kept : IsKept fs history bytes) (keeps : KeepsState fs history state mine files) where
   hand_items : items_in fs history fs.tree ≡ flat_map items_of_file files
   hand_items = items-at_hand fs history bytes (flat_map items_of_file files) (named files) kept.subvolume

@@ -1,11 +1,11 @@
 -- After a commit of trees that are kept of a state the image is sound, and stands for the state that the commit leaves.
-use Rattle.std.proofs.Common.{◌≡◌, ℕ, ◌≤◌, true, List, [], map, Option, Some, None, refl}
+use Rattle.std.proofs.Common.{◌≡◌, ℕ, ◌≤◌, true, List, [], map, Option, None, refl}
 use Rattle.std.proofs.Common.{sym, ap, subst, ◌∙◌, arith}
 use Rattle.std.specs.Prelude.{All, IsTrue}
 use Rattle.std.specs.List.{Contains, flat_map}
 use Rattle.std.specs.List.Sorted.{IsPermutation}
 use Rattle.std.proofs.lemmas.List.Elements.{All-contains, All-weaker}
-use Rattle.qg_device.specs.History.{Event, content}
+use Rattle.qg_device.specs.History.{Event, History, Recorded, content}
 use Rattle.qg_num.specs.declared.counters.Counters.{Counters}
 use Rattle.qg_num.specs.declared.piece.Piece.{Piece}
 use Rattle.qg_node.specs.declared.item.Item.{Item}
@@ -63,7 +63,7 @@ use Rattle.qg_fs_laws.proofs.Roots.{have-roots, roots-are}
 
 -- ---- what is known of the trees
 
-module _ (fs : FsTree) (history : Option (List Event)) (bytes : ℕ) (state : State) (mine : Subvolume)
+module _ (fs : FsTree) (history : History) (bytes : ℕ) (state : State) (mine : Subvolume)
     (files : List (ℕ × File)) (kept : IsKept fs history bytes) (keeps : KeepsState fs history state mine files) where
   stood : Stands fs history (flat_map items_of_file files) (named files)
   stood = stands fs history bytes state mine files kept keeps
@@ -120,8 +120,8 @@ module _ (fs : FsTree) (history : Option (List Event)) (bytes : ℕ) (state : St
 module _ (fs : FsTree) (events : List Event) (bytes : ℕ) (state : State) (mine : Subvolume) (files : List (ℕ × File))
     (roots : List (ℕ × RootItem)) (counters : ℕ → Counters) (slots : List ℕ) (trees : OtherTrees)
     (lays : LaysTree fs events bytes state mine files roots counters slots trees) where
-  abbrev history : Option (List Event)
-  history = Some events
+  abbrev history : History
+  history = Recorded events
 
   abbrev sizes : Sizes
   sizes = fs.land.space.sizes

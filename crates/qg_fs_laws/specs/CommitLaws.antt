@@ -1,8 +1,8 @@
 -- Laws on a commit of subvolumes' trees that are kept of a state (this project's own). Addresses and lengths are in
 -- bytes.
-use Rattle.std.specs.Prelude.{◌≡◌, ℕ, List, map, Option, Some, None}
+use Rattle.std.specs.Prelude.{◌≡◌, ℕ, List, map, None}
 use Rattle.std.specs.List.{flat_map}
-use Rattle.qg_device.specs.History.{Event}
+use Rattle.qg_device.specs.History.{Event, History, Recorded}
 use Rattle.qg_num.specs.declared.counters.Counters.{Counters}
 use Rattle.qg_node.specs.declared.node.Node.{Node}
 use Rattle.qg_node.specs.Nodes.{header_of}
@@ -41,13 +41,14 @@ TreeCommitIsKept = (old new : FsTree) (events later : List Event) (bytes : ℕ) 
     → LaysTree old events bytes state mine files roots counters slots trees
     → AreToldBy (committed others state (quota_laid old.tree.next counters state.quota)) slots trees others
     → IsCommitted old new (map (λ node. (header_of node).address) (nodes_laid trees))
-    → StandsStill old new (Some events) (Some later) (flat_map items_of_file files) (named files)
-    → KeepsCommit new (Some later) (committed others state (quota_laid old.tree.next counters state.quota)) mine files
+    → StandsStill old new (Recorded events) (Recorded later) (flat_map items_of_file files) (named files)
+    → KeepsCommit new (Recorded later) (committed others state (quota_laid old.tree.next counters state.quota)) mine
+    files
 
 -- where nothing was done but that nodes were read, or a disk was written elsewhere, trees that stand still are kept of
 -- the same state
 abbrev pub TreeIsKeptStill : Type 0
-TreeIsKeptStill = (old new : FsTree) (before after : Option (List Event)) (state : State) (mine : Subvolume)
+TreeIsKeptStill = (old new : FsTree) (before after : History) (state : State) (mine : Subvolume)
     (files : List (ℕ × File)) → new.tree ≡ old.tree → new.others ≡ old.others → new.land.space ≡ old.land.space
     → StandsStill old new before after (flat_map items_of_file files) (named files)
     → KeepsState old before state mine files → KeepsState new after state mine files

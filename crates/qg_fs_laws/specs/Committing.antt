@@ -3,7 +3,7 @@
 -- Addresses and lengths are in bytes.
 use Rattle.std.specs.Prelude.{◌≡◌, ℕ, ◌≤◌, List, Option, Some, IsTrue, All, Contains, length}
 use Rattle.std.specs.List.Sorted.{IsPermutation}
-use Rattle.qg_device.specs.History.{Event, content}
+use Rattle.qg_device.specs.History.{Event, History, Recorded, content}
 use Rattle.qg_num.specs.declared.counters.Counters.{Counters}
 use Rattle.qg_num.specs.declared.piece.Piece.{Piece}
 use Rattle.qg_items.specs.declared.root.RootItem.{RootItem}
@@ -91,8 +91,8 @@ pub record AreRootsNow (fs : FsTree) (state : State) (roots : List (ℕ × RootI
 pub record LaysTree (fs : FsTree) (events : List Event) (bytes : ℕ) (state : State) (mine : Subvolume)
     (files : List (ℕ × File)) (roots : List (ℕ × RootItem)) (counters : ℕ → Counters) (slots : List ℕ)
     (trees : OtherTrees) : Type 0 where
-  pub kept : IsKept fs (Some events) bytes
-  pub keeps : KeepsState fs (Some events) state mine files
+  pub kept : IsKept fs (Recorded events) bytes
+  pub keeps : KeepsState fs (Recorded events) state mine files
   pub order : IsInOrder fs.land.space
   pub short : IsShort state
   pub long : total_bytes fs.land.space.sizes ≤ length (content events)
@@ -124,7 +124,7 @@ pub record IsSoundCommit (fs : FsTree) (events : List Event) (state : State) (qu
 
 -- Trees are kept of a committed state, whose extent tree is what the book holds; and the items of its other trees name
 -- what those of its subvolumes and groups do
-pub record KeepsCommit (fs : FsTree) (history : Option (List Event)) (state : State) (mine : Subvolume)
+pub record KeepsCommit (fs : FsTree) (history : History) (state : State) (mine : Subvolume)
     (files : List (ℕ × File)) : Type 0 where
   pub keeps : KeepsState fs history state mine files
   pub recorded : IsRecorded state fs.refs.held

@@ -6,7 +6,7 @@ use Rattle.std.specs.Prelude.{◌≡◌, ◌↔◌, ℕ, ◌+◌, ◌^◌, ◌<�
 use Rattle.std.specs.Prelude.{Some, IsTrue, Contains}
 use Rattle.std.specs.List.{IsDistinct}
 use Rattle.std.specs.Option.{option_map}
-use Rattle.qg_device.specs.History.{Event}
+use Rattle.qg_device.specs.History.{History}
 use Rattle.qg_num.specs.declared.command.Command.TheVariants.{Write, Clone, Truncate, Unlink}
 use Rattle.qg_num.specs.declared.counters.Counters.{Counters}
 use Rattle.qg_node.specs.declared.node.Node.{Node}
@@ -44,20 +44,20 @@ use Rattle.qg_tree_commit.specs.Trees.{stamp_after}
 -- ---- what is kept
 
 -- what is known of the trees over any disk
-pub record IsKept (fs : FsTree) (history : Option (List Event)) (bytes : ℕ) : Type 0 where
+pub record IsKept (fs : FsTree) (history : History) (bytes : ℕ) : Type 0 where
   pub subvolume : IsSubvolume fs history bytes
   pub table : IsTable fs.refs.refs
   pub near : fs.tree.next < 2 ^ 64
 
 -- each tree besides the one at hand has the items of its subvolume's files
-abbrev pub OthersHaveFiles : State → FsTree → Option (List Event) → Type 0
+abbrev pub OthersHaveFiles : State → FsTree → History → Type 0
 OthersHaveFiles state fs history = (tree : Root) (subvolume : Subvolume) → Contains fs.others.items tree
     → value_at tree.owner state.subvolumes ≡ Some subvolume → HasFiles fs history tree subvolume.files
 
 -- Trees are kept of a state: the one at hand has the items of these files, which the subvolume of its number has, and
 -- each other one those of its own subvolume's; they are the state's layout; and of their space, slots and runs of the
 -- last commit are those that the state's holds
-pub record KeepsState (fs : FsTree) (history : Option (List Event)) (state : State) (mine : Subvolume)
+pub record KeepsState (fs : FsTree) (history : History) (state : State) (mine : Subvolume)
     (files : List (ℕ × File)) : Type 0 where
   pub there : value_at fs.tree.owner state.subvolumes ≡ Some mine
   pub are : mine.files ≡ files
@@ -78,7 +78,7 @@ pub record AreTreesOf (fs : FsTree) (state : State) : Type 0 where
 -- What stands of fresh nodes and of the book where what was pending was committed before a structural command: a fresh
 -- node is not full, and only its owner's tree reaches it; and nothing that is known is of a generation past the one to
 -- come
-pub record AreYoung (fs : FsTree) (history : Option (List Event)) : Type 0 where
+pub record AreYoung (fs : FsTree) (history : History) : Type 0 where
   pub alone : (tree : Root) (at : ℕ) (node : Node) → Contains (trees_of fs) tree → IsReachedBy fs history tree at
       → fresh_at fs.land.blocks.draft at ≡ Some node
       → (full_in (book_of fs.refs.refs at) ≡ false) × ((header_of node).owner ≡ tree.owner)
@@ -186,14 +186,14 @@ abbrev pub mine_after : Subvolume → List (ℕ × File) → FsTree → Subvolum
 mine_after mine files fs = record mine { files = files; root = fs.tree.address }
 
 -- the state with these files of the subvolume at hand, laid out as the trees are, and with one command more pending
-abbrev pub state_after : State → List (ℕ × File) → FsTree → Option (List Event) → Accepted → State
+abbrev pub state_after : State → List (ℕ × File) → FsTree → History → Accepted → State
 state_after before files fs history last = record (with_tree before fs.tree.owner files fs.tree.address) {
   layout = nodes_in fs history;
   pending = last ∷ before.pending;
 }
 
 -- the state after a file command of a subvolume follows the one before by copy on write, and the trees are kept of it
-pub record FollowsCommand (new : FsTree) (history : Option (List Event)) (before after : State) (mine : Subvolume)
+pub record FollowsCommand (new : FsTree) (history : History) (before after : State) (mine : Subvolume)
     (files : List (ℕ × File)) (sub copies : ℕ) : Type 0 where
   pub copied : CopiesOnWrite before after sub copies
   pub keeps : KeepsState new history after mine files

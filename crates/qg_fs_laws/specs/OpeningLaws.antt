@@ -1,6 +1,6 @@
 -- Laws that lead from a sound image that was just opened to trees that are kept of its state (this project's own).
 use Rattle.std.specs.Prelude.{◌≡◌, ℕ, List, Option, None, Some, IsTrue}
-use Rattle.qg_device.specs.History.{Event, content}
+use Rattle.qg_device.specs.History.{Event, Recorded, content}
 use Rattle.qg_items.specs.declared.root.RootItem.{RootItem}
 use Rattle.qg_super.specs.declared.superblock.Super.{Super}
 use Rattle.qg_super.specs.SuperText.{is_super}
@@ -42,7 +42,7 @@ OpenedIsKept = (fs : FsTree) (super : Super) (events : List Event) (root : RootI
     → IsTable fs.refs.refs → IsSoundImage super (content events) → IsOpened fs super (content events)
     → HoldsCommit fs super (content events) → HasBytes super (content events)
     → IsOf super (content events) fs.tree.owner root files
-    → KeepsState fs (Some events) (state_in super (content events)) (mine_opened files root) files
+    → KeepsState fs (Recorded events) (state_in super (content events)) (mine_opened files root) files
 
 -- the book is what the last commit recorded
 abbrev pub OpenedIsRecorded : Type 0

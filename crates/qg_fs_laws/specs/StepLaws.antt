@@ -1,8 +1,8 @@
 -- Laws that lead from the trees of subvolumes to a step of the machine (this project's own). Addresses, lengths and
 -- weights are in bytes.
-use Rattle.std.specs.Prelude.{◌≡◌, ℕ, ◌+◌, List, length, Option, Some, IsTrue, All}
+use Rattle.std.specs.Prelude.{◌≡◌, ℕ, ◌+◌, List, length, Some, IsTrue, All}
 use Rattle.std.specs.List.Sorted.{IsStrictlyIncreasing}
-use Rattle.qg_device.specs.History.{Event}
+use Rattle.qg_device.specs.History.{History}
 use Rattle.qg_num.specs.declared.counters.Counters.{Counters}
 use Rattle.qg_node.specs.declared.node.Node.{Node}
 use Rattle.qg_image.specs.declared.file.File.{File}
@@ -37,20 +37,20 @@ use Rattle.qg_fs_laws.specs.Keeping.{quota_laid, state_after}
 
 -- what is free of the trees' space is free of the state
 abbrev pub SpaceIsTold : Type 0
-SpaceIsTold = (fs : FsTree) (history : Option (List Event)) (bytes : ℕ) (state : State) (mine : Subvolume)
+SpaceIsTold = (fs : FsTree) (history : History) (bytes : ℕ) (state : State) (mine : Subvolume)
     (files : List (ℕ × File)) → IsKept fs history bytes → KeepsState fs history state mine files
     → TellsSpace state fs.land.space
 
 -- the level of the root of the subvolume at hand is its tree's height
 abbrev pub LevelIsTold : Type 0
-LevelIsTold = (fs : FsTree) (history : Option (List Event)) (bytes : ℕ) (state : State) (mine : Subvolume)
+LevelIsTold = (fs : FsTree) (history : History) (bytes : ℕ) (state : State) (mine : Subvolume)
     (files : List (ℕ × File)) → IsKept fs history bytes → KeepsState fs history state mine files
     → root_level state fs.tree.owner ≡ fs.tree.height
 
 -- what the last commit holds of the root, extent and quota trees, or one now would hold, takes what the two books take,
 -- and what the items of the root and the quota tree take, where the last commit's name what is listed
 abbrev pub WeightIsTold : Type 0
-WeightIsTold = (fs : FsTree) (history : Option (List Event)) (bytes : ℕ) (state : State) (mine : Subvolume)
+WeightIsTold = (fs : FsTree) (history : History) (bytes : ℕ) (state : State) (mine : Subvolume)
     (files : List (ℕ × File)) (names : List Record)
     → IsKept fs history bytes → KeepsState fs history state mine files
     → IsRecorded state fs.refs.held → NamesOthers state.held names
@@ -67,7 +67,7 @@ OthersWeigh = (state : State) → IsStrictlyIncreasing (keys_of state.subvolumes
 
 -- what each file command changes that edits the subvolume at hand is told by its tree's files
 abbrev pub ChangesAreTold : Type 0
-ChangesAreTold = (fs : FsTree) (history : Option (List Event)) (bytes : ℕ) (state : State) (mine : Subvolume)
+ChangesAreTold = (fs : FsTree) (history : History) (bytes : ℕ) (state : State) (mine : Subvolume)
     (files : List (ℕ × File)) → IsKept fs history bytes → KeepsState fs history state mine files
     → TellsChanges state fs.tree.owner fs.tree.next fs.land.space.sizes.nodesize files
 
@@ -75,7 +75,7 @@ ChangesAreTold = (fs : FsTree) (history : Option (List Event)) (bytes : ℕ) (st
 
 -- the nodes of the layout, and the runs that are taken, lie apart, and all that subvolumes reach is among them
 abbrev pub ReachIsTold : Type 0
-ReachIsTold = (fs : FsTree) (history : Option (List Event)) (bytes : ℕ) (state : State) (mine : Subvolume)
+ReachIsTold = (fs : FsTree) (history : History) (bytes : ℕ) (state : State) (mine : Subvolume)
     (files : List (ℕ × File)) → IsKept fs history bytes → KeepsState fs history state mine files
     → LieApart fs.land.space.runs → AreAllReached (layout_of state) (elements_of state fs.land.space.runs)
 
@@ -83,20 +83,20 @@ ReachIsTold = (fs : FsTree) (history : Option (List Event)) (bytes : ℕ) (state
 
 -- a state that trees are kept of is whole, and the book counts what its layout owes
 abbrev pub StateIsWhole : Type 0
-StateIsWhole = (fs : FsTree) (history : Option (List Event)) (bytes : ℕ) (state : State) (mine : Subvolume)
+StateIsWhole = (fs : FsTree) (history : History) (bytes : ℕ) (state : State) (mine : Subvolume)
     (files : List (ℕ × File)) → IsKept fs history bytes → KeepsState fs history state mine files
     → IsWhole state × CountsLayout (layout_of state) fs.refs.refs
 
 -- nodes in memory, disk and book hold a state that trees are kept of
 abbrev pub StateIsHeld : Type 0
-StateIsHeld = (fs : FsTree) (history : Option (List Event)) (bytes : ℕ) (state : State) (mine : Subvolume)
+StateIsHeld = (fs : FsTree) (history : History) (bytes : ℕ) (state : State) (mine : Subvolume)
     (files : List (ℕ × File)) → IsKept fs history bytes → KeepsState fs history state mine files
     → HoldsState fs.land history fs.refs state
 
 -- and back: trees are kept of a state that is held, where they are its subvolumes', as a structural command leaves
 -- them, and have the items of their files
 abbrev pub HeldIsKept : Type 0
-HeldIsKept = (fs : FsTree) (history : Option (List Event)) (bytes : ℕ) (state : State) (mine : Subvolume)
+HeldIsKept = (fs : FsTree) (history : History) (bytes : ℕ) (state : State) (mine : Subvolume)
     → IsKept fs history bytes → HoldsState fs.land history fs.refs state → AreTreesOf fs state
     → AreYoung fs history → value_at fs.tree.owner state.subvolumes ≡ Some mine
     → HasFiles fs history fs.tree mine.files → OthersHaveFiles state fs history
@@ -106,7 +106,7 @@ HeldIsKept = (fs : FsTree) (history : Option (List Event)) (bytes : ℕ) (state 
 
 -- a file command copies on write, and leaves trees that are kept of the state afterwards
 abbrev pub FileCommandCopies : Type 0
-FileCommandCopies = (old new : FsTree) (history : Option (List Event)) (bytes left pieces : ℕ) (before : State)
+FileCommandCopies = (old new : FsTree) (history : History) (bytes left pieces : ℕ) (before : State)
     (mine : Subvolume) (files files_new : List (ℕ × File)) (last : Accepted)
     → IsKept old history bytes → KeepsState old history before mine files → IsKept new history left
     → LeavesFiles old new history files_new pieces → new.land.space.held_runs ≡ old.land.space.held_runs

@@ -1,11 +1,11 @@
 -- Edits of a tree between two commits copy on write.
-use Rattle.std.proofs.Common.{◌≡◌, ◌≢◌, ℕ, Bool, true, false, List, [], ◌∷◌, Option, Some, refl, sym, ap, subst, ◌∙◌}
+use Rattle.std.proofs.Common.{◌≡◌, ◌≢◌, ℕ, Bool, true, false, List, [], ◌∷◌, Some, refl, sym, ap, subst, ◌∙◌}
 use Rattle.std.proofs.Common.{inl, inr}
 use Rattle.std.specs.Prelude.{◌⊎◌, ◌&&◌, ◌||◌, ◌==◌, IsTrue, is_some, nat_lt, not}
 use Rattle.std.specs.List.{Contains, filter, list_all, list_any}
 use Rattle.std.proofs.lemmas.Bool.{and_from, eq-eqb, eqb-false as number_not, eqb-true as number_is, lt-ltb, ltb-true}
 use Rattle.std.proofs.lemmas.Bool.{not_from_false, or_cases}
-use Rattle.qg_device.specs.History.{Event}
+use Rattle.qg_device.specs.History.{History}
 use Rattle.qg_num.specs.declared.piece.Piece.{Piece}
 use Rattle.qg_node.specs.declared.item.Item.{Item}
 use Rattle.qg_node.specs.declared.node.Node.{Node}
@@ -80,7 +80,7 @@ bare_as full was by now before still =
 
 -- ---- which tree reaches
 
-module _ (fs : FsTree) (history : Option (List Event)) (bytes : ℕ) (items : List Item) (names : List (ℕ × Piece))
+module _ (fs : FsTree) (history : History) (bytes : ℕ) (items : List Item) (names : List (ℕ × Piece))
     (subvolume : IsSubvolume fs history bytes) (stands : Stands fs history items names) where
   -- the one at hand, or another
   pub met-either : (q : ℕ) → IsMet fs history q → IsReached fs history q ⊎ IsElsewhere fs history q
@@ -118,7 +118,7 @@ module _ (fs : FsTree) (history : Option (List Event)) (bytes : ℕ) (items : Li
   pub other-number : (there : Root) → Contains fs.others.items there → there.owner ≢ fs.tree.owner
   other-number there has = numbers-apart fs history bytes items names subvolume stands there has
 
-module _ (old new : FsTree) (history : Option (List Event)) (bytes left : ℕ) (items items_new : List Item)
+module _ (old new : FsTree) (history : History) (bytes left : ℕ) (items items_new : List Item)
     (names names_new : List (ℕ × Piece)) (before after : State)
     (subvolume : IsSubvolume old history bytes) (stands : Stands old history items names)
     (subvolume_new : IsSubvolume new history left) (stands_new : Stands new history items_new names_new)
@@ -382,7 +382,7 @@ module _ (old new : FsTree) (history : Option (List Event)) (bytes left : ℕ) (
     made = all_true (is_made_node before old.tree.owner) (made_nodes before after) makes;
   }
 
-pub commands-copy : (old new : FsTree) (history : Option (List Event)) (bytes left : ℕ) (items items_new : List Item)
+pub commands-copy : (old new : FsTree) (history : History) (bytes left : ℕ) (items items_new : List Item)
     (names names_new : List (ℕ × Piece)) (before after : State)
     → IsSubvolume old history bytes → Stands old history items names
     → IsSubvolume new history left → Stands new history items_new names_new → IsMoved old new history

@@ -2,7 +2,7 @@
 use Rattle.std.proofs.Common.{◌≡◌, ℕ, List, ◌++◌, Option, Some, None, arith, refl, sym, ap, subst, ◌∙◌, ◌↔◌, inl, inr}
 use Rattle.std.specs.List.{Contains, filter_map}
 use Rattle.std.proofs.lemmas.List.Elements.{Contains-append_left, Contains-append_right}
-use Rattle.qg_device.specs.History.{Event}
+use Rattle.qg_device.specs.History.{History}
 use Rattle.qg_node.specs.declared.item.Item.{Item}
 use Rattle.qg_node.specs.declared.node.Node.{Node}
 use Rattle.qg_node.specs.Nodes.{header_of, own_items}
@@ -37,14 +37,14 @@ use Rattle.qg_fs_layout.proofs.Trees.{subvolume-tree, tree-subvolume, value-subv
 use Rattle.qg_fs_layout.proofs.Whole.{entry-laid, value-laid}
 
 -- an item of a tree tells an extent
-record IsTold (fs : FsTree) (history : Option (List Event)) (run : Element) : Type 0 where
+record IsTold (fs : FsTree) (history : History) (run : Element) : Type 0 where
   tree : Root
   among : Contains (trees_of fs) tree
   item : Item
   has : Contains (items_in fs history tree) item
   tells : TellsExtent item run
 
-module _ (fs : FsTree) (history : Option (List Event)) (bytes : ℕ) (items : List Item) (state : State)
+module _ (fs : FsTree) (history : History) (bytes : ℕ) (items : List Item) (state : State)
     (subvolume : IsSubvolume fs history bytes) (stands : Stands fs history items (names_in items))
     (laid : IsLaidOut state fs history) where
   same_owed : (at : ℕ) (reference : Reference)
@@ -191,7 +191,7 @@ module _ (fs : FsTree) (history : Option (List Event)) (bytes : ℕ) (items : Li
       known = known_run;
     }
 
-pub owed-counted : (fs : FsTree) (history : Option (List Event)) (bytes : ℕ) (items : List Item) (state : State)
+pub owed-counted : (fs : FsTree) (history : History) (bytes : ℕ) (items : List Item) (state : State)
     → IsSubvolume fs history bytes → Stands fs history items (names_in items)
     → IsLaidOut state fs history → HaveFiles state fs history → IsCounted state fs history
 owed-counted fs history bytes items state subvolume stands laid files =

@@ -6,7 +6,7 @@ use Rattle.std.specs.List.{AllByRecursion, Contains}
 use Rattle.std.proofs.lemmas.Bool.{and_parts, eqb-true, leb-true, ltb-true, or_cases}
 use Rattle.std.proofs.lemmas.List.Elements.{All-contains, All-from_recursion, Contains-append_left}
 use Rattle.std.proofs.lemmas.List.Elements.{Contains-append_right}
-use Rattle.qg_device.specs.History.{Event}
+use Rattle.qg_device.specs.History.{History}
 use Rattle.qg_num.specs.Key.{IsKey}
 use Rattle.qg_num.specs.declared.key.Key.{Key}
 use Rattle.qg_num.specs.declared.piece.Piece.{Piece}
@@ -176,7 +176,7 @@ module _ (super : Super) (nodes : ℕ → Option Node) (last : super.generation 
 -- ---- as the law says it
 
 -- a slot's address fits
-met_low : (fs : FsTree) (history : Option (List Event)) (bytes : ℕ) (items : List Item)
+met_low : (fs : FsTree) (history : History) (bytes : ℕ) (items : List Item)
     (names : List (ℕ × Piece)) → IsSubvolume fs history bytes → Stands fs history items names → (q : ℕ)
     → IsMet fs history q → q < 2 ^ 64
 met_low fs history bytes items names subvolume stands q met =
@@ -185,7 +185,7 @@ met_low fs history bytes items names subvolume stands q met =
     (met-slot fs history bytes items names subvolume stands q met) in
     omega (arith, ends)
 
-pub nodes-fit : (fs : FsTree) (history : Option (List Event)) (bytes : ℕ) (items : List Item)
+pub nodes-fit : (fs : FsTree) (history : History) (bytes : ℕ) (items : List Item)
     (names : List (ℕ × Piece)) → IsSubvolume fs history bytes → Stands fs history items names
     → fs.tree.next < 2 ^ 64
     → ((tree : Root) → Contains (trees_of fs) tree → All ItemFits (items_in fs history tree)) → AreFit fs history

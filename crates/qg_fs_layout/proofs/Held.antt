@@ -4,7 +4,7 @@ use Rattle.std.proofs.Common.{inr}
 use Rattle.std.specs.Prelude.{◌⊎◌, IsSome}
 use Rattle.std.specs.List.{Contains}
 use Rattle.std.proofs.lemmas.Bool.{lt-ltb}
-use Rattle.qg_device.specs.History.{Event}
+use Rattle.qg_device.specs.History.{History}
 use Rattle.qg_num.specs.declared.piece.Piece.{Piece}
 use Rattle.qg_node.specs.declared.item.Item.{Item}
 use Rattle.qg_node.specs.declared.node.Node.{Node}
@@ -30,7 +30,7 @@ use Rattle.qg_fs_layout.proofs.Trees.{drafted, entry-there, met-slot, numbers-ap
 
 -- it is fresh: of the generation to come, of the subvolume whose tree reaches it, not full, and none that the last
 -- commit holds
-pub record IsOwn (fs : FsTree) (history : Option (List Event)) (q : ℕ) (placed : Placed) : Type 0 where
+pub record IsOwn (fs : FsTree) (history : History) (q : ℕ) (placed : Placed) : Type 0 where
   pub generation : (header_of placed.node).generation ≡ fs.tree.next
   pub owner : (tree : Root) → Contains (trees_of fs) tree → IsReachedBy fs history tree q
       → (header_of placed.node).owner ≡ tree.owner
@@ -42,7 +42,7 @@ pub record IsHeldThere (fs : FsTree) (q : ℕ) : Type 0 where
   pub held : Contains fs.land.space.held_slots q
   pub clean : fresh_at fs.land.blocks.draft q ≡ None
 
-module _ (fs : FsTree) (history : Option (List Event)) (bytes : ℕ) (items : List Item) (names : List (ℕ × Piece))
+module _ (fs : FsTree) (history : History) (bytes : ℕ) (items : List Item) (names : List (ℕ × Piece))
     (subvolume : IsSubvolume fs history bytes) (stands : Stands fs history items names) where
   roots_in : (layout_in fs history).roots ≡ roots_of fs
   unfolding layout_in

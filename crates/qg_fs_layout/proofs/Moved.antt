@@ -6,7 +6,7 @@ use Rattle.std.specs.List.{Contains, list_any}
 use Rattle.std.specs.Result.{result_ok}
 use Rattle.std.proofs.lemmas.Bool.{and_parts, eq-eqb, eqb-true as number_is, lt-ltb, ltb-true}
 use Rattle.std.proofs.lemmas.List.Elements.{Contains-append_right}
-use Rattle.qg_device.specs.History.{Event, content}
+use Rattle.qg_device.specs.History.{History, Recorded, Unrecorded, content}
 use Rattle.qg_num.specs.declared.piece.Piece.{Piece}
 use Rattle.qg_node.specs.declared.item.Item.{Item}
 use Rattle.qg_node.specs.declared.node.Node.{Node}
@@ -72,7 +72,7 @@ both_marks false false middle way back = refl
 
 -- ---- no change
 
-module _ (fs : FsTree) (history : Option (List Event)) (items : List Item) (names : List (ℕ × Piece))
+module _ (fs : FsTree) (history : History) (items : List Item) (names : List (ℕ × Piece))
     (stands : Stands fs history items names) where
   beside_of : (other : Root) → Contains fs.others.items other → IsBeside fs history other
   beside_of other has = among_of (IsBeside fs history) fs.others.items stands.beside other has
@@ -116,7 +116,7 @@ runs_free : (space : Holding) (runs : List Element) (q : ℕ)
 unfolding is_free_slot
 runs_free space runs q = refl
 
-module _ (old new : FsTree) (history : Option (List Event)) (items : List Item) (names : List (ℕ × Piece))
+module _ (old new : FsTree) (history : History) (items : List Item) (names : List (ℕ × Piece))
     (stands : Stands old history items names) (keeps : KeepsTree old new)
     (marks : (tree : Root) (q : ℕ) → Contains (trees_of old) tree → IsReachedBy old history tree q
     → full_in (book_of new.refs.refs q) ≡ full_in (book_of old.refs.refs q)) where
@@ -174,7 +174,7 @@ module _ (old new : FsTree) (history : Option (List Event)) (items : List Item) 
   }
 
 -- a slot lies in front of the data area
-pub names-move : (old new : FsTree) (history : Option (List Event)) (bytes at : ℕ) (items : List Item)
+pub names-move : (old new : FsTree) (history : History) (bytes at : ℕ) (items : List Item)
     (names : List (ℕ × Piece)) → IsSubvolume old history bytes → Stands old history items names → KeepsTree old new
     → data_begin ≤ at → ((q : ℕ) → q ≢ at → full_in (book_of new.refs.refs q) ≡ full_in (book_of old.refs.refs q))
     → IsMoved old new history
@@ -187,7 +187,7 @@ names-move old new history bytes at items names subvolume stands keeps high mark
 -- ---- two changes
 
 -- what another tree reaches it reaches after an edit
-pub other-on : (old new : FsTree) (history : Option (List Event)) → IsMoved old new history → (tree : Root)
+pub other-on : (old new : FsTree) (history : History) → IsMoved old new history → (tree : Root)
     → Contains old.others.items tree → (q : ℕ) → IsReachedBy old history tree q
     → Contains new.others.items tree × IsReachedBy new history tree q
 other-on old new history moved tree among q reached = (
@@ -198,13 +198,13 @@ other-on old new history moved tree among q reached = (
   others_there : new.others ≡ old.others → Contains new.others.items tree
   others_there same = rw same among
 
-elsewhere_on : (old new : FsTree) (history : Option (List Event)) → IsMoved old new history → (q : ℕ)
+elsewhere_on : (old new : FsTree) (history : History) → IsMoved old new history → (q : ℕ)
     → IsElsewhere old history q → IsElsewhere new history q
 elsewhere_on old new history moved q there =
     let on = other-on old new history moved there.tree there.among q there.reached in
     record { tree = there.tree; among = on.0; reached = on.1 }
 
-module _ (a b c : FsTree) (history : Option (List Event)) (first : IsMoved a b history) (later : IsMoved b c history)
+module _ (a b c : FsTree) (history : History) (first : IsMoved a b history) (later : IsMoved b c history)
   where
     reach_then : (q : ℕ) → IsReached c history q → IsReached a history q ⊎ IsTrue (is_free_slot a.land.space q)
     reach_then q reached = elim (later.moves.reach q reached) [
@@ -317,7 +317,7 @@ module _ (a b c : FsTree) (history : Option (List Event)) (first : IsMoved a b h
 
 -- ---- what is told
 
-pub fresh-told : (land : Ground) (history : Option (List Event)) (q : ℕ) (node : Node)
+pub fresh-told : (land : Ground) (history : History) (q : ℕ) (node : Node)
     → fresh_at land.blocks.draft q ≡ Some node → told land.blocks.draft history q ≡ Some node
 unfolding told
 fresh-told land history q node is =
@@ -337,13 +337,13 @@ standing_alike a b image at size slots =
     ∙ ap (λ (n : ℕ). standing (record { nodesize = b.nodesize; slots = n; sectors = a.sectors }) image at) slots
     ∙ sectors_free b.nodesize b.slots a.sectors b.sectors image at
 
-told_alike : (a b : Sizes) (history : Option (List Event)) (at : ℕ) → a.nodesize ≡ b.nodesize → a.slots ≡ b.slots
+told_alike : (a b : Sizes) (history : History) (at : ℕ) → a.nodesize ≡ b.nodesize → a.slots ≡ b.slots
     → told_or None a history at ≡ told_or None b history at
-told_alike a b None at size slots = refl
-told_alike a b (Some events) at size slots = ap result_ok (standing_alike a b (content events) at size slots)
+told_alike a b (Unrecorded changes) at size slots = refl
+told_alike a b (Recorded events) at size slots = ap result_ok (standing_alike a b (content events) at size slots)
 
 -- what is clean in two lands is told the same, where they have the same sizes
-pub clean-told : (old new : Ground) (history : Option (List Event)) (generation later : ℕ) → IsDrafted old generation
+pub clean-told : (old new : Ground) (history : History) (generation later : ℕ) → IsDrafted old generation
     → IsDrafted new later → new.space.sizes ≡ old.space.sizes → (q : ℕ) → fresh_at old.blocks.draft q ≡ None
     → fresh_at new.blocks.draft q ≡ None
     → told new.blocks.draft history q ≡ told old.blocks.draft history q
@@ -364,7 +364,7 @@ held-clean land generation q drafted has = from (fresh_at land.blocks.draft q) r
   from (Some node) is = absurd ((drafted.each q node is).apart has)
 
 -- so it is told the same in both, where both hold the same
-pub held-kept : (old new : Ground) (history : Option (List Event)) (generation later : ℕ) → IsDrafted old generation
+pub held-kept : (old new : Ground) (history : History) (generation later : ℕ) → IsDrafted old generation
     → IsDrafted new later → new.space.sizes ≡ old.space.sizes → new.space.held_slots ≡ old.space.held_slots → (q : ℕ)
     → Contains old.space.held_slots q → told new.blocks.draft history q ≡ told old.blocks.draft history q
 held-kept old new history generation later before after sizes slots q has =

@@ -8,7 +8,7 @@ use Rattle.std.specs.Option.{option_map}
 use Rattle.std.proofs.Math.Nat.{add-mul}
 use Rattle.std.proofs.lemmas.Bool.{lt-ltb, ltb-true}
 use Rattle.std.proofs.lemmas.Bool.Decides.{eqb_tells}
-use Rattle.qg_device.specs.History.{Event}
+use Rattle.qg_device.specs.History.{History}
 use Rattle.qg_node.specs.declared.node.Node.{Node}
 use Rattle.qg_super.specs.declared.sizes.Sizes.{Sizes}
 use Rattle.qg_super.specs.Places.{is_slot, slot_at, slots_begin}
@@ -151,7 +151,7 @@ as_placed led at told full placed some there mark =
 
 -- ---- the layout
 
-module _ (fs : FsTree) (history : Option (List Event)) where
+module _ (fs : FsTree) (history : History) where
   -- ways lead to an address in a tree
   abbrev leads : ℕ → Root → Bool
   leads q tree = nat_lt 0 (ways_in fs history tree q)

@@ -6,7 +6,7 @@ use Rattle.std.specs.Bool.{then_some}
 use Rattle.std.specs.List.{AllByRecursion, Contains, list_all}
 use Rattle.std.specs.List.Sorted.{IsStrictlyIncreasing}
 use Rattle.std.specs.Option.{option_map}
-use Rattle.qg_device.specs.History.{Event}
+use Rattle.qg_device.specs.History.{History}
 use Rattle.qg_num.specs.declared.piece.Piece.{Piece}
 use Rattle.qg_node.specs.declared.item.Item.{Item}
 use Rattle.qg_node.specs.declared.node.Node.{Node}
@@ -66,7 +66,7 @@ keys_same : (table : List (ℕ × Subvolume)) → keys_of (map root_entry table)
 keys_same [] = refl
 keys_same (entry ∷ table) = ap (λ (ns : List ℕ). entry.0 ∷ ns) (keys_same table)
 
-module _ (fs : FsTree) (history : Option (List Event)) (bytes : ℕ) (items : List Item) (names : List (ℕ × Piece))
+module _ (fs : FsTree) (history : History) (bytes : ℕ) (items : List Item) (names : List (ℕ × Piece))
     (subvolume : IsSubvolume fs history bytes) (stands : Stands fs history items names) where
   pub drafted : IsDrafted fs.land fs.tree.next
   drafted = subvolume.editable.drafted
@@ -275,13 +275,13 @@ module _ (fs : FsTree) (history : Option (List Event)) (bytes : ℕ) (items : Li
         all-contained (λ (entry : ℕ × Subvolume). IsTreeOf state entry.1) state.subvolumes (each_laid files)
 
 -- as the laws say it
-pub heights-low : (fs : FsTree) (history : Option (List Event)) (bytes : ℕ) (items : List Item)
+pub heights-low : (fs : FsTree) (history : History) (bytes : ℕ) (items : List Item)
     (names : List (ℕ × Piece)) → IsSubvolume fs history bytes → Stands fs history items names
     → (tree : Root) → Contains (trees_of fs) tree → tree.height ≤ deepest
 heights-low fs history bytes items names subvolume stands tree has =
     height-low fs history bytes items names subvolume stands tree has
 
-pub trees-walked : (fs : FsTree) (history : Option (List Event)) (bytes : ℕ) (items : List Item)
+pub trees-walked : (fs : FsTree) (history : History) (bytes : ℕ) (items : List Item)
     (names : List (ℕ × Piece)) (state : State)
     → IsSubvolume fs history bytes → Stands fs history items names → IsLaidOut state fs history
     → HaveFiles state fs history → AllByRecursion (λ entry. IsTreeOf state entry.1) state.subvolumes

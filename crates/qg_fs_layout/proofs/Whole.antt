@@ -1,11 +1,11 @@
 -- A state whose layout is trees that stand is whole.
-use Rattle.std.proofs.Common.{◌≡◌, ℕ, true, List, map, Option, Some, arith, sym, ap, subst, ◌∙◌, inl, inr}
+use Rattle.std.proofs.Common.{◌≡◌, ℕ, true, List, map, Some, arith, sym, ap, subst, ◌∙◌, inl, inr}
 use Rattle.std.specs.Prelude.{◌==◌, IsTrue}
 use Rattle.std.specs.List.{Contains, filter_map}
 use Rattle.std.specs.List.Sorted.{IsStrictlyIncreasing}
 use Rattle.std.proofs.lemmas.Bool.{eqb-true as number_is, or_cases}
 use Rattle.std.proofs.lemmas.List.Elements.{Contains-append_left}
-use Rattle.qg_device.specs.History.{Event}
+use Rattle.qg_device.specs.History.{History}
 use Rattle.qg_num.specs.declared.piece.Piece.{Piece}
 use Rattle.qg_node.specs.declared.item.Item.{Item}
 use Rattle.qg_node.specs.declared.node.Node.{Node}
@@ -44,7 +44,7 @@ use Rattle.qg_fs_layout.proofs.Roots.{root-tree}
 use Rattle.qg_fs_layout.proofs.Trees.{branch, drafted, entry-there, items-at_hand, laid-there, met-slot, nodes-laid}
 use Rattle.qg_fs_layout.proofs.Trees.{numbers-apart, root-level, roots-laid, sized, tree-value, trees-laid}
 
-module _ (fs : FsTree) (history : Option (List Event)) (bytes : ℕ) (items : List Item) (names : List (ℕ × Piece))
+module _ (fs : FsTree) (history : History) (bytes : ℕ) (items : List Item) (names : List (ℕ × Piece))
     (subvolume : IsSubvolume fs history bytes) (stands : Stands fs history items names) where
   abbrev fresh : IsDrafted fs.land fs.tree.next
   fresh = drafted fs history bytes items names subvolume stands
@@ -200,7 +200,7 @@ module _ (fs : FsTree) (history : Option (List Event)) (bytes : ℕ) (items : Li
       reached = all-contained (machine.IsReached state) state.layout (entry_sound fit);
     }
 
-pub state-whole : (fs : FsTree) (history : Option (List Event)) (bytes : ℕ) (items : List Item)
+pub state-whole : (fs : FsTree) (history : History) (bytes : ℕ) (items : List Item)
     (names : List (ℕ × Piece)) (state : State)
     → IsSubvolume fs history bytes → Stands fs history items names → IsLaidOut state fs history
     → HaveFiles state fs history → AreFit fs history → IsWhole state

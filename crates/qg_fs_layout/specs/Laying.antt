@@ -1,9 +1,9 @@
 -- The trees of subvolumes, as they stand between two edits, and the layout of a state of the machine (this project's
 -- own). Addresses are in bytes.
-use Rattle.std.specs.Prelude.{◌≡◌, ◌↔◌, ℕ, ◌<◌, List, Option, Some, None, Contains, IsTrue}
+use Rattle.std.specs.Prelude.{◌≡◌, ◌↔◌, ℕ, ◌<◌, List, Some, None, Contains, IsTrue}
 use Rattle.std.specs.List.{filter_map, list_all, AllByRecursion}
 use Rattle.std.specs.List.Sorted.{IsStrictlyIncreasing}
-use Rattle.qg_device.specs.History.{Event}
+use Rattle.qg_device.specs.History.{History}
 use Rattle.qg_num.specs.declared.piece.Piece.{Piece}
 use Rattle.qg_node.specs.declared.item.Item.{Item}
 use Rattle.qg_node.specs.declared.node.Node.{Node}
@@ -30,24 +30,24 @@ use Rattle.qg_fs_tree.specs.Standing.{IsReachedBy, Moves, items_in, layout_in, n
 -- ---- the nodes of the layout
 
 -- the nodes that some tree reaches, each with its address
-abbrev pub nodes_in : FsTree → Option (List Event) → List (ℕ × Placed)
+abbrev pub nodes_in : FsTree → History → List (ℕ × Placed)
 nodes_in fs history = (layout_in fs history).nodes
 
 -- some tree reaches an address
-pub record IsMet (fs : FsTree) (history : Option (List Event)) (q : ℕ) : Type 0 where
+pub record IsMet (fs : FsTree) (history : History) (q : ℕ) : Type 0 where
   pub tree : Root
   pub among : Contains (trees_of fs) tree
   pub reached : IsReachedBy fs history tree q
 
 -- some tree reaches an address, and this node is told there, with the mark that is kept of it
-pub record IsMetAs (fs : FsTree) (history : Option (List Event)) (q : ℕ) (placed : Placed) : Type 0 where
+pub record IsMetAs (fs : FsTree) (history : History) (q : ℕ) (placed : Placed) : Type 0 where
   pub met : IsMet fs history q
   pub told : nodes_of fs history q ≡ Some placed.node
   pub full : placed.full ≡ full_in (book_of fs.refs.refs q)
 
 -- The nodes of the trees as a layout are a table by address: what some tree reaches and is told there, and nothing
 -- else. A tree reaches what ways lead to
-pub record AreThoseReached (fs : FsTree) (history : Option (List Event)) : Type 0 where
+pub record AreThoseReached (fs : FsTree) (history : History) : Type 0 where
   pub ascending : IsStrictlyIncreasing (keys_of (nodes_in fs history))
   pub among : (q : ℕ) (placed : Placed)
       → value_at q (nodes_in fs history) ≡ Some placed ↔ IsMetAs fs history q placed
@@ -63,20 +63,20 @@ pub record IsFit (nodesize : ℕ) (node : Node) : Type 0 where
   pub fits : NodeFits node
 
 -- so it is of each node that some tree reaches
-abbrev pub AreFit : FsTree → Option (List Event) → Type 0
+abbrev pub AreFit : FsTree → History → Type 0
 AreFit fs history = (q : ℕ) (node : Node) → IsMet fs history q → nodes_of fs history q ≡ Some node
     → IsFit fs.land.space.sizes.nodesize node
 
 -- ---- the state
 
 -- the layout of a state is the trees, as they stand: each subvolume has one of them
-pub record IsLaidOut (state : State) (fs : FsTree) (history : Option (List Event)) : Type 0 where
+pub record IsLaidOut (state : State) (fs : FsTree) (history : History) : Type 0 where
   pub sizes : state.sizes ≡ fs.land.space.sizes
   pub generation : next_generation state ≡ fs.tree.next
   pub layout : layout_of state ≡ layout_in fs history
 
 -- the items of each tree are those of its subvolume's files
-abbrev pub HaveFiles : State → FsTree → Option (List Event) → Type 0
+abbrev pub HaveFiles : State → FsTree → History → Type 0
 HaveFiles state fs history = (tree : Root) (subvolume : Subvolume) → Contains (trees_of fs) tree
     → value_at tree.owner state.subvolumes ≡ Some subvolume
     → files_of fs.tree.next (items_in fs history tree) ≡ Some subvolume.files
@@ -85,7 +85,7 @@ HaveFiles state fs history = (tree : Root) (subvolume : Subvolume) → Contains 
 
 -- What edits of a tree make of it between two commits: number, generation to come and sizes stay, and so does what the
 -- last commit holds, which is told as it was
-pub record IsMoved (old new : FsTree) (history : Option (List Event)) : Type 0 where
+pub record IsMoved (old new : FsTree) (history : History) : Type 0 where
   pub moves : Moves old new history
   pub owner : new.tree.owner ≡ old.tree.owner
   pub next : new.tree.next ≡ old.tree.next
@@ -117,7 +117,7 @@ pub record IsKnownRun (sizes : Sizes) (book : Book) (run : Element) : Type 0 whe
 
 -- What a state's layout owes is what the tree owes, and exactly that is counted. Of each node level, generation and
 -- mark are known; the extents that leaves name are those of the present files, and their lengths are known
-pub record IsCounted (state : State) (fs : FsTree) (history : Option (List Event)) : Type 0 where
+pub record IsCounted (state : State) (fs : FsTree) (history : History) : Type 0 where
   pub owed : (at : ℕ) (reference : Reference)
       → owed_count (layout_of state) at reference ≡ owed_count (layout_in fs history) at reference
   pub agrees : AgreesWithOwed (layout_of state) (book_of fs.refs.refs)

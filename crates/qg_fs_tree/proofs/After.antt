@@ -8,7 +8,7 @@ use Rattle.std.proofs.lemmas.Bool.{eq-eqb, lt-ltb, ltb-true}
 use Rattle.std.proofs.lemmas.Bool.Decides.{eqb_tells}
 use Rattle.std.proofs.lemmas.List.Concat.{flat_map-cons}
 use Rattle.std.proofs.lemmas.List.Elements.{Contains-append_cases}
-use Rattle.qg_device.specs.History.{Event}
+use Rattle.qg_device.specs.History.{History}
 use Rattle.qg_num.specs.declared.piece.Piece.{Piece}
 use Rattle.qg_node.specs.declared.item.Item.{Item}
 use Rattle.qg_node.specs.declared.node.Node.{Node}
@@ -62,14 +62,14 @@ use Rattle.qg_fs_tree.proofs.Told.{free-apart, free-unheld}
 use Rattle.qg_fs_tree.proofs.Turned.{IsNewNode, StandsFor, no_way}
 
 -- each fresh node that the tree at hand reaches is its own
-abbrev pub AreOwned : FsTree → Option (List Event) → ℕ → Type 0
+abbrev pub AreOwned : FsTree → History → ℕ → Type 0
 AreOwned fs history owner = (q : ℕ) (node : Node) → IsReached fs history q
     → fresh_at fs.land.blocks.draft q ≡ Some node
     → (header_of node).owner ≡ owner
 
 -- ---- one node
 
-told_same : (a b : Option Node) (sizes others : Sizes) (history : Option (List Event)) (q : ℕ) → a ≡ None → b ≡ None
+told_same : (a b : Option Node) (sizes others : Sizes) (history : History) (q : ℕ) → a ≡ None → b ≡ None
     → others ≡ sizes
     → told_or b others history q ≡ told_or a sizes history q
 told_same a b sizes others history q first last same =
@@ -77,7 +77,7 @@ told_same a b sizes others history q first last same =
     ∙ ap (λ (s : Sizes). told_or None s history q) same
     ∙ sym (ap (λ (o : Option Node). told_or o sizes history q) first)
 
-told_fresh : (o : Option Node) (sizes : Sizes) (history : Option (List Event)) (q : ℕ) (node : Node) → o ≡ Some node
+told_fresh : (o : Option Node) (sizes : Sizes) (history : History) (q : ℕ) (node : Node) → o ≡ Some node
     → told_or o sizes history q ≡ Some node
 told_fresh o sizes history q node is = ap (λ (f : Option Node). told_or f sizes history q) is
 
@@ -128,7 +128,7 @@ flat-same {A} {B} f g (x ∷ xs) same =
     ∙ ap (λ (ys : List B). g x ++ ys) (flat-same f g xs (λ y has. same y (contains_later x xs y has)))
     ∙ sym (flat_map-cons g x xs)
 
-module _ (old new : FsTree) (history : Option (List Event)) (items left_items : List Item) (names : List (ℕ × Piece))
+module _ (old new : FsTree) (history : History) (items left_items : List Item) (names : List (ℕ × Piece))
     (stands : Stands old history items names) (drafted : IsDrafted old.land old.tree.next)
     (table : IsTable old.refs.refs)
     (replaced : IsReplaced Files old.tree new.tree old.land new.land history left_items)

@@ -12,7 +12,7 @@ use Rattle.std.proofs.lemmas.List.{get_or-map, length-map}
 use Rattle.std.proofs.lemmas.List.Kept.{AllPairs-from_increasing}
 use Rattle.std.proofs.lemmas.List.Sorted.{IsPermutation-cons, IsPermutation-swap, IsPermutation-sym}
 use Rattle.std.proofs.lemmas.List.Sorted.{IsPermutation-trans}
-use Rattle.qg_device.specs.History.{Event}
+use Rattle.qg_device.specs.History.{History}
 use Rattle.qg_num.specs.declared.piece.Piece.{Piece}
 use Rattle.qg_node.specs.declared.item.Item.{Item}
 use Rattle.qg_node.specs.declared.node.Node.{Node}
@@ -87,7 +87,7 @@ gather {A} {B} f first xs x y has own = elim (contains_cases first xs x has) [
 
 -- ---- numbers
 
-pub numbered-standing : (fs : FsTree) (history : Option (List Event)) (items : List Item) (named : List (ℕ × Piece))
+pub numbered-standing : (fs : FsTree) (history : History) (items : List Item) (named : List (ℕ × Piece))
     → Stands fs history items named → AreNumbered fs
 numbered-standing fs history items named stands = record {
   ascending = stands.ascending;
@@ -145,7 +145,7 @@ module _ (fs : FsTree) (numbered : AreNumbered fs) where
       ]
 
 module _ (old new : FsTree) (number : ℕ) (turned : IsTurned old new number) (before : AreNumbered old)
-    (after : AreNumbered new) (history : Option (List Event)) where
+    (after : AreNumbered new) (history : History) where
   tree_back : (tree : Root) → Contains (trees_of new) tree → Contains (trees_of old) tree
   tree_back tree has = contained (trees_of old) (trees_of new) tree turned.trees has
 
@@ -196,7 +196,7 @@ module _ (old new : FsTree) (number : ℕ) (turned : IsTurned old new number) (b
 
 -- ---- the trees stand
 
-module _ (old new : FsTree) (history : Option (List Event)) (items : List Item) (number : ℕ)
+module _ (old new : FsTree) (history : History) (items : List Item) (number : ℕ)
     (stands : Stands old history items (filter_map name_told items)) (drafted : IsDrafted old.land old.tree.next)
     (turned : IsTurned old new number) (numbered : AreNumbered new) where
   -- the trees with the one that came to hand
@@ -367,7 +367,7 @@ module _ (old new : FsTree) (history : Option (List Event)) (items : List Item) 
 
 -- ---- over any disk
 
-pub subvolume-turned : (old new : FsTree) (number : ℕ) (history : Option (List Event)) (bytes : ℕ)
+pub subvolume-turned : (old new : FsTree) (number : ℕ) (history : History) (bytes : ℕ)
     → IsSubvolume old history bytes → CanTurn old → IsTurned old new number
     → IsSubvolume new history bytes × CanTurn new
 subvolume-turned old new number history bytes subvolume can turned = (

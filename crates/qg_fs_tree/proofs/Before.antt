@@ -6,7 +6,7 @@ use Rattle.std.specs.List.{All, Contains}
 use Rattle.std.proofs.lemmas.Bool.{and_parts, leb-true, lt-ltb, ltb-true}
 use Rattle.std.proofs.lemmas.Bool.Decides.{eqb_tells}
 use Rattle.std.proofs.lemmas.List.Elements.{Contains-append_left}
-use Rattle.qg_device.specs.History.{Event}
+use Rattle.qg_device.specs.History.{History}
 use Rattle.qg_num.specs.declared.piece.Piece.{Piece}
 use Rattle.qg_node.specs.declared.item.Item.{Item}
 use Rattle.qg_node.specs.declared.node.Node.{Node}
@@ -127,7 +127,7 @@ run_behind sizes address bytes is =
     let d = and_parts _ _ c.0 in
     leb-true data_begin address d.0
 
-fresh_told : (o : Option Node) (sizes : Sizes) (history : Option (List Event)) (q : ℕ) (node : Node) → o ≡ Some node
+fresh_told : (o : Option Node) (sizes : Sizes) (history : History) (q : ℕ) (node : Node) → o ≡ Some node
     → told_or o sizes history q ≡ Some node
 fresh_told o sizes history q node is = ap (λ (f : Option Node). told_or f sizes history q) is
 
@@ -162,12 +162,12 @@ names_there owner (first ∷ names) name has =
     ]
 
 -- a tree that stands, by its items
-pub record IsTreeOf (fs : FsTree) (history : Option (List Event)) (tree : Root) : Type 0 where
+pub record IsTreeOf (fs : FsTree) (history : History) (tree : Root) : Type 0 where
   pub items : List Item
   pub rooted : IsRooted Files tree fs.land history items
   pub drafted : IsDrafted fs.land tree.next
 
-module _ (fs : FsTree) (history : Option (List Event)) (items : List Item) (names : List (ℕ × Piece))
+module _ (fs : FsTree) (history : History) (items : List Item) (names : List (ℕ × Piece))
     (stands : Stands fs history items names)
     (drafted : IsDrafted fs.land fs.tree.next) where
   abbrev around : Around

@@ -2,7 +2,7 @@
 use Rattle.std.proofs.Common.{ℕ, Bool, List, map, Option, Some, None}
 use Rattle.std.specs.Prelude.{◌==◌, ◌||◌, not, nat_lt, if◌then◌else◌}
 use Rattle.std.specs.List.{list_any}
-use Rattle.qg_device.specs.History.{Event}
+use Rattle.qg_device.specs.History.{History}
 use Rattle.qg_num.specs.declared.piece.Piece.{Piece}
 use Rattle.qg_node.specs.declared.node.Node.{Node}
 use Rattle.qg_node.specs.Nodes.{header_of}
@@ -18,7 +18,7 @@ use Rattle.qg_fs_tree.specs.Standing.{every_slot, nodes_of, ways_in}
 use Rattle.qg_fs_tree.proofs.Turned.{Around}
 
 -- how many ways lead to an address in the tree at hand
-abbrev pub own_ways : FsTree → Option (List Event) → ℕ → ℕ
+abbrev pub own_ways : FsTree → History → ℕ → ℕ
 own_ways fs history = ways_in fs history fs.tree
 
 abbrev pub slots_of : FsTree → List ℕ
@@ -29,7 +29,7 @@ abbrev pub mark_of : FsTree → ℕ → Bool
 mark_of fs q = full_in (book_of fs.refs.refs q)
 
 -- another tree reaches an address
-abbrev pub elsewhere : FsTree → Option (List Event) → ℕ → Bool
+abbrev pub elsewhere : FsTree → History → ℕ → Bool
 elsewhere fs history q = list_any (λ tree. nat_lt 0 (ways_in fs history tree q)) fs.others.items
 
 -- the references to the roots of trees
@@ -48,16 +48,16 @@ beside_of owner None full = None
 beside_of owner (Some node) full =
     Some (record { node = node; full = full || ((header_of node).owner == owner) })
 
-abbrev pub foreign_in : FsTree → Option (List Event) → ℕ → Option Placed
+abbrev pub foreign_in : FsTree → History → ℕ → Option Placed
 foreign_in fs history q =
     if nat_lt 0 (own_ways fs history q) then foreign_of fs.tree.owner (nodes_of fs history q) (mark_of fs q) else None
 
-abbrev pub beside_in : FsTree → Option (List Event) → ℕ → Option Placed
+abbrev pub beside_in : FsTree → History → ℕ → Option Placed
 beside_in fs history q =
     if elsewhere fs history q then beside_of fs.tree.owner (nodes_of fs history q) (mark_of fs q) else None
 
 -- what is fixed while the tree at hand is edited
-abbrev pub around_of : FsTree → Option (List Event) → List (ℕ × Piece) → Around
+abbrev pub around_of : FsTree → History → List (ℕ × Piece) → Around
 around_of fs history names = record {
   owner = fs.tree.owner;
   names = names;

@@ -2,7 +2,7 @@
 use Rattle.std.proofs.Common.{◌≡◌, ℕ, ◌+◌, ◌<◌, ◌≤◌, List, Option, Some, None, refl, sym, subst}
 use Rattle.std.specs.List.{filter_map}
 use Rattle.std.specs.Prelude.{IsOk, IsTrue, MatchOption, Result, Ok, Err}
-use Rattle.qg_device.specs.History.{Event}
+use Rattle.qg_device.specs.History.{History}
 use Rattle.qg_num.specs.declared.piece.Piece.{Piece}
 use Rattle.qg_num.specs.declared.fault.BlockFault.{BlockFault}
 use Rattle.qg_num.specs.declared.fault.BlockFault.TheVariants.{Image}
@@ -29,7 +29,7 @@ use Rattle.qg_fs_tree.proofs.Beside.{own_ways}
 use Rattle.qg_fs_tree.proofs.Edited.{IsEditedTo-told, IsToldOf, fits-after}
 use Rattle.qg_fs_tree.proofs.Told.{true-told}
 
-module _ (old new : FsTree) (history : Option (List Event)) (bytes : ℕ) (items left_items : List Item)
+module _ (old new : FsTree) (history : History) (bytes : ℕ) (items left_items : List Item)
     (names : List (ℕ × Piece)) (tellings : List Telling)
     (subvolume : IsSubvolume old history bytes) (stands : Stands old history items names)
     (table : IsTable old.refs.refs)
@@ -54,7 +54,7 @@ module _ (old new : FsTree) (history : Option (List Event)) (bytes : ℕ) (items
   pub fits-called : new.refs.misfit ≡ None
   fits-called = fits-after old new history items left_items names tellings stands drafted table is_told follows
 
-  module _ (later : Option (List Event)) (left most : ℕ)
+  module _ (later : History) (left most : ℕ)
       (replaced : IsReplaced Files old.tree new.tree old.land new.land history left_items)
       (leaves : LeavesBe old.land new.land history later bytes left old.tree.next)
       (trees : new.others ≡ old.others)
@@ -66,9 +66,9 @@ module _ (old new : FsTree) (history : Option (List Event)) (bytes : ℕ) (items
       ≤ names_times old.tree.owner names at reference) where
     pub IsEditedTo-called : IsEditedTo old new history left_items names (old.tree.height + 2)
     IsEditedTo-called =
-        let rests = subst (λ (h : Option (List Event)). Rests old.land new.land h old.tree.next) leaves.history
+        let rests = subst (λ (h : History). Rests old.land new.land h old.tree.next) leaves.history
         leaves.rests in
-        let settled_then = subst (λ (h : Option (List Event)). IsSettled new.refs new.land h) leaves.history
+        let settled_then = subst (λ (h : History). IsSettled new.refs new.land h) leaves.history
         (settled fits-called) in
         IsEditedTo-told old new history items left_items names tellings stands drafted table is_told follows replaced
         rests trees stays.owner stays.next
@@ -77,7 +77,7 @@ module _ (old new : FsTree) (history : Option (List Event)) (bytes : ℕ) (items
 
 -- ---- what stands over any disk
 
-pub IsSubvolume-after : (old new : FsTree) (history later : Option (List Event)) (bytes left : ℕ)
+pub IsSubvolume-after : (old new : FsTree) (history later : History) (bytes left : ℕ)
     → IsSubvolume old history bytes → LeavesBe old.land new.land history later bytes left old.tree.next
     → new.tree.owner ≡ old.tree.owner → new.tree.next ≡ old.tree.next → IsSubvolume new later left
 IsSubvolume-after old new history later bytes left subvolume leaves owner next = record {
@@ -93,7 +93,7 @@ IsSubvolume-after old new history later bytes left subvolume leaves owner next =
 }
 
 -- a call that does nothing
-pub LeavesBe-none : (fs : FsTree) (history : Option (List Event)) (bytes : ℕ) → IsSubvolume fs history bytes
+pub LeavesBe-none : (fs : FsTree) (history : History) (bytes : ℕ) → IsSubvolume fs history bytes
     → LeavesBe fs.land fs.land history history bytes bytes fs.tree.next
 LeavesBe-none fs history bytes subvolume = record {
   rests = Rests-draft fs.land fs.land history fs.tree.next refl refl refl subvolume.editable.backed

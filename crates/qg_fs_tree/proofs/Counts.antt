@@ -3,7 +3,7 @@ use Rattle.std.proofs.Common.{◌≡◌, ◌≢◌, ℕ, suc, ◌+◌, ◌-◌, 
 use Rattle.std.proofs.Common.{Some, None, arith, refl, ap, inl, inr}
 use Rattle.std.specs.Prelude.{IsTrue, if◌then◌else◌}
 use Rattle.std.proofs.lemmas.Bool.Decides.{eqb_tells}
-use Rattle.qg_device.specs.History.{Event}
+use Rattle.qg_device.specs.History.{History}
 use Rattle.qg_num.specs.declared.piece.Piece.{Piece}
 use Rattle.qg_node.specs.declared.item.Item.{Item}
 use Rattle.qg_node.specs.declared.node.Node.{Node}
@@ -59,7 +59,7 @@ names-apart owner (name ∷ names) at differ =
 
 -- ---- one of the trees
 
-module _ (fs : FsTree) (history : Option (List Event)) (tree : Root) (items : List Item)
+module _ (fs : FsTree) (history : History) (tree : Root) (items : List Item)
     (rooted : IsRooted Files tree fs.land history items)
     (drafted : IsDrafted fs.land tree.next) where
   whole : IsUnder Files (super_of tree fs.land.blocks.draft) (nodes_of fs history) tree.height
@@ -96,7 +96,7 @@ module _ (fs : FsTree) (history : Option (List Event)) (tree : Root) (items : Li
 
 -- ---- what the layout owes, by ways and foreign nodes
 
-module _ (fs : FsTree) (history : Option (List Event)) (items : List Item)
+module _ (fs : FsTree) (history : History) (items : List Item)
     (rooted : IsRooted Files fs.tree fs.land history items)
     (drafted : IsDrafted fs.land fs.tree.next)
     (apart : (i : ℕ) (d : Root) → i < length fs.others.items → (get_or fs.others.items i d).owner ≢ fs.tree.owner)

@@ -3,7 +3,7 @@ use Rattle.std.proofs.Common.{◌≡◌, ℕ, ◌+◌, ◌*◌, ◌<◌, ◌≤�
 use Rattle.std.proofs.Common.{inr}
 use Rattle.std.specs.Prelude.{◌⊎◌, ◌||◌, IsTrue, nat_lt}
 use Rattle.std.specs.List.{All, filter_map, sum_by}
-use Rattle.qg_device.specs.History.{Event}
+use Rattle.qg_device.specs.History.{History}
 use Rattle.qg_num.specs.declared.piece.Piece.{Piece}
 use Rattle.qg_node.specs.declared.item.Item.{Item}
 use Rattle.qg_items.specs.declared.extent.Reference.{Reference}
@@ -40,7 +40,7 @@ use Rattle.qg_fs_tree.proofs.Taken.{has-led, led-slot}
 use Rattle.qg_fs_tree.proofs.Turned.{AreTrueTo, Around, StandsFor}
 
 -- what a book was told of a tree
-pub record IsToldOf (old new : FsTree) (history : Option (List Event)) (names : List (ℕ × Piece))
+pub record IsToldOf (old new : FsTree) (history : History) (names : List (ℕ × Piece))
     (tellings : List Telling) : Type 0 where
   pub turns : Turns (own_ways old history) tellings (own_ways new history)
   pub new_there : (q : ℕ) → 0 < sum_by (λ telling. gains telling q) tellings → IsTrue (is_free_slot old.land.space q)
@@ -51,7 +51,7 @@ pub record IsToldOf (old new : FsTree) (history : Option (List Event)) (names : 
   pub few_come : sum_by copied_in tellings + sum_by made_in tellings ≤ 2 * old.tree.height + 3
   pub few_made : sum_by made_in tellings ≤ old.tree.height + 2
 
-module _ (old new : FsTree) (history : Option (List Event)) (items left_items : List Item) (names : List (ℕ × Piece))
+module _ (old new : FsTree) (history : History) (items left_items : List Item) (names : List (ℕ × Piece))
     (tellings : List Telling)
     (stands : Stands old history items names) (drafted : IsDrafted old.land old.tree.next)
     (table : IsTable old.refs.refs)

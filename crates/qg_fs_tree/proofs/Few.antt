@@ -1,9 +1,9 @@
 -- How many slots the tree at hand reaches, by ways to them.
-use Rattle.std.proofs.Common.{◌≡◌, ℕ, zero, suc, ◌+◌, ◌-◌, ◌*◌, ◌<◌, ◌≤◌, List, [], ◌∷◌, Option, arith, refl, inl, inr}
+use Rattle.std.proofs.Common.{◌≡◌, ℕ, zero, suc, ◌+◌, ◌-◌, ◌*◌, ◌<◌, ◌≤◌, List, [], ◌∷◌, arith, refl, inl, inr}
 use Rattle.std.specs.Prelude.{◌⊎◌, cond, nat_lt}
 use Rattle.std.specs.List.{sum_by}
 use Rattle.std.proofs.lemmas.List.Sums.{sum_by-cons}
-use Rattle.qg_device.specs.History.{Event}
+use Rattle.qg_device.specs.History.{History}
 use Rattle.qg_node.specs.Nodes.{header_of}
 use Rattle.qg_ground.specs.Tellings.{Telling}
 use Rattle.qg_ground.specs.Tellings.Telling.{Copied, Made, Left}
@@ -22,7 +22,7 @@ one_if_led (suc zero) most = refl
 one_if_led (suc (suc n)) most = absurd (omega (arith, most))
 
 -- the tree at hand reaches as many slots as ways lead to
-pub own-ways : (fs : FsTree) (history : Option (List Event)) → ((at : ℕ) → own_ways fs history at ≤ 1)
+pub own-ways : (fs : FsTree) (history : History) → ((at : ℕ) → own_ways fs history at ≤ 1)
     → own_slots fs history ≡ over (slots_of fs) (own_ways fs history) (λ s. 1)
 unfolding own_slots
 own-ways fs history single =

@@ -5,7 +5,7 @@ use Rattle.std.specs.Prelude.{◌⊎◌, ◌==◌, ◌||◌, not, IsTrue, if◌t
 use Rattle.std.specs.List.{Contains, filter_map}
 use Rattle.std.proofs.lemmas.Bool.{lt-ltb}
 use Rattle.std.proofs.lemmas.List.Elements.{Contains-append_right}
-use Rattle.qg_device.specs.History.{Event}
+use Rattle.qg_device.specs.History.{History}
 use Rattle.qg_num.specs.declared.piece.Piece.{Piece}
 use Rattle.qg_node.specs.declared.item.Item.{Item}
 use Rattle.qg_node.specs.declared.node.Node.{Node}
@@ -74,7 +74,7 @@ foreign-full (Some told) owner full node is = from full ((header_of told).owner 
   from false true = refl
   from false false = refl
 
-module _ (fs : FsTree) (history : Option (List Event)) (items : List Item) (names : List (ℕ × Piece))
+module _ (fs : FsTree) (history : History) (items : List Item) (names : List (ℕ × Piece))
     (stands : Stands fs history items names)
     (drafted : IsDrafted fs.land fs.tree.next) where
   abbrev around : Around

@@ -7,7 +7,7 @@ use Rattle.std.specs.List.{All, AllByRecursion, sum_by}
 use Rattle.std.proofs.lemmas.Bool.{cond-true}
 use Rattle.std.proofs.lemmas.List.Elements.{recursion_from_All}
 use Rattle.std.proofs.lemmas.List.Sums.{sum_by-cons}
-use Rattle.qg_device.specs.History.{Event}
+use Rattle.qg_device.specs.History.{History}
 use Rattle.qg_node.specs.declared.pointer.Pointer.{Pointer}
 use Rattle.qg_node.specs.declared.node.Node.{Node}
 use Rattle.qg_node.specs.declared.node.Node.TheVariants.{Leaf, Inner}
@@ -79,7 +79,7 @@ unless true place node is = let wrong : ◌≡◌ {A = Option Node} None (Some n
 unless false place node is = is
 
 -- what is told of a land where no node is fresh has room in a node
-pub clean-room : (land : Ground) (history : Option (List Event)) (generation : ℕ) → IsDrafted land generation
+pub clean-room : (land : Ground) (history : History) (generation : ℕ) → IsDrafted land generation
     → (q : ℕ) (node : Node) → clean_at land history q ≡ Some node
     → used_bytes node ≤ capacity land.space.sizes.nodesize
 clean-room land history generation drafted q node is =

@@ -1,6 +1,6 @@
 -- What stays where only the runs that are taken change.
-use Rattle.std.proofs.Common.{◌≡◌, ℕ, List, Option, refl, sym, subst}
-use Rattle.qg_device.specs.History.{Event}
+use Rattle.std.proofs.Common.{◌≡◌, ℕ, List, refl, sym, subst}
+use Rattle.qg_device.specs.History.{History}
 use Rattle.qg_image.specs.declared.element.Element.{Element}
 use Rattle.qg_space.specs.Holding.{Holding, free_slots, is_free_slot}
 use Rattle.qg_ground.specs.declared.ground.Ground.{Ground}
@@ -24,7 +24,7 @@ drafted_runs land runs generation drafted = record {
 }
 
 pub subvolume-space : (fs : FsTree) (space : Holding) (runs : List Element) (refs : TreeRefs)
-    (history : Option (List Event)) (bytes : ℕ)
+    (history : History) (bytes : ℕ)
     → space ≡ record fs.land.space { runs = runs } → IsSubvolume fs history bytes
     → IsSubvolume (record fs { land = record fs.land { space = space }; refs = refs }) history bytes
 subvolume-space fs space runs refs history bytes is subvolume = record {

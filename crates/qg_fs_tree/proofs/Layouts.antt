@@ -8,7 +8,7 @@ use Rattle.std.proofs.lemmas.Bool.{ne_eqb}
 use Rattle.std.proofs.lemmas.Bool.Decides.{eqb_tells}
 use Rattle.std.proofs.lemmas.List.Concat.{flat_map-cons}
 use Rattle.std.proofs.lemmas.List.Sums.{sum_by-cons}
-use Rattle.qg_device.specs.History.{Event}
+use Rattle.qg_device.specs.History.{History}
 use Rattle.qg_items.specs.declared.extent.Reference.{Reference}
 use Rattle.qg_items.specs.declared.extent.Reference.TheVariants.{KeyedBlock}
 use Rattle.qg_image.specs.Table.{with_value}
@@ -79,7 +79,7 @@ roots_times n address (other ∷ others) at reference differ =
       pairs_same [] = refl
       pairs_same (tree ∷ trees) = ap (λ (owed : List Owing). way_to tree.address tree.owner ∷ owed) (pairs_same trees)
 
-owed_parts : (fs : FsTree) (history : Option (List Event)) → owed (layout_in fs history)
+owed_parts : (fs : FsTree) (history : History) → owed (layout_in fs history)
     ≡ map root_way (roots_of fs) ++ flat_map (λ entry. owed_by_node entry.1)
     (filter_map (placed_at fs history) (every_slot fs.land.space.sizes))
 unfolding owed layout_in
@@ -129,12 +129,12 @@ placed_once (suc zero) s there (Some node) full at reference most = omega arith
 placed_once (suc (suc w)) s there told full at reference most = absurd (omega (arith, most))
 
 -- what a node owes that is reached elsewhere
-abbrev pub owed_there : FsTree → Option (List Event) → ℕ → Reference → ℕ → ℕ
+abbrev pub owed_there : FsTree → History → ℕ → Reference → ℕ → ℕ
 owed_there fs history at reference s =
     if elsewhere fs history s then times (owed_marked (nodes_of fs history s) (mark_of fs s)) at reference else 0
 
 -- the roots' ways, and what each node owes that is reached
-pub owed-is : (fs : FsTree) (history : Option (List Event)) (at : ℕ) (reference : Reference)
+pub owed-is : (fs : FsTree) (history : History) (at : ℕ) (reference : Reference)
     → ((q : ℕ) → own_ways fs history q ≤ 1)
     → ((i : ℕ) (d : Root) → i < length fs.others.items → (get_or fs.others.items i d).owner ≢ fs.tree.owner)
     → owed_count (layout_in fs history) at reference

@@ -5,7 +5,7 @@ use Rattle.std.specs.Prelude.{nat_le}
 use Rattle.std.proofs.Math.Nat.{mul-le-mul_right, suc-mul}
 use Rattle.std.proofs.lemmas.Bool.{leb-true}
 use Rattle.std.proofs.lemmas.List.Sums.{sum_by-append}
-use Rattle.qg_device.specs.History.{Event}
+use Rattle.qg_device.specs.History.{History}
 use Rattle.qg_num.specs.declared.piece.Piece.{Piece}
 use Rattle.qg_node.specs.declared.item.Item.{Item}
 use Rattle.qg_node.specs.declared.pointer.Pointer.{Pointer}
@@ -95,7 +95,7 @@ module _ (tree : Tree) (super : Super) (nodes : ℕ → Option Node) (size : IsN
       let some = some_heavy super.nodesize level in
       omega (arith, all, least, some)
 
-low_under : (tree : Tree) (root : Root) (land : Ground) (history : Option (List Event)) (items : List Item)
+low_under : (tree : Tree) (root : Root) (land : Ground) (history : History) (items : List Item)
     (height : ℕ) → IsDrafted land root.next
     → IsUnder tree (super_of root land.blocks.draft) (told land.blocks.draft history) height
     (root_expected (Some height) None) root.address items
@@ -117,7 +117,7 @@ low_under tree root land history items (suc (suc level)) drafted under few =
     absurd (omega (arith, many, few))
 
 -- a tree that stands, whose items take less than three nodes hold, has one level above its leaves at most
-pub low-standing : (fs : FsTree) (history : Option (List Event)) (items : List Item) (names : List (ℕ × Piece))
+pub low-standing : (fs : FsTree) (history : History) (items : List Item) (names : List (ℕ × Piece))
     → Stands fs history items names → IsDrafted fs.land fs.tree.next
     → items_bytes items < 3 * capacity fs.land.space.sizes.nodesize → fs.tree.height ≤ 1
 low-standing fs history items names stands drafted few =

@@ -3,7 +3,7 @@ use Rattle.std.proofs.Common.{◌≡◌, ℕ, ◌+◌, ◌*◌, ◌≤◌, Bool,
 use Rattle.std.proofs.Common.{Result, Ok, Err, arith, sym, ap, ◌∙◌}
 use Rattle.std.specs.Prelude.{◌&&◌, ◌||◌, ◌==◌, not, nat_le, slice_index}
 use Rattle.std.proofs.lemmas.Bool.{eqb-true, leb-true}
-use Rattle.qg_device.specs.History.{Event, content, range}
+use Rattle.qg_device.specs.History.{History, Recorded, Unrecorded, content, range}
 use Rattle.qg_num.specs.Fields.{is_zero, u64_at}
 use Rattle.qg_node.specs.declared.item.Item.{Item}
 use Rattle.qg_node.specs.declared.pointer.Pointer.{Pointer}
@@ -104,16 +104,16 @@ levelled_low : (node : Node) → IsLevelled node → (header_of node).level ≤ 
 levelled_low (Leaf header items) is = omega (arith, is)
 levelled_low (Inner header pointers) is = is.1
 
-either_at : (fresh : Option Node) (sizes : Sizes) (history : Option (List Event)) (at : ℕ) (node : Node)
+either_at : (fresh : Option Node) (sizes : Sizes) (history : History) (at : ℕ) (node : Node)
     → ((other : Node) → fresh ≡ Some other → IsToldAt at other) → told_or fresh sizes history at ≡ Some node
     → IsToldAt at node
 either_at (Some other) sizes history at node here is = here node is
-either_at None sizes None at node here is = absurd cc
-either_at None sizes (Some events) at node here is =
+either_at None sizes (Unrecorded changes) at node here is = absurd cc
+either_at None sizes (Recorded events) at node here is =
     let there = ok-there (standing sizes (content events) at) node is in
     read_at at (range at sizes.nodesize (content events)) node (standing-read sizes (content events) at node there)
 
-pub told-at : (land : Ground) (history : Option (List Event)) (generation : ℕ) → IsDrafted land generation
+pub told-at : (land : Ground) (history : History) (generation : ℕ) → IsDrafted land generation
     → (q : ℕ) (node : Node) → told land.blocks.draft history q ≡ Some node → IsToldAt q node
 unfolding told
 told-at land history generation drafted q node is =

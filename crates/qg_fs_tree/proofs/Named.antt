@@ -8,7 +8,7 @@ use Rattle.std.proofs.lemmas.Bool.{ltb-true, not-true, true≢false}
 use Rattle.std.proofs.lemmas.Bool.Decides.{eqb_tells}
 use Rattle.std.proofs.lemmas.List.Elements.{All-cons, Contains-append_cases, Contains-append_left}
 use Rattle.std.proofs.lemmas.List.Elements.{Contains-append_right}
-use Rattle.qg_device.specs.History.{Event}
+use Rattle.qg_device.specs.History.{History}
 use Rattle.qg_num.specs.declared.piece.Piece.{Piece}
 use Rattle.qg_node.specs.declared.item.Item.{Item}
 use Rattle.qg_items.specs.declared.extent.Reference.{Reference}
@@ -153,7 +153,7 @@ overlap_here address bytes element same some other =
 abbrev pub run_of : ℕ × Piece → Element
 run_of name = extent_of name.1
 
-module _ (fs : FsTree) (history : Option (List Event)) (items : List Item) (names : List (ℕ × Piece))
+module _ (fs : FsTree) (history : History) (items : List Item) (names : List (ℕ × Piece))
     (stands : Stands fs history items names)
     (drafted : IsDrafted fs.land fs.tree.next) where
   abbrev everywhere : List (ℕ × Piece)
@@ -221,7 +221,7 @@ module _ (fs : FsTree) (history : Option (List Event)) (items : List Item) (name
       ])
 
 -- an extent that a piece of the tree at hand names is one of those that are named
-pub own-extent : (fs : FsTree) (history : Option (List Event)) (names : List (ℕ × Piece)) (extent : Element)
+pub own-extent : (fs : FsTree) (history : History) (names : List (ℕ × Piece)) (extent : Element)
     → Contains (map (λ name. extent_of name.1) names) extent → Contains (extents_named fs history names) extent
 own-extent fs history names extent has =
     let found = from-mapped run_of names extent has in
@@ -336,7 +336,7 @@ pub record IsRenamed (old new : FsTree) : Type 0 where
   pub land : new.land ≡ record old.land { space = record old.land.space { runs = new.land.space.runs } }
   pub refs : new.refs ≡ record old.refs { refs = new.refs.refs }
 
-module _ (old : FsTree) (history : Option (List Event)) (items : List Item)
+module _ (old : FsTree) (history : History) (items : List Item)
     (drafted : IsDrafted old.land old.tree.next) (ino : ℕ) (piece : Piece) where
   abbrev own : Owing
   own = name_of old.tree.owner (ino, piece)

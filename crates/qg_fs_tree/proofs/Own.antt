@@ -1,8 +1,8 @@
 -- Slots that the tree at hand reaches: one where it is one leaf; what comes that was not taken before is among them.
-use Rattle.std.proofs.Common.{◌≡◌, ℕ, ◌+◌, ◌≤◌, Bool, true, false, List, Option, arith, refl, sym, ap, subst, ◌∙◌}
+use Rattle.std.proofs.Common.{◌≡◌, ℕ, ◌+◌, ◌≤◌, Bool, true, false, List, arith, refl, sym, ap, subst, ◌∙◌}
 use Rattle.std.specs.Prelude.{◌&&◌, ◌||◌, cond, nat_lt, not}
 use Rattle.std.specs.List.{Contains, sum_by}
-use Rattle.qg_device.specs.History.{Event}
+use Rattle.qg_device.specs.History.{History}
 use Rattle.qg_num.specs.declared.piece.Piece.{Piece}
 use Rattle.qg_node.specs.declared.item.Item.{Item}
 use Rattle.qg_super.specs.declared.sizes.Sizes.{Sizes}
@@ -29,7 +29,7 @@ use Rattle.qg_fs_tree.proofs.Taken.{has-led}
 
 -- ---- one leaf
 
-module _ (fs : FsTree) (history : Option (List Event)) (items : List Item) (names : List (ℕ × Piece))
+module _ (fs : FsTree) (history : History) (items : List Item) (names : List (ℕ × Piece))
     (stands : Stands fs history items names) (drafted : IsDrafted fs.land fs.tree.next) where
   -- only one way leads to a root that is a leaf
   pub leaf-own : fs.tree.height ≡ 0 → own_slots fs history ≡ 1
@@ -48,7 +48,7 @@ module _ (fs : FsTree) (history : Option (List Event)) (items : List Item) (name
 -- ---- what comes
 
 -- what the other trees reach after an edit they reached before
-pub elsewhere-moved : (old new : FsTree) (history : Option (List Event)) → Moves old new history → (q : ℕ)
+pub elsewhere-moved : (old new : FsTree) (history : History) → Moves old new history → (q : ℕ)
     → IsElsewhere new history q → IsElsewhere old history q
 elsewhere-moved old new history moves q there =
     let among : Contains old.others.items there.tree = subst (λ (others : List Root). Contains others there.tree)
@@ -64,7 +64,7 @@ elsewhere-moved old new history moves q there =
       others_same same = rw same refl
 
 -- and so it is where pieces are named
-pub elsewhere-kept : (old new : FsTree) (history : Option (List Event)) → KeepsTree old new → (q : ℕ)
+pub elsewhere-kept : (old new : FsTree) (history : History) → KeepsTree old new → (q : ℕ)
     → IsElsewhere new history q → IsElsewhere old history q
 elsewhere-kept old new history keeps q there = record {
   tree = there.tree;
@@ -76,7 +76,7 @@ elsewhere-kept old new history keeps q there = record {
   others_same same = rw same refl
 
 -- the tree at hand reaches the same then
-pub own-kept : (old new : FsTree) (history : Option (List Event)) → KeepsTree old new
+pub own-kept : (old new : FsTree) (history : History) → KeepsTree old new
     → own_slots new history ≡ own_slots old history
 unfolding own_slots
 own-kept old new history keeps =
@@ -92,7 +92,7 @@ new_own true there false true is kept = omega arith
 new_own false true false true is kept = let wrong : false ≡ true = kept refl in absurd cc
 new_own false false false true is kept = absurd cc
 
-module _ (old new : FsTree) (history : Option (List Event)) (items items_new : List Item)
+module _ (old new : FsTree) (history : History) (items items_new : List Item)
     (names names_new : List (ℕ × Piece))
     (stands : Stands old history items names) (drafted : IsDrafted old.land old.tree.next)
     (table : IsTable old.refs.refs)

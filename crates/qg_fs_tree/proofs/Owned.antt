@@ -3,7 +3,7 @@ use Rattle.std.proofs.Common.{◌≡◌, ℕ, ◌≤◌, Bool, true, false, List
 use Rattle.std.proofs.Common.{◌∙◌, inl, inr}
 use Rattle.std.specs.Prelude.{◌⊎◌, if◌then◌else◌}
 use Rattle.std.specs.List.{cons_option, filter, filter_map}
-use Rattle.qg_device.specs.History.{Event}
+use Rattle.qg_device.specs.History.{History}
 use Rattle.qg_num.specs.declared.piece.Piece.{Piece}
 use Rattle.qg_node.specs.declared.item.Item.{Item}
 use Rattle.qg_node.specs.declared.node.Node.{Node}
@@ -26,7 +26,7 @@ ComesOf old new = (at : ℕ) (node : Node) → fresh_at new.land.blocks.draft at
     → ((header_of node).owner ≡ old.tree.owner)
     ⊎ ((was : Node) × (fresh_at old.land.blocks.draft at ≡ Some was) × ((header_of was).owner ≡ (header_of node).owner))
 
-module _ (old new : FsTree) (history : Option (List Event)) (items left_items : List Item) (names : List (ℕ × Piece))
+module _ (old new : FsTree) (history : History) (items left_items : List Item) (names : List (ℕ × Piece))
     (stands : Stands old history items names) (drafted : IsDrafted old.land old.tree.next)
     (replaced : IsReplaced Files old.tree new.tree old.land new.land history left_items)
     (comes : ComesOf old new) where

@@ -8,7 +8,7 @@ use Rattle.std.specs.List.Sorted.{IsStrictlyIncreasing}
 use Rattle.std.specs.Result.{result_ok}
 use Rattle.std.proofs.lemmas.Bool.{cases_Bool}
 use Rattle.std.proofs.lemmas.Bool.Decides.{eqb_tells}
-use Rattle.qg_device.specs.History.{Event, content}
+use Rattle.qg_device.specs.History.{History, Recorded, Unrecorded, content}
 use Rattle.qg_num.specs.declared.piece.Piece.{Piece}
 use Rattle.qg_node.specs.declared.item.Item.{Item}
 use Rattle.qg_node.specs.declared.node.Node.{Node}
@@ -63,14 +63,14 @@ nothing_stands : (sizes : Sizes) (image : List ℕ) (at : ℕ) → is_slot sizes
 unfolding standing
 nothing_stands sizes image at none = rw (no_slot sizes (length image) at none) refl
 
-nothing_told : (fresh : Option Node) (sizes : Sizes) (history : Option (List Event)) (at : ℕ) → fresh ≡ None
+nothing_told : (fresh : Option Node) (sizes : Sizes) (history : History) (at : ℕ) → fresh ≡ None
     → is_slot sizes at ≡ false
     → told_or fresh sizes history at ≡ None
-nothing_told None sizes None at none outside = refl
-nothing_told None sizes (Some events) at none outside = nothing_stands sizes (content events) at outside
+nothing_told None sizes (Unrecorded changes) at none outside = refl
+nothing_told None sizes (Recorded events) at none outside = nothing_stands sizes (content events) at outside
 nothing_told (Some node) sizes history at none outside = cc
 
-pub told-slot : (land : Ground) (history : Option (List Event)) (generation : ℕ) → IsDrafted land generation
+pub told-slot : (land : Ground) (history : History) (generation : ℕ) → IsDrafted land generation
     → (at : ℕ) (node : Node)
     → told land.blocks.draft history at ≡ Some node → IsTrue (is_slot land.space.sizes at)
 unfolding told
@@ -103,7 +103,7 @@ abbrev pub IsNoNode : Option What → Type 0
 IsNoNode what = (bytes level generation : ℕ) → what
     ≡ Some (record { bytes = bytes; level = Some level; generation = generation }) → ⊥
 
-module _ (old new : FsTree) (history : Option (List Event)) (items : List Item) (names names_new : List (ℕ × Piece))
+module _ (old new : FsTree) (history : History) (items : List Item) (names names_new : List (ℕ × Piece))
     (at : ℕ)
     (stands : Stands old history items names) (drafted : IsDrafted old.land old.tree.next)
     (tree : new.tree ≡ old.tree) (trees : new.others ≡ old.others)

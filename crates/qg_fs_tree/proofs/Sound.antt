@@ -4,7 +4,7 @@ use Rattle.std.proofs.Common.{subst, length-drop}
 use Rattle.std.specs.Prelude.{Result, Ok, Err, if◌then◌else◌}
 use Rattle.std.specs.Result.{result_ok}
 use Rattle.std.proofs.lemmas.List.{length-take}
-use Rattle.qg_device.specs.History.{Event, content, range}
+use Rattle.qg_device.specs.History.{History, Recorded, Unrecorded, content, range}
 use Rattle.qg_num.specs.declared.rule.Rule.{Rule}
 use Rattle.qg_num.specs.declared.rule.Rule.TheVariants as rule
 use Rattle.qg_node.specs.declared.node.Node.{Node}
@@ -58,15 +58,15 @@ standing_formed sizes image at node is =
     omega (arith, length-take sizes.nodesize (drop at image), length-drop at image, inside) in
     subst (λ (n : ℕ). IsNode n node) size (read-formed at text node (standing-read sizes image at node is))
 
-either_formed : (fresh : Option Node) (sizes : Sizes) (history : Option (List Event)) (at : ℕ) (node : Node)
+either_formed : (fresh : Option Node) (sizes : Sizes) (history : History) (at : ℕ) (node : Node)
     → ((other : Node) → fresh ≡ Some other → IsNode sizes.nodesize other)
     → told_or fresh sizes history at ≡ Some node → IsNode sizes.nodesize node
 either_formed (Some other) sizes history at node here is = here node is
-either_formed None sizes None at node here is = absurd cc
-either_formed None sizes (Some events) at node here is =
+either_formed None sizes (Unrecorded changes) at node here is = absurd cc
+either_formed None sizes (Recorded events) at node here is =
     standing_formed sizes (content events) at node (ok-there (standing sizes (content events) at) node is)
 
-pub told-formed : (land : Ground) (history : Option (List Event)) (generation : ℕ) → IsDrafted land generation
+pub told-formed : (land : Ground) (history : History) (generation : ℕ) → IsDrafted land generation
     → (q : ℕ) (node : Node) → told land.blocks.draft history q ≡ Some node → IsNode land.space.sizes.nodesize node
 unfolding told
 told-formed land history generation drafted q node is =

@@ -3,7 +3,7 @@ use Rattle.std.proofs.Common.{◌≡◌, ℕ, zero, suc, ◌<◌, Bool, true, fa
 use Rattle.std.proofs.Common.{inl, inr}
 use Rattle.std.specs.Prelude.{◌||◌, IsTrue, if◌then◌else◌, nat_lt}
 use Rattle.std.proofs.lemmas.Bool.{lt-ltb}
-use Rattle.qg_device.specs.History.{Event}
+use Rattle.qg_device.specs.History.{History}
 use Rattle.qg_num.specs.declared.piece.Piece.{Piece}
 use Rattle.qg_node.specs.declared.item.Item.{Item}
 use Rattle.qg_super.specs.Places.{is_slot}
@@ -23,7 +23,7 @@ use Rattle.qg_fs_tree.proofs.Exchanged.{lasting, reached_first, references-none}
 use Rattle.qg_fs_tree.proofs.Fixed.{StandsFor-before, fixed}
 use Rattle.qg_fs_tree.proofs.Turned.{Around, StandsFor, total-is}
 
-module _ (fs : FsTree) (history : Option (List Event)) (items : List Item) (names : List (ℕ × Piece))
+module _ (fs : FsTree) (history : History) (items : List Item) (names : List (ℕ × Piece))
     (stands : Stands fs history items names) (drafted : IsDrafted fs.land fs.tree.next) where
   abbrev around : Around
   around = around_of fs history names

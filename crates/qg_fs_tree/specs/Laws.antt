@@ -1,7 +1,7 @@
 -- Laws of trees that stand, and of slots that edits take (this project's own).
-use Rattle.std.specs.Prelude.{◌≡◌, ℕ, ◌+◌, ◌*◌, ◌<◌, ◌≤◌, List, Option}
+use Rattle.std.specs.Prelude.{◌≡◌, ℕ, ◌+◌, ◌*◌, ◌<◌, ◌≤◌, List}
 use Rattle.std.specs.List.Sorted.{IsPermutation}
-use Rattle.qg_device.specs.History.{Event}
+use Rattle.qg_device.specs.History.{History}
 use Rattle.qg_num.specs.declared.piece.Piece.{Piece}
 use Rattle.qg_node.specs.declared.item.Item.{Item}
 use Rattle.qg_node.specs.Nodes.{items_bytes}
@@ -13,13 +13,13 @@ use Rattle.qg_fs_tree.specs.Standing.{KeepsTree, Stands, made_slots}
 
 -- the order of names doesn't matter
 abbrev pub StandsInAnotherOrder : Type 0
-StandsInAnotherOrder = (fs : FsTree) (history : Option (List Event)) (items : List Item)
+StandsInAnotherOrder = (fs : FsTree) (history : History) (items : List Item)
     (names others : List (ℕ × Piece))
     → IsPermutation names others → Stands fs history items names → Stands fs history items others
 
 -- a tree whose items take less than three nodes hold has one level above its leaves at most
 abbrev pub StandsLow : Type 0
-StandsLow = (fs : FsTree) (history : Option (List Event)) (items : List Item) (names : List (ℕ × Piece))
+StandsLow = (fs : FsTree) (history : History) (items : List Item) (names : List (ℕ × Piece))
     → Stands fs history items names → IsDrafted fs.land fs.tree.next
     → items_bytes items < 3 * capacity fs.land.space.sizes.nodesize → fs.tree.height ≤ 1
 

@@ -5,7 +5,7 @@ use Rattle.std.specs.Prelude.{◌∷◌, ◌++◌, map, Option, Some, None, IsTr
 use Rattle.std.specs.List.{All, count_by, filter_map, flat_map, list_any, range_with_len}
 use Rattle.std.specs.List.Sorted.{IsPermutation, IsStrictlyIncreasing}
 use Rattle.std.specs.Option.{option_map}
-use Rattle.qg_device.specs.History.{Event}
+use Rattle.qg_device.specs.History.{History}
 use Rattle.qg_num.specs.declared.piece.Piece.{Piece}
 use Rattle.qg_num.specs.declared.fault.BlockFault.{BlockFault}
 use Rattle.qg_num.specs.declared.fault.BlockFault.TheVariants.{NoMemory, Disk, Image}
@@ -44,26 +44,26 @@ use Rattle.qg_fs_tree.specs.declared.fs_tree.FsTree.{FsTree}
 -- ---- over any disk
 
 -- nodes and space in which a subvolume's tree is edited by the generation to come
-pub record IsSubvolume (fs : FsTree) (history : Option (List Event)) (bytes : ℕ) : Type 0 where
+pub record IsSubvolume (fs : FsTree) (history : History) (bytes : ℕ) : Type 0 where
   pub editable : IsEditable fs.land history bytes fs.tree.next
   pub makes : CanMake Files fs.tree
 
 -- ---- where the tree is told
 
 -- what is told at an address
-abbrev pub nodes_of : FsTree → Option (List Event) → ℕ → Option Node
+abbrev pub nodes_of : FsTree → History → ℕ → Option Node
 nodes_of fs history = told fs.land.blocks.draft history
 
 -- a tree reaches an address
-abbrev pub IsReachedBy : FsTree → Option (List Event) → Root → ℕ → Type 0
+abbrev pub IsReachedBy : FsTree → History → Root → ℕ → Type 0
 IsReachedBy fs history tree q = Reaches (nodes_of fs history) tree.height tree.address q
 
 -- so does the tree at hand
-abbrev pub IsReached : FsTree → Option (List Event) → ℕ → Type 0
+abbrev pub IsReached : FsTree → History → ℕ → Type 0
 IsReached fs history = IsReachedBy fs history fs.tree
 
 -- how many ways lead to an address in a tree
-abbrev pub ways_in : FsTree → Option (List Event) → Root → ℕ → ℕ
+abbrev pub ways_in : FsTree → History → Root → ℕ → ℕ
 ways_in fs history tree q = ways (nodes_of fs history) tree.height tree.address q
 
 -- the trees of all subvolumes
@@ -71,7 +71,7 @@ abbrev pub trees_of : FsTree → List Root
 trees_of fs = fs.tree ∷ fs.others.items
 
 -- a tree other than the one at hand reaches an address
-pub record IsElsewhere (fs : FsTree) (history : Option (List Event)) (q : ℕ) : Type 0 where
+pub record IsElsewhere (fs : FsTree) (history : History) (q : ℕ) : Type 0 where
   pub tree : Root
   pub among : Contains fs.others.items tree
   pub reached : IsReachedBy fs history tree q
@@ -81,7 +81,7 @@ abbrev pub every_slot : Sizes → List ℕ
 every_slot sizes = map (slot_at sizes) (range_with_len 0 sizes.slots)
 
 -- a slot's node, if some tree reaches it, with the mark that is kept of it
-abbrev pub placed_at : FsTree → Option (List Event) → ℕ → Option (ℕ × Placed)
+abbrev pub placed_at : FsTree → History → ℕ → Option (ℕ × Placed)
 placed_at fs history at =
     if list_any (λ tree. nat_lt 0 (ways_in fs history tree at)) (trees_of fs)
     then option_map (λ node. (at, record { node = node; full = full_in (book_of fs.refs.refs at) }))
@@ -92,7 +92,7 @@ abbrev pub roots_of : FsTree → List (ℕ × ℕ)
 roots_of fs = with_value fs.tree.owner fs.tree.address (map (λ tree. (tree.owner, tree.address)) fs.others.items)
 
 -- the trees as a layout: their roots, and the nodes that they reach, slot by slot
-unfoldable pub layout_in : FsTree → Option (List Event) → Layout
+unfoldable pub layout_in : FsTree → History → Layout
 layout_in fs history = record {
   nodesize = fs.land.space.sizes.nodesize;
   roots = roots_of fs;
@@ -117,18 +117,18 @@ abbrev pub name_told : Item → Option (ℕ × Piece)
 name_told item = piece_in (file_part item)
 
 -- the items of a tree, from left to right
-abbrev pub items_in : FsTree → Option (List Event) → Root → List Item
+abbrev pub items_in : FsTree → History → Root → List Item
 items_in fs history tree = items_or_none (items_below (nodes_of fs history) tree.height tree.address) where
   items_or_none : Option (List Item) → List Item
   items_or_none None = []
   items_or_none (Some items) = items
 
 -- the pieces that the other trees tell, each with the number of its file
-unfoldable pub names_elsewhere : FsTree → Option (List Event) → List (ℕ × Piece)
+unfoldable pub names_elsewhere : FsTree → History → List (ℕ × Piece)
 names_elsewhere fs history = flat_map (λ tree. filter_map name_told (items_in fs history tree)) fs.others.items
 
 -- the extents of these pieces, and of those that the other trees tell
-abbrev pub extents_named : FsTree → Option (List Event) → List (ℕ × Piece) → List Element
+abbrev pub extents_named : FsTree → History → List (ℕ × Piece) → List Element
 extents_named fs history names = map (λ name. extent_of name.1) (names ++ names_elsewhere fs history)
 
 -- how often a keyed reference is there by some pieces
@@ -156,14 +156,14 @@ pub record IsBookOf (fs : FsTree) : Type 0 where
   pub nodesize : fs.refs.nodesize ≡ fs.land.space.sizes.nodesize
 
 -- a tree other than the one at hand stands beside it, in the same nodes and space
-pub record IsBeside (fs : FsTree) (history : Option (List Event)) (other : Root) : Type 0 where
+pub record IsBeside (fs : FsTree) (history : History) (other : Root) : Type 0 where
   pub items : List Item
   pub rooted : IsRooted Files other fs.land history items
   pub next : other.next ≡ fs.tree.next
   pub number : other.owner ≢ fs.tree.owner
 
 -- a node's owner reaches it
-pub record IsAtHome (fs : FsTree) (history : Option (List Event)) (q owner : ℕ) : Type 0 where
+pub record IsAtHome (fs : FsTree) (history : History) (q owner : ℕ) : Type 0 where
   pub tree : Root
   pub among : Contains (trees_of fs) tree
   pub number : tree.owner ≡ owner
@@ -174,7 +174,7 @@ pub record IsAtHome (fs : FsTree) (history : Option (List Event)) (q owner : ℕ
 -- but that these pieces stand for those of the items: in the midst of a command some are named that no item tells. None
 -- is named more often than a reference is counted. Each node lies in a slot, and the runs that are taken are the
 -- extents of these pieces and of those that the other trees tell
-pub record Stands (fs : FsTree) (history : Option (List Event)) (items : List Item) (names : List (ℕ × Piece)) : Type 0
+pub record Stands (fs : FsTree) (history : History) (items : List Item) (names : List (ℕ × Piece)) : Type 0
   where
     pub book : IsBookOf fs
     pub rooted : IsRooted Files fs.tree fs.land history items
@@ -201,7 +201,7 @@ pub record Stands (fs : FsTree) (history : Option (List Event)) (items : List It
     pub runs : (run : Element) → Contains fs.land.space.runs run ↔ Contains (extents_named fs history names) run
 
 -- a node of the last commit is full once its owner reaches it no more
-abbrev pub is_full_then : FsTree → FsTree → Option (List Event) → ℕ → Node → Bool
+abbrev pub is_full_then : FsTree → FsTree → History → ℕ → Node → Bool
 is_full_then old new history q node =
     full_in (book_of old.refs.refs q)
     || (((header_of node).owner == old.tree.owner) && not (nat_lt 0 (ways_in new history new.tree q)))
@@ -210,7 +210,7 @@ is_full_then old new history q node =
 -- was free; only these are told otherwise, and only slots that were free or reached are free. What the other trees
 -- reach is told as it was, and these trees are the same. A node that some tree reaches, and that the last commit holds,
 -- gets the mark where the subvolume at hand is its owner and reaches it no more
-pub record Moves (old new : FsTree) (history : Option (List Event)) : Type 0 where
+pub record Moves (old new : FsTree) (history : History) : Type 0 where
   pub trees : new.others ≡ old.others
   pub reach : (q : ℕ) → IsReached new history q → IsReached old history q ⊎ IsTrue (is_free_slot old.land.space q)
   pub others : (q : ℕ) → (IsTrue (is_free_slot old.land.space q) → ⊥) → (IsReached old history q → ⊥)
@@ -264,13 +264,13 @@ unfoldable pub made_slots : Holding → Holding → ℕ
 made_slots old new = count_by (λ slot. has_slot new slot && not (has_slot old slot)) (every_slot new.sizes)
 
 -- how many slots the tree at hand reaches
-unfoldable pub own_slots : FsTree → Option (List Event) → ℕ
+unfoldable pub own_slots : FsTree → History → ℕ
 own_slots fs history = count_by (λ slot. nat_lt 0 (ways_in fs history fs.tree slot)) (every_slot fs.land.space.sizes)
 
 -- an edit left the tree at hand with these items, and the same names; it took fewer than twice so many slots that were
 -- not taken before, and the tree reaches at most so many more. What the items take that stand for the references is no
 -- more than before and what such an edit may bring
-pub record IsEditedTo (old new : FsTree) (history : Option (List Event)) (items : List Item) (names : List (ℕ × Piece))
+pub record IsEditedTo (old new : FsTree) (history : History) (items : List Item) (names : List (ℕ × Piece))
     (most : ℕ) : Type 0 where
   pub stands : Stands new history items names
   pub moves : Moves old new history

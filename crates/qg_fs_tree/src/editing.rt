@@ -1,7 +1,7 @@
 // Items of the tree are put in, replaced and taken out, and its references follow.
-ghost use Rattle.std.specs.Prelude.{◌≡◌, ◌+◌, ◌*◌, ◌≤◌, ℕ, List, Some, OnOk, IsTrue, length, not};
+ghost use Rattle.std.specs.Prelude.{◌≡◌, ◌+◌, ◌*◌, ◌≤◌, ℕ, List, OnOk, IsTrue, length, not};
 ghost use Rattle.qg_device.specs.Cause.{HasCause};
-ghost use Rattle.qg_device.specs.History.{Event};
+ghost use Rattle.qg_device.specs.History.{Event, Recorded};
 ghost use Rattle.qg_num.specs.declared.piece.Piece.{Piece as PieceValue};
 ghost use Rattle.qg_node.specs.declared.item.Item.{Item as ItemValue};
 ghost use Rattle.qg_blocks.specs.Told.{BreaksNone};
@@ -43,7 +43,7 @@ impl FsTree {
             → AreNamed self.old.tree.owner (with_item (record { key = key; body = body }) items) names
             → OnOk result (IsEditedTo self.old self.new (D.history disk.old)
             (with_item (record { key = key; body = body }) items) names (self.old.tree.height + 2)) }
-        ensures sound { (events : List Event) → D.history disk.old ≡ Some events
+        ensures sound { (events : List Event) → D.history disk.old ≡ Recorded events
             → (items : List ItemValue) (names : List (ℕ × PieceValue))
             → Stands self.old (D.history disk.old) items names → IsTrue (not (has_key key items))
             → 3 * (self.old.tree.height + 2) ≤ free_slots self.old.land.space → BreaksNone result }
@@ -90,7 +90,7 @@ impl FsTree {
             → AreNamed self.old.tree.owner (with_item (record { key = key; body = body }) items) names
             → OnOk result (IsEditedTo self.old self.new (D.history disk.old)
             (with_item (record { key = key; body = body }) items) names (self.old.tree.height + 2)) }
-        ensures sound { (events : List Event) → D.history disk.old ≡ Some events
+        ensures sound { (events : List Event) → D.history disk.old ≡ Recorded events
             → (items : List ItemValue) (names : List (ℕ × PieceValue))
             → Stands self.old (D.history disk.old) items names → IsTrue (has_key key items)
             → 3 * (self.old.tree.height + 2) ≤ free_slots self.old.land.space → BreaksNone result }
@@ -133,7 +133,7 @@ impl FsTree {
             → IsTrue (has_key key items)
             → OnOk result (IsEditedTo self.old self.new (D.history disk.old) (without_key key items) names
             (self.old.tree.height + 2)) }
-        ensures sound { (events : List Event) → D.history disk.old ≡ Some events
+        ensures sound { (events : List Event) → D.history disk.old ≡ Recorded events
             → (items : List ItemValue) (names : List (ℕ × PieceValue))
             → Stands self.old (D.history disk.old) items names → IsTrue (has_key key items)
             → 3 * (self.old.tree.height + 2) ≤ free_slots self.old.land.space → BreaksNone result }

@@ -1,7 +1,7 @@
 // The trees of subvolumes with what they lie in and what they owe.
 ghost use Rattle.std.specs.Prelude.{◌≡◌, ◌+◌, ◌*◌, ◌<◌, ◌≤◌, Err, IsOk, MatchOption, OnOk};
 ghost use Rattle.qg_num.specs.declared.fault.BlockFault.TheVariants.{Image};
-ghost use Rattle.qg_num.specs.declared.rule.Rule.TheVariants.{Refs, Shape};
+ghost use Rattle.qg_num.specs.declared.rule.Rule.TheVariants.{Refs};
 ghost use Rattle.qg_space.specs.Holding.{free_slots};
 
 use qg_descent::Tree;
@@ -37,16 +37,16 @@ impl FsTree {
         }
     }
 
-    /// `Image` with `shape` and the root's address where an edit may want more slots than are free.
+    /// `Image` with `refs` and the root's address where an edit may want more slots than are free.
     pub(crate) fn roomy(&self) -> Result<(), BlockFault>
         ensures room { OnOk result (3 * (self.now.tree.height + 2) ≤ free_slots self.now.land.space) }
         ensures enough { 3 * (self.now.tree.height + 2) ≤ free_slots self.now.land.space → IsOk result }
         ensures few { free_slots self.now.land.space < 3 * (self.now.tree.height + 2)
-            → result ≡ Err (Image Shape self.now.tree.address) }
+            → result ≡ Err (Image Refs self.now.tree.address) }
     {
         if 3 * (self.tree.height() as u64 + 2) > self.land.space.free_slots() {
             return Err(BlockFault::Image {
-                rule: Rule::Shape,
+                rule: Rule::Refs,
                 address: self.tree.root(),
             });
         }

@@ -1,8 +1,8 @@
 // Pieces of files name extents, and name them no more.
-ghost use Rattle.std.specs.Prelude.{◌≡◌, ◌≢◌, ◌∷◌, ◌<◌, ◌≤◌, ◌*◌, ◌/◌, ℕ, ⊤, List, Option, Err, MatchResult, OnOk};
+ghost use Rattle.std.specs.Prelude.{◌≡◌, ◌≢◌, ◌∷◌, ◌<◌, ◌≤◌, ◌*◌, ◌/◌, ℕ, ⊤, List, Err, MatchResult, OnOk};
 ghost use Rattle.std.specs.Prelude.{IsTrue, true};
 ghost use Rattle.std.specs.List.{Contains, filter_map};
-ghost use Rattle.qg_device.specs.History.{Event};
+ghost use Rattle.qg_device.specs.History.{History};
 ghost use Rattle.qg_num.specs.declared.piece.Piece.{Piece as PieceValue};
 ghost use Rattle.qg_num.specs.declared.fault.BlockFault.TheVariants.{Image};
 ghost use Rattle.qg_num.specs.declared.rule.Rule.TheVariants.{Refs};
@@ -58,14 +58,14 @@ impl FsTree {
     /// `Image` with `refs` comes where the extent has no reference or its run is not taken, and where this reference is
     /// there as often as one may be.
     pub fn name(&mut self, ino: Ino, piece: &Piece) -> Result<(), BlockFault>
-        ensures named { (history : Option (List Event)) (bytes : ℕ) (items : List ItemValue)
+        ensures named { (history : History) (bytes : ℕ) (items : List ItemValue)
             (names : List (ℕ × PieceValue))
             → IsSubvolume self.old history bytes → Stands self.old history items names
             → Contains (extents_named self.old history names) (extent_of piece.now)
             → names_times self.old.tree.owner names piece.now.extent
             (name_of self.old.tree.owner (ino, piece.now)).reference < 4294967295
             → OnOk result (Stands self.new history items ((ino, piece.now) ∷ names)) }
-        ensures sound { (history : Option (List Event)) (bytes : ℕ) (items : List ItemValue)
+        ensures sound { (history : History) (bytes : ℕ) (items : List ItemValue)
             (names : List (ℕ × PieceValue))
             → IsSubvolume self.old history bytes → Stands self.old history items names
             → Contains (extents_named self.old history names) (extent_of piece.now)
@@ -75,7 +75,7 @@ impl FsTree {
         ensures tree { KeepsTree self.old self.new }
         ensures marks { OnOk result ((q : ℕ) → q ≢ piece.now.extent
             → full_in (book_of self.new.refs.refs q) ≡ full_in (book_of self.old.refs.refs q)) }
-        ensures subvolume { (history : Option (List Event)) (bytes : ℕ) → IsSubvolume self.old history bytes
+        ensures subvolume { (history : History) (bytes : ℕ) → IsSubvolume self.old history bytes
             → IsSubvolume self.new history bytes }
         ensures slots { free_slots self.new.land.space ≡ free_slots self.old.land.space }
         ensures heavier { OnOk result (BookGetsHeavier self.old.refs self.new.refs name_bytes) }
@@ -99,18 +99,18 @@ impl FsTree {
     /// `Image` with `refs` comes where something at its address has a reference already.
     pub fn name_new(&mut self, ino: Ino, piece: &Piece) -> Result<(), BlockFault>
         requires free { IsTrue (is_free_run self.old.land.space piece.now.extent piece.now.extent_bytes) }
-        ensures named { (history : Option (List Event)) (bytes : ℕ) (items : List ItemValue)
+        ensures named { (history : History) (bytes : ℕ) (items : List ItemValue)
             (names : List (ℕ × PieceValue))
             → IsSubvolume self.old history bytes → Stands self.old history items names
             → OnOk result (Stands self.new history items ((ino, piece.now) ∷ names)) }
-        ensures sound { (history : Option (List Event)) (bytes : ℕ) (items : List ItemValue)
+        ensures sound { (history : History) (bytes : ℕ) (items : List ItemValue)
             (names : List (ℕ × PieceValue))
             → IsSubvolume self.old history bytes → Stands self.old history items names
             → BreaksNone result }
         ensures tree { KeepsTree self.old self.new }
         ensures marks { OnOk result ((q : ℕ) → q ≢ piece.now.extent
             → full_in (book_of self.new.refs.refs q) ≡ full_in (book_of self.old.refs.refs q)) }
-        ensures subvolume { (history : Option (List Event)) (bytes : ℕ) → IsSubvolume self.old history bytes
+        ensures subvolume { (history : History) (bytes : ℕ) → IsSubvolume self.old history bytes
             → IsSubvolume self.new history bytes }
         ensures slots { free_slots self.new.land.space ≡ free_slots self.old.land.space }
         ensures heavier { OnOk result (BookGetsHeavier self.old.refs self.new.refs name_new_bytes) }
@@ -134,7 +134,7 @@ impl FsTree {
     ///
     /// `Image` with `refs` comes where the reference is not there, or the run that is to be given back is not taken.
     pub fn unname(&mut self, ino: Ino, piece: &Piece) -> Result<(), BlockFault>
-        ensures unnamed { (history : Option (List Event)) (bytes : ℕ) (items : List ItemValue)
+        ensures unnamed { (history : History) (bytes : ℕ) (items : List ItemValue)
             (names : List (ℕ × PieceValue))
             → IsSubvolume self.old history bytes → Stands self.old history items ((ino, piece.now) ∷ names)
             → names_times self.old.tree.owner (filter_map name_told items) piece.now.extent
@@ -142,7 +142,7 @@ impl FsTree {
             ≤ names_times self.old.tree.owner names piece.now.extent
             (name_of self.old.tree.owner (ino, piece.now)).reference
             → OnOk result (Stands self.new history items names) }
-        ensures sound { (history : Option (List Event)) (bytes : ℕ) (items : List ItemValue)
+        ensures sound { (history : History) (bytes : ℕ) (items : List ItemValue)
             (names : List (ℕ × PieceValue))
             → IsSubvolume self.old history bytes → Stands self.old history items ((ino, piece.now) ∷ names)
             → names_times self.old.tree.owner (filter_map name_told items) piece.now.extent
@@ -153,7 +153,7 @@ impl FsTree {
         ensures tree { KeepsTree self.old self.new }
         ensures marks { OnOk result ((q : ℕ) → q ≢ piece.now.extent
             → full_in (book_of self.new.refs.refs q) ≡ full_in (book_of self.old.refs.refs q)) }
-        ensures subvolume { (history : Option (List Event)) (bytes : ℕ) → IsSubvolume self.old history bytes
+        ensures subvolume { (history : History) (bytes : ℕ) → IsSubvolume self.old history bytes
             → IsSubvolume self.new history bytes }
         ensures slots { free_slots self.new.land.space ≡ free_slots self.old.land.space }
         ensures heavier { OnOk result (BookGetsHeavier self.old.refs self.new.refs 0) }

@@ -1,9 +1,9 @@
 // Another subvolume's tree comes to hand.
-ghost use Rattle.std.specs.Prelude.{◌≡◌, ◌≢◌, ◌<◌, ℕ, List, Option, IfNone, IfSome, IsTrue, false, length};
+ghost use Rattle.std.specs.Prelude.{◌≡◌, ◌≢◌, ◌<◌, ℕ, List, IfNone, IfSome, IsTrue, false, length};
 ghost use Rattle.std.specs.Prelude.{slice_index_or, slice_set};
 ghost use Rattle.std.specs.List.{All, Contains, HoldsAt, filter_map};
 ghost use Rattle.std.specs.List.Sorted.{IsNonDecreasingBy, IsPermutation};
-ghost use Rattle.qg_device.specs.History.{Event};
+ghost use Rattle.qg_device.specs.History.{History};
 ghost use Rattle.qg_node.specs.declared.item.Item.{Item as ItemValue};
 ghost use Rattle.qg_descent.specs.Tree.{Root};
 ghost use Rattle.qg_fs_tree.specs.Standing.{AreNumbered, CanTurn, IsSubvolume, IsTurned, Stands, items_in, layout_in};
@@ -56,14 +56,14 @@ impl FsTree {
         ensures turned { IsTrue result → IsTurned self.old self.new number }
         ensures left { result ≡ false → self.new ≡ self.old }
         ensures numbers { AreNumbered self.old → AreNumbered self.new }
-        ensures layout { (history : Option (List Event)) → AreNumbered self.old → IsTrue result
+        ensures layout { (history : History) → AreNumbered self.old → IsTrue result
             → layout_in self.new history ≡ layout_in self.old history }
-        ensures stands { (history : Option (List Event)) (bytes : ℕ) (items : List ItemValue)
+        ensures stands { (history : History) (bytes : ℕ) (items : List ItemValue)
             → IsSubvolume self.old history bytes
             → Stands self.old history items (filter_map name_told items) → IsTrue result
             → Stands self.new history (items_in self.new history self.new.tree)
             (filter_map name_told (items_in self.new history self.new.tree)) }
-        ensures subvolume { (history : Option (List Event)) (bytes : ℕ) → IsSubvolume self.old history bytes
+        ensures subvolume { (history : History) (bytes : ℕ) → IsSubvolume self.old history bytes
             → CanTurn self.old → IsTrue result
             → IsSubvolume self.new history bytes × CanTurn self.new }
     {

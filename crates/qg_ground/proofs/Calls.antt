@@ -1,7 +1,7 @@
 -- What two calls leave, one after the other, and what a call leaves that reads.
 use Rattle.std.proofs.Common.{◌≡◌, ℕ, refl, ◌∙◌}
-use Rattle.std.specs.Prelude.{List, Option}
-use Rattle.qg_device.specs.History.{Event}
+use Rattle.std.specs.Prelude.{List}
+use Rattle.qg_device.specs.History.{History}
 use Rattle.qg_blocks.specs.Held.{Held}
 use Rattle.qg_blocks.specs.Told.{StaysBacked}
 use Rattle.qg_ground.specs.declared.ground.Ground.{Ground}
@@ -10,7 +10,7 @@ use Rattle.qg_ground.specs.Land.{IsDrafted, Rests}
 use Rattle.qg_ground.proofs.Lands.{Rests-after, Rests-draft}
 
 -- what two steps leave so
-pub LeavesBe-after : (old mid new : Ground) (before then after : Option (List Event)) (bytes held left generation : ℕ)
+pub LeavesBe-after : (old mid new : Ground) (before then after : History) (bytes held left generation : ℕ)
     → LeavesBe old mid before then bytes held generation → LeavesBe mid new then after held left generation
     → LeavesBe old new before after bytes left generation
 LeavesBe-after old mid new before then after bytes held left generation one two = record {
@@ -20,7 +20,7 @@ LeavesBe-after old mid new before then after bytes held left generation one two 
 }
 
 -- and where the second one comes to nodes and space alone
-pub LeavesBe-with : (old mid new : Ground) (before after : Option (List Event)) (bytes left generation : ℕ)
+pub LeavesBe-with : (old mid new : Ground) (before after : History) (bytes left generation : ℕ)
     → LeavesBe old mid before after bytes left generation → Rests mid new after generation
     → LeavesBe old new before after bytes left generation
 LeavesBe-with old mid new before after bytes left generation one rests =
@@ -28,7 +28,7 @@ LeavesBe-with old mid new before after bytes left generation one rests =
     (record { rests = rests; history = refl; size = refl })
 
 -- a node was read
-pub LeavesBe-read : (land : Ground) (new : Held) (before after : Option (List Event)) (bytes left generation : ℕ)
+pub LeavesBe-read : (land : Ground) (new : Held) (before after : History) (bytes left generation : ℕ)
     → StaysBacked land.blocks new after → (after ≡ before) × (left ≡ bytes) → IsDrafted land generation
     → LeavesBe land (record land { blocks = new }) before after bytes left generation
 LeavesBe-read land new before after bytes left generation stays disk drafted = record {

@@ -3,7 +3,7 @@ use Rattle.std.proofs.Common.{◌≡◌, ◌≢◌, ℕ, ◌≤◌, Bool, List, 
 use Rattle.std.specs.Prelude.{Option, Some, None, IsSome, ◌+◌, nat_le, if◌then◌else◌}
 use Rattle.std.proofs.lemmas.Bool.{and_from, le-leb}
 use Rattle.std.proofs.lemmas.Bool.Decides.{eqb_tells}
-use Rattle.qg_device.specs.History.{Event}
+use Rattle.qg_device.specs.History.{History, Unrecorded}
 use Rattle.qg_node.specs.declared.node.Node.{Node}
 use Rattle.qg_node.specs.Nodes.{header_of}
 use Rattle.qg_super.specs.declared.sizes.Sizes.{Sizes}
@@ -36,13 +36,13 @@ some_is (Some node) some = (node, refl)
 pub edited-here : (land : Ground) (at : ℕ) (node : Node) → IsSome (fresh_at land.blocks.draft at)
     → fresh_at (edited land at node).blocks.draft at ≡ Some node
 edited-here land at node some = sym (told-nothing (edited land at node).blocks.draft at) ∙ elim (eqb_tells at at) [
-  | inl (equal, same) ↦ told-set land.blocks.draft at node None at some
-      ∙ ap (λ (b : Bool). if b then Some node else told land.blocks.draft None at) equal
+  | inl (equal, same) ↦ told-set land.blocks.draft at node (Unrecorded 0) at some
+      ∙ ap (λ (b : Bool). if b then Some node else told land.blocks.draft (Unrecorded 0) at) equal
   | inr (unequal, differ) ↦ absurd (differ refl)
 ]
 
 -- and elsewhere the same is told as before
-pub edited-others : (land : Ground) (at : ℕ) (node : Node) (history : Option (List Event)) (other : ℕ)
+pub edited-others : (land : Ground) (at : ℕ) (node : Node) (history : History) (other : ℕ)
     → IsSome (fresh_at land.blocks.draft at) → other ≢ at
     → told (edited land at node).blocks.draft history other ≡ told land.blocks.draft history other
 edited-others land at node history other some differ = elim (eqb_tells other at) [
@@ -60,7 +60,7 @@ edited_stays land at node some other was = elim (eqb_tells other at) [
   | inr (unequal, differ) ↦
       IsSome-same (fresh_at land.blocks.draft other) (fresh_at (edited land at node).blocks.draft other)
       (fresh_at-told land.blocks.draft (edited land at node).blocks.draft other
-      (edited-others land at node None other some differ)) was
+      (edited-others land at node (Unrecorded 0) other some differ)) was
 ]
 
 edited_only : (land : Ground) (at : ℕ) (node : Node) → IsSome (fresh_at land.blocks.draft at) → (other : ℕ)
@@ -70,7 +70,7 @@ edited_only land at node some other is = elim (eqb_tells other at) [
   | inr (unequal, differ) ↦
       IsSome-same (fresh_at (edited land at node).blocks.draft other) (fresh_at land.blocks.draft other)
       (sym (fresh_at-told land.blocks.draft (edited land at node).blocks.draft other
-      (edited-others land at node None other some differ))) is
+      (edited-others land at node (Unrecorded 0) other some differ))) is
 ]
 
 pub Spares-edited : (land : Ground) (at : ℕ) (node : Node) → IsSome (fresh_at land.blocks.draft at)
@@ -118,11 +118,11 @@ IsDrafted-edited land generation at node some kept dated is =
             (subst (λ (n : Node). IsDraftAt land.space generation at n) (sym one) here)
         | inr (unequal, differ) ↦
             is.each other new (sym (fresh_at-told land.blocks.draft (edited land at node).blocks.draft other
-            (edited-others land at node None other some differ)) ∙ there)
+            (edited-others land at node (Unrecorded 0) other some differ)) ∙ there)
       ];
     }
 
-pub Rests-edited : (land : Ground) (history : Option (List Event)) (generation at : ℕ) (node : Node)
+pub Rests-edited : (land : Ground) (history : History) (generation at : ℕ) (node : Node)
     → IsSome (fresh_at land.blocks.draft at) → IsNodeAt land.space.sizes.nodesize at node
     → (header_of node).generation ≡ generation → IsBacked land.blocks history → IsDrafted land generation
     → Rests land (edited land at node) history generation

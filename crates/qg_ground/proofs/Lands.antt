@@ -7,7 +7,7 @@ use Rattle.std.proofs.lemmas.Bool.Decides.{eqb_tells}
 use Rattle.std.specs.Ordering.{nat_cmp}
 use Rattle.std.specs.BTreeMap.{is_at}
 use Rattle.std.specs.Map.{lookup}
-use Rattle.qg_device.specs.History.{Event}
+use Rattle.qg_device.specs.History.{History, Unrecorded}
 use Rattle.qg_num.specs.declared.rule.Rule.{Rule}
 use Rattle.qg_num.specs.declared.fault.BlockFault.{BlockFault}
 use Rattle.qg_num.specs.declared.fault.BlockFault.TheVariants.{NoMemory, Disk, Image}
@@ -31,28 +31,29 @@ use Rattle.qg_ground.proofs.Slots.{taken-here, taken-more}
 
 -- ---- fresh nodes
 
-none_told : (o : Option Node) (sizes : Sizes) (at : ℕ) → told_or o sizes None at ≡ o
+none_told : (o : Option Node) (sizes : Sizes) (at : ℕ) → told_or o sizes (Unrecorded 0) at ≡ o
 none_told None sizes at = refl
 none_told (Some node) sizes at = refl
 
 -- over a disk that tells nothing the fresh nodes are told
-pub told-nothing : (draft : Draft) (at : ℕ) → told draft None at ≡ fresh_at draft at
+pub told-nothing : (draft : Draft) (at : ℕ) → told draft (Unrecorded 0) at ≡ fresh_at draft at
 unfolding told
 told-nothing draft at = none_told (fresh_at draft at) draft.sizes at
 
-some_told : (o : Option Node) (sizes : Sizes) (history : Option (List Event)) (at : ℕ) (node : Node) → o ≡ Some node
+some_told : (o : Option Node) (sizes : Sizes) (history : History) (at : ℕ) (node : Node) → o ≡ Some node
     → told_or o sizes history at ≡ Some node
 some_told None sizes history at node is = cc
 some_told (Some other) sizes history at node is = is
 
 -- and over any disk
-pub told-fresh_at : (draft : Draft) (history : Option (List Event)) (at : ℕ) (node : Node)
+pub told-fresh_at : (draft : Draft) (history : History) (at : ℕ) (node : Node)
     → fresh_at draft at ≡ Some node → told draft history at ≡ Some node
 unfolding told
 told-fresh_at draft history at node is = some_told (fresh_at draft at) draft.sizes history at node is
 
 -- where the same is told over any disk, the same is fresh
-pub fresh_at-told : (old new : Draft) (at : ℕ) → told new None at ≡ told old None at → fresh_at new at ≡ fresh_at old at
+pub fresh_at-told : (old new : Draft) (at : ℕ) → told new (Unrecorded 0) at ≡ told old (Unrecorded 0) at
+    → fresh_at new at ≡ fresh_at old at
 fresh_at-told old new at same = sym (told-nothing new at) ∙ same ∙ told-nothing old at
 
 pub IsSome-same : (o p : Option Node) → p ≡ o → IsSome o → IsSome p
@@ -189,7 +190,8 @@ IsDrafted-put old new now generation node spares puts slots sound placed dated i
         | inr (unequal, differ) ↦
             IsDraftAt-same old.space new.space generation at other sizes held
             (λ has. subst (λ (ns : List ℕ). Contains ns at) (sym slots) (taken-more now old.space.slots at has))
-            (is.each at other (sym (fresh_at-told old.blocks.draft new.blocks.draft at (puts.others None at differ))
+            (is.each at other (sym (fresh_at-told old.blocks.draft new.blocks.draft at
+            (puts.others (Unrecorded 0) at differ))
             ∙ there))
       ];
     }
@@ -199,7 +201,7 @@ IsDrafted-put old new now generation node spares puts slots sound placed dated i
 -- it is fresh at its new address, and elsewhere the same is told
 pub Makes-put : (old new : Ground) (now : ℕ) (node put : Node) → put ≡ node_at now node
     → is_free_slot old.space now ≡ true → new.space ≡ record old.space { slots = with_number now old.space.slots }
-    → ((history : Option (List Event)) (at : ℕ)
+    → ((history : History) (at : ℕ)
     → told new.blocks.draft history at ≡ if at == (header_of put).address then Some put else told old.blocks.draft
     history at) → Makes old new now node
 Makes-put old new now node put is free space telling =
@@ -209,8 +211,8 @@ Makes-put old new now node put is free space telling =
       puts = record {
         free = free;
         here = sym (told-nothing new.blocks.draft now) ∙ elim (eqb_tells now (header_of put).address) [
-          | inl (equal, same) ↦ telling None now
-              ∙ ap (λ (b : Bool). if b then Some put else told old.blocks.draft None now) equal
+          | inl (equal, same) ↦ telling (Unrecorded 0) now
+              ∙ ap (λ (b : Bool). if b then Some put else told old.blocks.draft (Unrecorded 0) now) equal
               ∙ ap (λ (n : Node). Some n) is
           | inr (unequal, differ) ↦ absurd (differ (sym placed))
         ];
@@ -224,7 +226,7 @@ Makes-put old new now node put is free space telling =
     }
 
 -- the copy of the node that is told
-pub Copies-made : (old mid new : Ground) (history : Option (List Event)) (at now owner generation : ℕ)
+pub Copies-made : (old mid new : Ground) (history : History) (at now owner generation : ℕ)
     (node copy : Node) → mid.blocks.draft ≡ old.blocks.draft → mid.space ≡ old.space
     → Makes mid new now copy → copy ≡ node_copy node (header_of node).address owner generation
     → ((n : Node) → told old.blocks.draft history at ≡ Some n → n ≡ node)
@@ -267,7 +269,7 @@ IsDrafted-copied old new now owner generation node copy spares makes made sound 
 
 -- ---- one call after another
 
-pub Rests-after : (old mid new : Ground) (first second : Option (List Event)) (generation : ℕ)
+pub Rests-after : (old mid new : Ground) (first second : History) (generation : ℕ)
     → Rests old mid first generation → Rests mid new second generation → Rests old new second generation
 Rests-after old mid new first second generation one two = record {
   backed = two.backed;
@@ -281,7 +283,7 @@ Rests-after old mid new first second generation one two = record {
 }
 
 -- a call that changed only which clean nodes are in memory
-pub Rests-draft : (old new : Ground) (history : Option (List Event)) (generation : ℕ)
+pub Rests-draft : (old new : Ground) (history : History) (generation : ℕ)
     → new.blocks.draft ≡ old.blocks.draft → new.blocks.bound ≡ old.blocks.bound → new.space ≡ old.space
     → IsBacked new.blocks history → IsDrafted old generation → Rests old new history generation
 Rests-draft old new history generation draft bound space backed is = record {
@@ -302,7 +304,7 @@ Rests-draft old new history generation draft bound space backed is = record {
 }
 
 -- what an edit spares rests
-pub Rests-spares : (old new : Ground) (history : Option (List Event)) (generation : ℕ) → Spares old new
+pub Rests-spares : (old new : Ground) (history : History) (generation : ℕ) → Spares old new
     → new.blocks.bound ≡ old.blocks.bound → IsBacked new.blocks history → IsDrafted new generation
     → Rests old new history generation
 Rests-spares old new history generation spares bound backed is = record {
@@ -317,7 +319,7 @@ Rests-spares old new history generation spares bound backed is = record {
 }
 
 -- and where no node was put
-pub Rests-taken : (old new : Ground) (history : Option (List Event)) (generation : ℕ) → Spares old new
+pub Rests-taken : (old new : Ground) (history : History) (generation : ℕ) → Spares old new
     → new.blocks ≡ old.blocks → IsBacked new.blocks history → IsDrafted old generation
     → Rests old new history generation
 Rests-taken old new history generation spares blocks backed is =
@@ -330,7 +332,7 @@ Rests-taken old new history generation spares blocks backed is =
     )) is)
 
 -- where a node was put
-pub Rests-made : (old new : Ground) (history : Option (List Event)) (now generation : ℕ) (node : Node) → Spares old new
+pub Rests-made : (old new : Ground) (history : History) (now generation : ℕ) (node : Node) → Spares old new
     → new.blocks.bound ≡ old.blocks.bound → IsBacked new.blocks history
     → Makes old new now node → IsNode old.space.sizes.nodesize node → (header_of node).generation ≡ generation
     → IsDrafted old generation → Rests old new history generation
@@ -339,7 +341,7 @@ Rests-made old new history now generation node spares bound backed makes sound d
     (IsDrafted-made old new now generation node spares makes sound dated is)
 
 -- where a slot was given back in which no node is fresh now
-pub Rests-given : (old new : Ground) (history : Option (List Event)) (at generation : ℕ)
+pub Rests-given : (old new : Ground) (history : History) (at generation : ℕ)
     → new.blocks.draft.sizes ≡ old.blocks.draft.sizes → new.blocks.bound ≡ old.blocks.bound
     → new.space ≡ record old.space { slots = without_slot at old.space.slots } → fresh_at new.blocks.draft at ≡ None
     → ((other : ℕ) → other ≢ at → fresh_at new.blocks.draft other ≡ fresh_at old.blocks.draft other)
@@ -376,7 +378,7 @@ put_fresh_stays old new now node puts at some = elim (eqb_tells at now) [
   | inl (equal, same) ↦ IsSome-is (fresh_at new.blocks.draft at) node (ap (λ (a : ℕ). fresh_at new.blocks.draft a) same
       ∙ puts.here)
   | inr (unequal, differ) ↦ IsSome-same (fresh_at old.blocks.draft at) (fresh_at new.blocks.draft at)
-      (fresh_at-told old.blocks.draft new.blocks.draft at (puts.others None at differ)) some
+      (fresh_at-told old.blocks.draft new.blocks.draft at (puts.others (Unrecorded 0) at differ)) some
 ]
 
 put_fresh_only : (old new : Ground) (now : ℕ) (node : Node) → Puts old new now node → (at : ℕ)
@@ -385,7 +387,7 @@ put_fresh_only : (old new : Ground) (now : ℕ) (node : Node) → Puts old new n
 put_fresh_only old new now node puts at some = elim (eqb_tells at now) [
   | inl (equal, same) ↦ inr (ap (is_free_slot old.space) same ∙ puts.free)
   | inr (unequal, differ) ↦ inl (IsSome-same (fresh_at new.blocks.draft at) (fresh_at old.blocks.draft at)
-      (sym (fresh_at-told old.blocks.draft new.blocks.draft at (puts.others None at differ))) some)
+      (sym (fresh_at-told old.blocks.draft new.blocks.draft at (puts.others (Unrecorded 0) at differ))) some)
 ]
 
 pub Spares-put : (old new : Ground) (now : ℕ) (node : Node) → new.blocks.draft.sizes ≡ old.blocks.draft.sizes
@@ -423,7 +425,7 @@ Spares-taken old new now blocks space =
     }
 
 -- a copy takes one slot at most
-pub Takes-copied : (old new : Ground) (history : Option (List Event)) (at now owner generation : ℕ) → IsGround old
+pub Takes-copied : (old new : Ground) (history : History) (at now owner generation : ℕ) → IsGround old
     → new.space.sizes ≡ old.space.sizes → new.space.held_slots ≡ old.space.held_slots
     → Copies old new history at now owner generation → Takes 1 (λ q. q ≡ at) old new
 Takes-copied old new history at now owner generation is sizes held copies =
@@ -469,7 +471,7 @@ Takes-left old new at sizes held left =
     let more : (q : ℕ) → q ≢ at → Contains old.space.slots q → Contains new.space.slots q =
     λ q other has. lack-more at old.space.slots new.space.slots q left.slots other has in
     let same : (q : ℕ) → q ≢ at → fresh_at new.blocks.draft q ≡ fresh_at old.blocks.draft q =
-    λ q other. fresh_at-told old.blocks.draft new.blocks.draft q (left.others None q other) in
+    λ q other. fresh_at-told old.blocks.draft new.blocks.draft q (left.others (Unrecorded 0) q other) in
     record {
       count = let more = free_slots-lack old.space new.space at sizes held left.slots in omega (arith, more);
       less = λ q free. elim (eqb_tells q at) [
@@ -522,7 +524,7 @@ Takes-after old mid new m n G H one two = record {
 -- ---- a copy, and then the book
 
 -- what the book leaves of it
-pub Copies-back : (old mid new : Ground) (history : Option (List Event)) (at now owner generation : ℕ)
+pub Copies-back : (old mid new : Ground) (history : History) (at now owner generation : ℕ)
     → Copies old mid history at now owner generation
     → mid.space.slots ≡ with_number now old.space.slots → GivesBack mid new at
     → Copies old new history at now owner generation
@@ -545,28 +547,28 @@ pub GivesBack-none : (old new : Ground) (at : ℕ) → TakesNone old new → Giv
 GivesBack-none old new at none = record { draft = none.draft; slots = inl none.slots }
 
 -- the book may be told of it
-pub IsCopied-copies : (old mid : Ground) (history history' : Option (List Event)) (at now owner generation : ℕ)
+pub IsCopied-copies : (old mid : Ground) (history history' : History) (at now owner generation : ℕ)
     → fresh_at old.blocks.draft at ≡ None → now ≢ at
     → Copies old mid history at now owner generation → history' ≡ history → IsCopied mid history' at now
 IsCopied-copies old mid history history' at now owner generation clean other copies is =
     let differ : at ≢ now = λ same. other (sym same) in
     record {
-      clean = fresh_at-told old.blocks.draft mid.blocks.draft at (copies.puts.others None at differ) ∙ clean;
+      clean = fresh_at-told old.blocks.draft mid.blocks.draft at (copies.puts.others (Unrecorded 0) at differ) ∙ clean;
       fresh = IsSome-is (fresh_at mid.blocks.draft now) copies.copy copies.puts.here;
       same = λ node new there here.
           let that : Some new ≡ Some copies.copy = sym here ∙ copies.puts.here in
           let one : new ≡ copies.copy = cc in
           let was : told old.blocks.draft history at ≡ Some node = sym (copies.puts.others history at differ)
-          ∙ sym (ap (λ (h : Option (List Event)). told mid.blocks.draft h at) is) ∙ there in
+          ∙ sym (ap (λ (h : History). told mid.blocks.draft h at) is) ∙ there in
           (owner, generation, one ∙ copies.same node was);
     }
 
 -- what is told there is told still
-pub told-copies : (old mid : Ground) (history history' : Option (List Event)) (at now owner generation : ℕ)
+pub told-copies : (old mid : Ground) (history history' : History) (at now owner generation : ℕ)
     (node : Node) → now ≢ at → Copies old mid history at now owner generation
     → history' ≡ history → told old.blocks.draft history at ≡ Some node → told mid.blocks.draft history' at ≡ Some node
 told-copies old mid history history' at now owner generation node other copies is there =
-    ap (λ (h : Option (List Event)). told mid.blocks.draft h at) is
+    ap (λ (h : History). told mid.blocks.draft h at) is
     ∙ copies.puts.others history at (λ same. other (sym same)) ∙ there
 
 -- a slot that is free is not one that isn't

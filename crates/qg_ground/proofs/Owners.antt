@@ -2,7 +2,7 @@
 use Rattle.std.proofs.Common.{◌≡◌, ◌≢◌, ℕ, List, refl, sym, ap, subst, ◌∙◌, inl, inr}
 use Rattle.std.specs.Prelude.{Option, Some, None}
 use Rattle.std.proofs.lemmas.Bool.Decides.{eqb_tells}
-use Rattle.qg_device.specs.History.{Event}
+use Rattle.qg_device.specs.History.{History, Unrecorded}
 use Rattle.qg_node.specs.declared.node.Node.{Node}
 use Rattle.qg_node.specs.declared.node.Node.TheVariants.{Leaf, Inner}
 use Rattle.qg_node.specs.Nodes.{header_of}
@@ -65,7 +65,7 @@ pub IsOwnedBy-put : (owner : ℕ) (old mid new : Ground) (now : ℕ) (node : Nod
     → IsOwnedBy owner old new
 IsOwnedBy-put owner old mid new now node first puts own =
     IsOwnedBy-one owner old mid new now node first puts.here
-    (λ at other. fresh_at-told mid.blocks.draft new.blocks.draft at (puts.others None at other)) own
+    (λ at other. fresh_at-told mid.blocks.draft new.blocks.draft at (puts.others (Unrecorded 0) at other)) own
 
 node_at-owner : (node : Node) (address : ℕ) → (header_of (node_at address node)).owner ≡ (header_of node).owner
 node_at-owner (Leaf header items) address = refl
@@ -83,7 +83,7 @@ pub IsOwnedBy-made : (owner : ℕ) (old mid new : Ground) (now : ℕ) (node : No
 IsOwnedBy-made owner old mid new now node first makes own =
     IsOwnedBy-put owner old mid new now (node_at now node) first makes.puts (moved_owner owner old now node own)
 
-owned_there : (old new : Ground) (history : Option (List Event)) (at now owner generation : ℕ) (o : Option Node)
+owned_there : (old new : Ground) (history : History) (at now owner generation : ℕ) (o : Option Node)
     → fresh_at old.blocks.draft at ≡ o
     → Owned old new history at now owner generation → IsOwnedBy owner old new
 owned_there old new history at now owner generation None is owned =
@@ -94,7 +94,7 @@ owned_there old new history at now owner generation (Some node) is owned =
     (ap (λ (g : Ground). g.blocks.draft) (owned.kept (IsSome-is (fresh_at old.blocks.draft at) node is)).1)
 
 -- one is owned
-pub IsOwnedBy-owned : (old new : Ground) (history : Option (List Event)) (at now owner generation : ℕ)
+pub IsOwnedBy-owned : (old new : Ground) (history : History) (at now owner generation : ℕ)
     → Owned old new history at now owner generation
     → IsOwnedBy owner old new
 IsOwnedBy-owned old new history at now owner generation owned =
@@ -113,6 +113,11 @@ IsOwnedBy-left owner old new at left = record {
           | inr none ↦ let no : Some node ≡ None = sym here ∙ none in absurd cc
         ]
     | inr (unequal, differ) ↦
-        inr (node, sym (fresh_at-told old.blocks.draft new.blocks.draft q (left.others None q differ)) ∙ there, refl)
+        inr (
+          node,
+          sym (fresh_at-told old.blocks.draft new.blocks.draft q (left.others (Unrecorded 0) q differ))
+              ∙ there,
+          refl,
+        )
   ];
 }

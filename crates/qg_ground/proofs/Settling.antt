@@ -1,6 +1,7 @@
 -- How what stands of a book and of land between two edits is kept.
 use Rattle.std.proofs.Common.{◌≡◌, ℕ, true, List, refl, sym, ap, ◌∙◌}
 use Rattle.std.specs.Prelude.{Option, Some, None}
+use Rattle.qg_device.specs.History.{Unrecorded}
 use Rattle.qg_node.specs.declared.node.Node.{Node}
 use Rattle.qg_image.specs.Table.{with_number}
 use Rattle.qg_blocks.specs.Held.{Draft}
@@ -34,7 +35,7 @@ PutsFresh-puts old new now generation node puts spares slots is = record {
   sizes = spares.sizes;
   none = fresh-free old generation now is puts.free;
   here = IsSome-is (fresh_at new.blocks.draft now) node puts.here;
-  others = λ at other. fresh_at-told old.blocks.draft new.blocks.draft at (puts.others None at other);
+  others = λ at other. fresh_at-told old.blocks.draft new.blocks.draft at (puts.others (Unrecorded 0) at other);
   space = spares.space ∙ ap (λ (ns : List ℕ). record old.space { slots = ns }) slots;
 }
 

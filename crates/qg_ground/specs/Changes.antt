@@ -1,6 +1,6 @@
 -- What calls on one node of a tree make of nodes and space (this project's own). Addresses are in bytes.
-use Rattle.std.specs.Prelude.{◌≡◌, ◌≢◌, ◌⊎◌, ℕ, ◌+◌, ◌≤◌, List, Option, Some, None, IsSome, IsTrue}
-use Rattle.qg_device.specs.History.{Event}
+use Rattle.std.specs.Prelude.{◌≡◌, ◌≢◌, ◌⊎◌, ℕ, ◌+◌, ◌≤◌, List, Some, None, IsSome, IsTrue}
+use Rattle.qg_device.specs.History.{History}
 use Rattle.qg_node.specs.declared.node.Node.{Node}
 use Rattle.qg_node.specs.Nodes.{header_of}
 use Rattle.qg_image.specs.Table.{with_number}
@@ -20,7 +20,7 @@ node_at address node = with_header (record (header_of node) { address = address 
 pub record Puts (old new : Ground) (now : ℕ) (node : Node) : Type 0 where
   pub free : IsTrue (is_free_slot old.space now)
   pub here : fresh_at new.blocks.draft now ≡ Some node
-  pub others : (history : Option (List Event)) (at : ℕ) → at ≢ now
+  pub others : (history : History) (at : ℕ) → at ≢ now
       → told new.blocks.draft history at ≡ told old.blocks.draft history at
 
 -- a node is made: it is put, its slot is taken, and no other slot is taken or given back
@@ -30,7 +30,7 @@ pub record Makes (old new : Ground) (now : ℕ) (node : Node) : Type 0 where
 
 -- a node is copied: the copy is put, by this tree and of this generation. It is a copy of what is told, and over any
 -- disk of what is in memory. Of slots only the copy's is taken, and only the node's own may have been given back
-pub record Copies (old new : Ground) (history : Option (List Event)) (at now owner generation : ℕ) : Type 0 where
+pub record Copies (old new : Ground) (history : History) (at now owner generation : ℕ) : Type 0 where
   pub copy : Node
   pub puts : Puts old new now copy
   pub owned : (header_of copy).owner ≡ owner
@@ -41,7 +41,7 @@ pub record Copies (old new : Ground) (history : Option (List Event)) (at now own
 
 -- a tree owns the node in the place of the one at an address: a fresh one is that node, and nothing changes; any other
 -- is copied
-pub record Owned (old new : Ground) (history : Option (List Event)) (at now owner generation : ℕ) : Type 0 where
+pub record Owned (old new : Ground) (history : History) (at now owner generation : ℕ) : Type 0 where
   pub kept : IsSome (fresh_at old.blocks.draft at) → (now ≡ at) × (new ≡ old)
   pub copied : fresh_at old.blocks.draft at ≡ None → Copies old new history at now owner generation
 

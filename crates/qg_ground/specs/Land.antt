@@ -1,6 +1,6 @@
 -- Nodes and space together, and what stands of them between calls (this project's own). Addresses are in bytes.
-use Rattle.std.specs.Prelude.{◌≡◌, ℕ, Option, Some, IsTrue, Contains}
-use Rattle.qg_device.specs.History.{Event}
+use Rattle.std.specs.Prelude.{◌≡◌, ℕ, Some, IsTrue, Contains}
+use Rattle.qg_device.specs.History.{History}
 use Rattle.std.specs.Prelude.{List}
 use Rattle.qg_node.specs.declared.node.Node.{Node}
 use Rattle.qg_node.specs.Nodes.{header_of}
@@ -32,7 +32,7 @@ pub record IsDrafted (land : Ground) (generation : ℕ) : Type 0 where
 
 -- what a call leaves so, whatever it answers: clean nodes are those of the disk, fresh ones may be written, sizes and
 -- the bound on clean nodes are as they were, and so are the runs of the present state and what the last commit holds
-pub record Rests (old new : Ground) (history : Option (List Event)) (generation : ℕ) : Type 0 where
+pub record Rests (old new : Ground) (history : History) (generation : ℕ) : Type 0 where
   pub backed : IsBacked new.blocks history
   pub drafted : IsDrafted new generation
   pub node_sizes : new.blocks.draft.sizes ≡ old.blocks.draft.sizes

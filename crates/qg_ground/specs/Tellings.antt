@@ -1,7 +1,7 @@
 -- What a tree tells the book of references, and what the book then does to nodes and space (this project's own).
 -- Addresses are in bytes.
-use Rattle.std.specs.Prelude.{◌≡◌, ◌≢◌, ◌⊎◌, ℕ, false, List, [], Option, Some, None, IsSome, IsTrue}
-use Rattle.qg_device.specs.History.{Event}
+use Rattle.std.specs.Prelude.{◌≡◌, ◌≢◌, ◌⊎◌, ℕ, false, List, [], Some, None, IsSome, IsTrue}
+use Rattle.qg_device.specs.History.{History}
 use Rattle.qg_node.specs.declared.node.Node.{Node}
 use Rattle.qg_node.specs.Nodes.{header_of, own_items, own_pointers}
 use Rattle.qg_cow.specs.Copying.{copy_of}
@@ -27,7 +27,7 @@ abbrev pub IsCopyAt : ℕ → Node → Node → Type 0
 IsCopyAt address node copy = (owner : ℕ) × (generation : ℕ) × (copy ≡ node_copy node address owner generation)
 
 -- a clean node, and a fresh one that is its copy
-pub record IsCopied (land : Ground) (history : Option (List Event)) (at copy : ℕ) : Type 0 where
+pub record IsCopied (land : Ground) (history : History) (at copy : ℕ) : Type 0 where
   pub clean : fresh_at land.blocks.draft at ≡ None
   pub fresh : IsSome (fresh_at land.blocks.draft copy)
   pub same : (node new : Node) → told land.blocks.draft history at ≡ Some node
@@ -54,7 +54,7 @@ pub record GivesBack (old new : Ground) (at : ℕ) : Type 0 where
 -- the present state this one may have been given back, and no other is given or taken
 pub record LetsGo (old new : Ground) (at : ℕ) : Type 0 where
   pub here : (fresh_at new.blocks.draft at ≡ fresh_at old.blocks.draft at) ⊎ (fresh_at new.blocks.draft at ≡ None)
-  pub others : (history : Option (List Event)) (other : ℕ) → other ≢ at
+  pub others : (history : History) (other : ℕ) → other ≢ at
       → told new.blocks.draft history other ≡ told old.blocks.draft history other
   pub slots : MayLack at old.space.slots new.space.slots
 

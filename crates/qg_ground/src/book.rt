@@ -1,7 +1,7 @@
 // A book of references as a tree sees it.
-ghost use Rattle.std.specs.Prelude.{◌≡◌, ◌+◌, ◌≤◌, ℕ, Bool, List, [], ◌∷◌, ◌++◌, Option, Some, IsSome, IfOk, OnOk};
+ghost use Rattle.std.specs.Prelude.{◌≡◌, ◌+◌, ◌≤◌, ℕ, Bool, List, [], ◌∷◌, ◌++◌, Some, IsSome, IfOk, OnOk};
 ghost use Rattle.qg_device.specs.Cause.{HasCause};
-ghost use Rattle.qg_device.specs.History.{Event};
+ghost use Rattle.qg_device.specs.History.{Event, Recorded};
 ghost use Rattle.qg_node.specs.declared.node.Node.{Node as NodeValue};
 ghost use Rattle.qg_blocks.specs.Told.{BreaksNone, IsBacked, fresh_at, held_at, told};
 ghost use Rattle.qg_ground.specs.declared.ground.Ground.{Ground as Land};
@@ -45,7 +45,7 @@ pub trait Book<D: Disk, L: Ledger> {
     ) -> Result<bool, BlockFault>
         requires backed { IsBacked land.old.blocks (D.history disk.old) }
         requires stands { stands self.old land.old disk.old }
-        ensures exact { (events : List Event) → D.history disk.old ≡ Some events
+        ensures exact { (events : List Event) → D.history disk.old ≡ Recorded events
             → IfOk result (λ shared. shared ≡ shares self.old land.old disk.old at) }
         ensures told { (before : Self) (log : List Telling) → follows before log self.old
             → OnOk result (follows before log self.new) }
@@ -54,7 +54,7 @@ pub trait Book<D: Disk, L: Ledger> {
             → Rests land.old land.new (D.history disk.new) generation }
         ensures stands { OnOk result (stands self.new land.new disk.new) }
         ensures settled { settled self.old land.old disk.old → OnOk result (settled self.new land.new disk.new) }
-        ensures no_image { (events : List Event) → D.history disk.old ≡ Some events → BreaksNone result }
+        ensures no_image { (events : List Event) → D.history disk.old ≡ Recorded events → BreaksNone result }
         ensures disk { (D.history disk.new ≡ D.history disk.old) × (D.size disk.new ≡ D.size disk.old) }
         ensures cause { HasCause BlockFault.Disk (D.faults disk.old) (D.faults disk.new) result }
         ensures reads { reads.new ≤ reads.old + to_read self.old at };
@@ -80,7 +80,7 @@ pub trait Book<D: Disk, L: Ledger> {
         ensures stands { OnOk result (stands self.new land.new disk.new) }
         ensures settled { (before : Land) → PutsFresh before land.old copy → settled self.old before disk.old
             → OnOk result (settled self.new land.new disk.new) }
-        ensures no_image { (events : List Event) → D.history disk.old ≡ Some events → BreaksNone result }
+        ensures no_image { (events : List Event) → D.history disk.old ≡ Recorded events → BreaksNone result }
         ensures disk { (D.history disk.new ≡ D.history disk.old) × (D.size disk.new ≡ D.size disk.old) }
         ensures cause { HasCause BlockFault.Disk (D.faults disk.old) (D.faults disk.new) result }
         ensures reads { reads.new ≤ reads.old + to_read self.old at };
@@ -104,7 +104,7 @@ pub trait Book<D: Disk, L: Ledger> {
         ensures stands { OnOk result (stands self.new land.new disk.new) }
         ensures settled { (before : Land) → PutsFresh before land.old at → settled self.old before disk.old
             → OnOk result (settled self.new land.new disk.new) }
-        ensures no_image { (events : List Event) → D.history disk.old ≡ Some events → BreaksNone result }
+        ensures no_image { (events : List Event) → D.history disk.old ≡ Recorded events → BreaksNone result }
         ensures disk { (D.history disk.new ≡ D.history disk.old) × (D.size disk.new ≡ D.size disk.old) }
         ensures cause { HasCause BlockFault.Disk (D.faults disk.old) (D.faults disk.new) result }
         ensures reads { reads.new ≤ reads.old + to_read self.old at };
@@ -130,7 +130,7 @@ pub trait Book<D: Disk, L: Ledger> {
         ensures stands { OnOk result (stands self.new land.new disk.new) }
         ensures settled { (before : Land) → Empties before land.old at → settled self.old before disk.old
             → OnOk result (settled self.new land.new disk.new) }
-        ensures no_image { (events : List Event) → D.history disk.old ≡ Some events → BreaksNone result }
+        ensures no_image { (events : List Event) → D.history disk.old ≡ Recorded events → BreaksNone result }
         ensures disk { (D.history disk.new ≡ D.history disk.old) × (D.size disk.new ≡ D.size disk.old) }
         ensures cause { HasCause BlockFault.Disk (D.faults disk.old) (D.faults disk.new) result }
         ensures reads { reads.new ≤ reads.old + to_read self.old at };

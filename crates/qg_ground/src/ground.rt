@@ -1,6 +1,6 @@
 // Nodes and space.
-ghost use Rattle.std.specs.Prelude.{◌≡◌, ℕ, List, Option, IfOk, IsTrue};
-ghost use Rattle.qg_device.specs.History.{Event};
+ghost use Rattle.std.specs.Prelude.{◌≡◌, ℕ, List, IfOk, IsTrue};
+ghost use Rattle.qg_device.specs.History.{History};
 ghost use Rattle.qg_super.specs.Places.{is_served};
 ghost use Rattle.qg_blocks.specs.Held.{nothing_fresh, slots_of};
 ghost use Rattle.qg_blocks.specs.Told.{IsBacked};
@@ -29,7 +29,7 @@ impl Ground {
         requires { IsTrue (is_served sizes) }
         ensures draft { IfOk result (λ land. land.blocks.draft ≡ nothing_fresh (slots_of sizes.nodesize sizes.slots)) }
         ensures space { IfOk result (λ land. land.space ≡ nothing_held sizes) }
-        ensures backed { IfOk result (λ land. (history : Option (List Event)) → IsBacked land.blocks history) }
+        ensures backed { IfOk result (λ land. (history : History) → IsBacked land.blocks history) }
         ensures drafted { IfOk result (λ land. (generation : ℕ) → IsDrafted land generation) }
     {
         let nodesize = sizes.nodesize as u32;

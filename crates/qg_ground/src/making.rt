@@ -1,7 +1,7 @@
 // Nodes that a tree makes, and nodes that it leaves.
-ghost use Rattle.std.specs.Prelude.{◌≡◌, ◌+◌, ◌≤◌, ℕ, List, [], ◌∷◌, ◌++◌, Option, Some, None, IfOk, OnOk};
+ghost use Rattle.std.specs.Prelude.{◌≡◌, ◌+◌, ◌≤◌, ℕ, List, [], ◌∷◌, ◌++◌, Some, IfOk, OnOk};
 ghost use Rattle.qg_device.specs.Cause.{HasCause};
-ghost use Rattle.qg_device.specs.History.{Event, content};
+ghost use Rattle.qg_device.specs.History.{Event, Recorded, content};
 ghost use Rattle.qg_node.specs.declared.node.Node.{Node as NodeValue};
 ghost use Rattle.qg_node.specs.Nodes.{header_of};
 ghost use Rattle.qg_node.specs.NodeText.{IsNode};
@@ -50,7 +50,7 @@ pub fn make_node<D: Disk, L: Ledger, B: Book<D, L>>(
 
 /// The tree reaches the node at an address, in bytes, no more: it is read, and the book is told.
 ///
-/// `Image` comes only where a rule is broken at `at`, and `Disk` only where the disk's count rose.
+/// `Image` comes only where a rule is broken at `at`, and `Disk` exactly where the disk met a fault.
 pub fn leave_node<D: Disk, L: Ledger, B: Book<D, L>>(
     land: &mut Ground,
     disk: &mut D,
@@ -71,7 +71,7 @@ pub fn leave_node<D: Disk, L: Ledger, B: Book<D, L>>(
     ensures stands { OnOk result (B.stands book.new land.new disk.new) }
     ensures settled { (before : Land) → Empties before land.old at → B.settled book.old before disk.old
         → OnOk result (B.settled book.new land.new disk.new) }
-    ensures answers { (events : List Event) → D.history disk.old ≡ Some events
+    ensures answers { (events : List Event) → D.history disk.old ≡ Recorded events
         → Answers result at (found land.old.blocks.draft (content events) at) }
     ensures disk { (D.history disk.new ≡ D.history disk.old) × (D.size disk.new ≡ D.size disk.old) }
     ensures cause { HasCause BlockFault.Disk (D.faults disk.old) (D.faults disk.new) result }

@@ -82,7 +82,7 @@ fn copy_out<D: Disk, L: Ledger>(
 /// `next` to come, and the book is told. A node that was read from the free slot that its copy takes is told as one
 /// that is made, since nothing refers to it.
 ///
-/// `Image` comes only where a rule is broken at `at`, and `Disk` only where the disk's count rose.
+/// `Image` comes only where a rule is broken at `at`, and `Disk` exactly where the disk met a fault.
 pub fn own_node<D: Disk, L: Ledger, B: Book<D, L>>(
     alloc: Global,
     land: &mut Ground,

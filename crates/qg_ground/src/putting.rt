@@ -1,6 +1,6 @@
 // New nodes in free slots.
-ghost use Rattle.std.specs.Prelude.{◌≡◌, ◌<◌, List, Option, Some, IfOk, OnErr, IsTrue};
-ghost use Rattle.qg_device.specs.History.{Event};
+ghost use Rattle.std.specs.Prelude.{◌≡◌, ◌<◌, List, IfOk, OnErr, IsTrue};
+ghost use Rattle.qg_device.specs.History.{History};
 ghost use Rattle.qg_image.specs.Table.{with_number};
 ghost use Rattle.qg_blocks.specs.Told.{IsBacked};
 ghost use Rattle.qg_space.specs.Holding.{free_slots, is_free_slot};
@@ -49,7 +49,7 @@ pub(crate) fn put_node(land: &mut Ground, node: Node) -> Result<Address, NoMemor
     ensures err { OnErr result (land.new.blocks ≡ land.old.blocks) }
     ensures spares { Spares land.old land.new }
     ensures bound { land.new.blocks.bound ≡ land.old.blocks.bound }
-    ensures backed { (history : Option (List Event)) → IsBacked land.old.blocks history
+    ensures backed { (history : History) → IsBacked land.old.blocks history
         → IsBacked land.new.blocks history }
 {
     let slot = take_slot(&mut land.space)?;

@@ -2,7 +2,7 @@
 use Rattle.std.proofs.Common.{◌≡◌, ℕ, List, Some, None, sym, ap, subst, ◌∙◌, inr}
 use Rattle.std.specs.Prelude.{Err, Ok, Option, IsTrue, Result}
 use Rattle.std.specs.Option.{option_map}
-use Rattle.qg_device.specs.History.{Event}
+use Rattle.qg_device.specs.History.{Event, History, Recorded}
 use Rattle.qg_num.specs.declared.fault.BlockFault.{BlockFault}
 use Rattle.qg_num.specs.declared.fault.BlockFault.TheVariants.{Disk, Image, NoMemory}
 use Rattle.qg_num.specs.declared.rule.Rule.TheVariants as rule
@@ -41,7 +41,7 @@ way-other A B root draft events NoMemory fails = tt
 
 -- ---- the INODE_ITEM
 
-module _ (root : Root) (draft : Draft) (history : Option (List Event)) (files : List (ℕ × File))
+module _ (root : Root) (draft : Draft) (history : History) (files : List (ℕ × File))
     (tells : TellsFiles root draft history files) (ino : ℕ) where
   same_none : (told : Option File) → told ≡ None → ◌≡◌ {A = Option InodeItem} None (option_map inode_of told)
   same_none told none = sym (ap (option_map inode_of) none)
@@ -74,14 +74,14 @@ module _ (root : Root) (draft : Draft) (history : Option (List Event)) (files : 
         none_some is = cc
 
 -- what stands under its key says nothing
-pub inode-misread : (A : Type 0) (root : Root) (draft : Draft) (history : Option (List Event)) (events : List Event)
-    (ino : ℕ) (fault : BlockFault) (body : List ℕ) → fault ≡ Image rule.Item root.address → history ≡ Some events
+pub inode-misread : (A : Type 0) (root : Root) (draft : Draft) (history : History) (events : List Event)
+    (ino : ℕ) (fault : BlockFault) (body : List ℕ) → fault ≡ Image rule.Item root.address → history ≡ Recorded events
     → ((items : List Item) → TellsTree Files root draft history items → Some body ≡ body_at (key_with ino 1 0) items)
     → ◌≡◌ None (inode_read body) → FailsOnFile {A = A} root draft events ino (Err fault)
 inode-misread A root draft history events ino fault body answer is there none =
     inr (record {
       answer = ap (λ (f : BlockFault). Err f) answer;
       there = λ items tells.
-          let told = subst (λ (h : Option (List Event)). TellsTree Files root draft h items) (sym is) tells in
+          let told = subst (λ (h : History). TellsTree Files root draft h items) (sym is) tells in
           unread-there ino items body (sym (there items told)) (sym none);
     })

@@ -3,7 +3,7 @@ use Rattle.std.proofs.Common.{◌≡◌, ℕ, ◌+◌, ◌*◌, true, false, con
 use Rattle.std.proofs.Common.{Err, refl, subst}
 use Rattle.std.specs.Prelude.{Bool, ◌&&◌, ◌||◌, ◌==◌, not, nat_le, if◌then◌else◌, slice_index}
 use Rattle.std.specs.Result.{result_ok}
-use Rattle.qg_device.specs.History.{Event, content, range}
+use Rattle.qg_device.specs.History.{History, Recorded, Unrecorded, content, range}
 use Rattle.qg_num.specs.Fields.{is_zero, u64_at}
 use Rattle.qg_num.specs.declared.rule.Rule.{Rule}
 use Rattle.qg_num.specs.declared.rule.Rule.TheVariants as rule
@@ -117,16 +117,16 @@ ok_there : (read : Result Node Rule) (node : Node) → result_ok read ≡ Some n
 ok_there (Ok other) node is = let same : other ≡ node = cc in rw same refl
 ok_there (Err broken) node is = absurd cc
 
-either_ascends : (fresh : Option Node) (sizes : Sizes) (history : Option (List Event)) (address : ℕ) (node : Node)
+either_ascends : (fresh : Option Node) (sizes : Sizes) (history : History) (address : ℕ) (node : Node)
     → ((other : Node) → fresh ≡ Some other → is_ascending (own_keys other) ≡ true)
     → told_or fresh sizes history address ≡ Some node → is_ascending (own_keys node) ≡ true
 either_ascends (Some other) sizes history address node ascends is = ascends node is
-either_ascends None sizes None address node ascends is = absurd cc
-either_ascends None sizes (Some events) address node ascends is =
+either_ascends None sizes (Unrecorded changes) address node ascends is = absurd cc
+either_ascends None sizes (Recorded events) address node ascends is =
     standing_ascends sizes (content events) address node
     (ok_there (standing sizes (content events) address) node is)
 
-told_ascends : (draft : Draft) (history : Option (List Event)) (bytes : ℕ) → ArePlaced draft bytes → (q : ℕ)
+told_ascends : (draft : Draft) (history : History) (bytes : ℕ) → ArePlaced draft bytes → (q : ℕ)
     (node : Node) → told draft history q ≡ Some node
     → is_ascending (own_keys node) ≡ true
 unfolding told
@@ -136,7 +136,7 @@ told_ascends draft history bytes placed q node is =
 
 -- ---- those of a tree's items
 
-pub tree-ascends : (tree : Tree) (root : Root) (draft : Draft) (history : Option (List Event)) (bytes : ℕ)
+pub tree-ascends : (tree : Tree) (root : Root) (draft : Draft) (history : History) (bytes : ℕ)
     (items : List Item) → ArePlaced draft bytes → TellsTree tree root draft history items
     → Ascend items
 tree-ascends tree root draft history bytes items placed tells =

@@ -4,7 +4,7 @@ use Rattle.std.proofs.Common.{ap, subst, ◌∙◌, arith, append-nil, length-ap
 use Rattle.std.specs.Prelude.{◌&&◌, ⊤, Err, IfOk, IsErrAnd, IsTrue, Ok, Option, Result, is_none, nat_lt}
 use Rattle.std.specs.List.{filter_map, list_any}
 use Rattle.std.proofs.Math.Nat.{mul-add, mul-le-mul_left}
-use Rattle.qg_device.specs.History.{Event}
+use Rattle.qg_device.specs.History.{Event, History, Recorded}
 use Rattle.qg_num.specs.declared.fault.BlockFault.{BlockFault}
 use Rattle.qg_num.specs.declared.fault.BlockFault.TheVariants.{Disk, Image, NoMemory}
 use Rattle.qg_num.specs.declared.key.Key.{Key}
@@ -37,7 +37,7 @@ use Rattle.qg_inodes.proofs.Within.{are-begun, unread-within}
 
 -- ---- where files are told
 
-module _ (root : Root) (draft : Draft) (history : Option (List Event)) (files : List (ℕ × File))
+module _ (root : Root) (draft : Draft) (history : History) (files : List (ℕ × File))
     (tells : TellsFiles root draft history files) (ino : ℕ) where
   pub are : AreTold tells.generation tells.items files
   are = are-told tells.generation tells.items files tells.are
@@ -115,13 +115,13 @@ spent steps before between after items pieces first second few =
 -- ---- what is answered of pieces that were read
 
 -- where files are told, these are theirs
-abbrev pub AreMet : Root → Draft → Option (List Event) → ℕ → ℕ → ℕ → List Piece → Type 0
+abbrev pub AreMet : Root → Draft → History → ℕ → ℕ → ℕ → List Piece → Type 0
 AreMet root draft history ino from to pieces = (files : List (ℕ × File)) → TellsFiles root draft history files
     → pieces ≡ pieces_met from to (pieces_at ino files)
 
 module _ (root : Root) (draft : Draft) (ino from to : ℕ) (pieces : List Piece) where
   -- pieces that are judged to be of no file are not theirs
-  some_file : (history : Option (List Event)) → AreMet root draft history ino from to pieces
+  some_file : (history : History) → AreMet root draft history ino from to pieces
       → ((size : ℕ) → size ≤ largest_size → IsTrue (are_pieces 0 size pieces) → ⊥)
       → (files : List (ℕ × File)) → TellsFiles root draft history files
       → ⊥
@@ -132,14 +132,14 @@ module _ (root : Root) (draft : Draft) (ino from to : ℕ) (pieces : List Piece)
       (some-pieces (λ (piece : Piece). nat_lt piece.position to && nat_lt from (piece_end piece)) 0 told.size
       (pieces_at ino files) told.sound))
 
-  pub judged-found : (history : Option (List Event)) (result : Result (List Piece) BlockFault)
+  pub judged-found : (history : History) (result : Result (List Piece) BlockFault)
       → IsJudged root pieces result → AreMet root draft history ino from to pieces → (files : List (ℕ × File))
       → TellsFiles root draft history files
       → IfOk result (λ answered. answered ≡ pieces_met from to (pieces_at ino files))
   judged-found history (Ok answered) judged met files tells = judged.0 ∙ met files tells
   judged-found history (Err fault) judged met files tells = tt
 
-  pub judged-sound : (history : Option (List Event)) (result : Result (List Piece) BlockFault)
+  pub judged-sound : (history : History) (result : Result (List Piece) BlockFault)
       → IsJudged root pieces result → AreMet root draft history ino from to pieces → (files : List (ℕ × File))
       → TellsFiles root draft history files
       → BreaksNone result
@@ -147,8 +147,8 @@ module _ (root : Root) (draft : Draft) (ino from to : ℕ) (pieces : List Piece)
   judged-sound history (Err fault) judged met files tells =
       absurd (some_file history met judged.1 files tells)
 
-  pub judged-broken : (history : Option (List Event)) (events : List Event) (result : Result (List Piece) BlockFault)
-      → history ≡ Some events
+  pub judged-broken : (history : History) (events : List Event) (result : Result (List Piece) BlockFault)
+      → history ≡ Recorded events
       → IsJudged root pieces result → AreMet root draft history ino from to pieces
       → FailsOnPieces root draft events ino result
   judged-broken history events (Ok answered) is judged met = inl (inl tt)
@@ -156,21 +156,21 @@ module _ (root : Root) (draft : Draft) (ino from to : ℕ) (pieces : List Piece)
     answer = ap (λ (f : BlockFault). Err f) judged.0;
     none = λ items tells generation. none_told items tells generation (files_of generation items) refl;
   }) where
-    none_told : (items : List Item) → TellsTree Files root draft (Some events) items → (generation : ℕ)
+    none_told : (items : List Item) → TellsTree Files root draft (Recorded events) items → (generation : ℕ)
         → (told : Option (List (ℕ × File))) → files_of generation items ≡ told
         → told ≡ None
     none_told items tells generation None told = refl
     none_told items tells generation (Some files) told =
-        let there : TellsFiles root draft (Some events) files =
+        let there : TellsFiles root draft (Recorded events) files =
         record { items = items; tells = tells; generation = generation; are = told }
         in
         absurd
         (some_file history met judged.1 files
-        (subst (λ (h : Option (List Event)). TellsFiles root draft h files) (sym is) there))
+        (subst (λ (h : History). TellsFiles root draft h files) (sym is) there))
 
 -- ---- once all is read
 
-module _ (root : Root) (draft : Draft) (history : Option (List Event)) (ino from to bytes : ℕ)
+module _ (root : Root) (draft : Draft) (history : History) (ino from to bytes : ℕ)
     (placed : ArePlaced draft bytes) (last : Option Item) (reaching : Option Piece) (pieces : List Piece)
     (found : (items : List Item) → TellsTree Files root draft history items
     → last ≡ last_upto (key_with ino 108 from) items)
@@ -196,7 +196,7 @@ module _ (root : Root) (draft : Draft) (history : Option (List Event)) (ino from
       ∙ met-long root draft history files tells ino from to some items (begun tells.items tells.tells)
 
 -- the last that begins in front of the range's end is all, or the last
-module _ (root : Root) (draft : Draft) (history : Option (List Event)) (ino from to bytes : ℕ) (some : from < to)
+module _ (root : Root) (draft : Draft) (history : History) (ino from to bytes : ℕ) (some : from < to)
     (placed : ArePlaced draft bytes) (last : Option Item) (reaching : Option Piece)
     (found : (items : List Item) → TellsTree Files root draft history items
     → last ≡ last_upto (key_with ino 108 (to - 1)) items)
@@ -250,7 +250,7 @@ module _ (root : Root) (draft : Draft) (history : Option (List Event)) (ino from
       omega (arith, one, more, parts, same)
 
 -- files are told as before, where nodes were read
-pub files-read : (root : Root) (old new : Held) (before after : Option (List Event)) (bytes left : ℕ)
+pub files-read : (root : Root) (old new : Held) (before after : History) (bytes left : ℕ)
     → HasRead old new before after bytes left → (files : List (ℕ × File)) → TellsFiles root old.draft before files
     → TellsFiles root new.draft after files
 files-read root old new before after bytes left read files tells = record {
@@ -261,7 +261,7 @@ files-read root old new before after bytes left read files tells = record {
 }
 
 -- what a reading found after another one
-pub found-after : (root : Root) (old new : Held) (before after : Option (List Event)) (bytes left : ℕ)
+pub found-after : (root : Root) (old new : Held) (before after : History) (bytes left : ℕ)
     → HasRead old new before after bytes left → (items : List Item) (low high first end : Key) → low ≡ first
     → high ≡ end
     → ((whole : List Item) → TellsTree Files root new.draft after whole → items ≡ items_within low high whole)
@@ -273,7 +273,7 @@ found-after root old new before after bytes left read items low high first end i
     ∙ ap (λ (k : Key). items_within first k whole) is_high
 
 -- the steps of both
-pub steps-met : (root : Root) (old new : Held) (before after : Option (List Event)) (bytes left : ℕ)
+pub steps-met : (root : Root) (old new : Held) (before after : History) (bytes left : ℕ)
     → HasRead old new before after bytes left → (ino from to first second third : ℕ) (low high : Key)
     → low ≡ key_with ino 108 (from + 1) → high ≡ key_with ino 108 (to - 1) → 0 < to
     → second ≤ first + (root.height + 1)
@@ -301,30 +301,30 @@ handed (Err given) fault is = ap (λ (f : BlockFault). Err f) is
 
 -- ---- where an item says nothing
 
-abbrev pub SaysUnread : Root → Draft → Option (List Event) → ℕ → Type 0
+abbrev pub SaysUnread : Root → Draft → History → ℕ → Type 0
 SaysUnread root draft history ino =
     (items : List Item) → TellsTree Files root draft history items → IsTrue (has_unread ino items)
 
-pub misread-sound : (A : Type 0) (root : Root) (draft : Draft) (history : Option (List Event)) (ino : ℕ)
+pub misread-sound : (A : Type 0) (root : Root) (draft : Draft) (history : History) (ino : ℕ)
     (result : Result A BlockFault) → SaysUnread root draft history ino → (files : List (ℕ × File))
     → TellsFiles root draft history files
     → BreaksNone result
 misread-sound A root draft history ino result unread files tells =
     absurd (each-said root draft history files tells ino (unread tells.items tells.tells))
 
-pub misread-broken : (A : Type 0) (root : Root) (draft : Draft) (history : Option (List Event)) (events : List Event)
-    (ino : ℕ) (result : Result A BlockFault) → history ≡ Some events → result ≡ Err (Image rule.Item root.address)
+pub misread-broken : (A : Type 0) (root : Root) (draft : Draft) (history : History) (events : List Event)
+    (ino : ℕ) (result : Result A BlockFault) → history ≡ Recorded events → result ≡ Err (Image rule.Item root.address)
     → SaysUnread root draft history ino
     → FailsOnPieces root draft events ino result
 misread-broken A root draft history events ino result is answer unread =
     inl (inr (record {
       answer = answer;
-      there = λ items tells. unread items (subst (λ (h : Option (List Event)). TellsTree Files root draft h items)
+      there = λ items tells. unread items (subst (λ (h : History). TellsTree Files root draft h items)
           (sym is) tells);
     }))
 
 -- the last item does
-pub unread-before : (root : Root) (draft : Draft) (history : Option (List Event)) (ino : ℕ) (key : Key)
+pub unread-before : (root : Root) (draft : Draft) (history : History) (ino : ℕ) (key : Key)
     (last : Option Item) → IsUnreadPiece ino last
     → ((items : List Item) → TellsTree Files root draft history items → last ≡ last_upto key items)
     → SaysUnread root draft history ino
@@ -333,7 +333,7 @@ unread-before root draft history ino key (Some item) none found items tells =
     unread-last ino key items item (sym (found items tells)) none.0 none.1
 
 -- or one of those in the range
-pub unread-begun : (root : Root) (draft : Draft) (history : Option (List Event)) (ino from to : ℕ) (items : List Item)
+pub unread-begun : (root : Root) (draft : Draft) (history : History) (ino from to : ℕ) (items : List Item)
     → IsTrue (list_any (λ item. is_none (piece_of item)) items)
     → ((whole : List Item) → TellsTree Files root draft history whole
     → items ≡ items_within (key_with ino 108 from) (key_with ino 108 to) whole)
@@ -343,7 +343,7 @@ unread-begun root draft history ino from to items none found whole tells =
     (subst (λ (xs : List Item). IsTrue (list_any (λ item. is_none (piece_of item)) xs)) (found whole tells) none)
 
 -- what is answered then
-added_sound : (B : Type 0) (root : Root) (draft : Draft) (history : Option (List Event)) (ino : ℕ) (items : List Item)
+added_sound : (B : Type 0) (root : Root) (draft : Draft) (history : History) (ino : ℕ) (items : List Item)
     (old new : List Piece) (fault : BlockFault) → AreAdded {A = ⊤} root items old new (Err fault)
     → (IsTrue (list_any (λ item. is_none (piece_of item)) items) → SaysUnread root draft history ino)
     → (files : List (ℕ × File)) → TellsFiles root draft history files
@@ -353,8 +353,8 @@ added_sound B root draft history ino items old new Disk added unread files tells
 added_sound B root draft history ino items old new (Image broken at) added unread files tells =
     misread-sound B root draft history ino (Err (Image broken at)) (unread added.2) files tells
 
-added_broken : (B : Type 0) (root : Root) (draft : Draft) (history : Option (List Event)) (events : List Event)
-    (ino : ℕ) (items : List Item) (old new : List Piece) (fault : BlockFault) → history ≡ Some events
+added_broken : (B : Type 0) (root : Root) (draft : Draft) (history : History) (events : List Event)
+    (ino : ℕ) (items : List Item) (old new : List Piece) (fault : BlockFault) → history ≡ Recorded events
     → AreAdded {A = ⊤} root items old new (Err fault)
     → (IsTrue (list_any (λ item. is_none (piece_of item)) items) → SaysUnread root draft history ino)
     → FailsOnPieces {A = B} root draft events ino (Err fault)
@@ -364,7 +364,7 @@ added_broken B root draft history events ino items old new (Image broken at) is 
     misread-broken B root draft history events ino (Err (Image broken at)) is
     (λ i. Err (Image (added.0 i) (added.1 i))) (unread added.2)
 
-module _ {B : Type 0} (root : Root) (draft : Draft) (history : Option (List Event)) (ino : ℕ) (items : List Item)
+module _ {B : Type 0} (root : Root) (draft : Draft) (history : History) (ino : ℕ) (items : List Item)
     (old new : List Piece) (result : Result B BlockFault) (fault : BlockFault) (is : result ≡ Err fault)
     (added : AreAdded {A = ⊤} root items old new (Err fault))
     (unread : IsTrue (list_any (λ item. is_none (piece_of item)) items) → SaysUnread root draft history ino) where
@@ -373,7 +373,7 @@ module _ {B : Type 0} (root : Root) (draft : Draft) (history : Option (List Even
       subst (λ (r : Result B BlockFault). BreaksNone r) (sym is)
       (added_sound B root draft history ino items old new fault added unread files tells)
 
-  pub added-broken : (events : List Event) → history ≡ Some events → FailsOnPieces root draft events ino result
+  pub added-broken : (events : List Event) → history ≡ Recorded events → FailsOnPieces root draft events ino result
   added-broken events told =
       subst (λ (r : Result B BlockFault). FailsOnPieces root draft events ino r) (sym is)
       (added_broken B root draft history events ino items old new fault told added unread)

@@ -4,7 +4,7 @@ use Rattle.std.specs.Prelude.{Err, Option, Result}
 use Rattle.std.specs.Option.{option_map}
 use Rattle.std.proofs.Math.Nat.{mul-add}
 use Rattle.std.proofs.lemmas.Option.{same_Some}
-use Rattle.qg_device.specs.History.{Event}
+use Rattle.qg_device.specs.History.{History}
 use Rattle.qg_num.specs.declared.fault.BlockFault.{BlockFault}
 use Rattle.qg_num.specs.declared.piece.Piece.{Piece}
 use Rattle.qg_items.specs.declared.file.InodeItem.{InodeItem}
@@ -27,7 +27,7 @@ use Rattle.qg_inodes.proofs.Meeting.{all-met}
 use Rattle.qg_inodes.proofs.PiecesRead.{has}
 
 -- files are told after a reading
-pub files-after : (root : Root) (old new : Held) (before after : Option (List Event)) (bytes left : ℕ)
+pub files-after : (root : Root) (old new : Held) (before after : History) (bytes left : ℕ)
     → HasRead old new before after bytes left → (files : List (ℕ × File)) → TellsFiles root old.draft before files
     → TellsFiles root new.draft after files
 files-after root old new before after bytes left read files tells = record {
@@ -45,7 +45,7 @@ handed-sound A {B} result fault is none =
     subst (λ (r : Result B BlockFault). BreaksNone r) (sym is) (unbroken-other A B fault none)
 
 -- no piece lies past the largest size
-pub all-pieces : (root : Root) (draft : Draft) (history : Option (List Event)) (files : List (ℕ × File))
+pub all-pieces : (root : Root) (draft : Draft) (history : History) (files : List (ℕ × File))
     → TellsFiles root draft history files → (ino : ℕ)
     → pieces_met 0 largest_size (pieces_at ino files) ≡ pieces_at ino files
 all-pieces root draft history files tells ino =
@@ -70,7 +70,7 @@ file_whole (Some file) inode pieces is are =
       pieces = are i;
     })
 
-pub file-whole : (root : Root) (draft : Draft) (history : Option (List Event)) (files : List (ℕ × File))
+pub file-whole : (root : Root) (draft : Draft) (history : History) (files : List (ℕ × File))
     → TellsFiles root draft history files → (ino : ℕ) (inode : InodeItem) (pieces : List Piece)
     → Some inode ≡ option_map inode_of (value_at ino files) → pieces ≡ pieces_met 0 largest_size (pieces_at ino files)
     → Some (record {
@@ -83,7 +83,7 @@ file-whole root draft history files tells ino inode pieces is are =
     file_whole (value_at ino files) inode pieces is (are ∙ all-pieces root draft history files tells ino)
 
 -- the steps of both
-pub steps-whole : (root : Root) (draft : Draft) (history : Option (List Event)) (files : List (ℕ × File))
+pub steps-whole : (root : Root) (draft : Draft) (history : History) (files : List (ℕ × File))
     → TellsFiles root draft history files → (ino steps first second third : ℕ) → second ≤ first + steps
     → third ≤ second + steps * (2 + length (pieces_met 0 largest_size (pieces_at ino files)))
     → third ≤ first + steps * (3 + length (pieces_at ino files))

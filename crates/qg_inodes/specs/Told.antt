@@ -1,6 +1,6 @@
 -- Files that a subvolume's tree tells, and how a reading of one answers (this project's own). Addresses are in bytes.
-use Rattle.std.specs.Prelude.{◌≡◌, ◌⊎◌, ℕ, List, Option, Some, None, Result, Err, IsTrue}
-use Rattle.qg_device.specs.History.{Event}
+use Rattle.std.specs.Prelude.{◌≡◌, ◌⊎◌, ℕ, List, Some, None, Result, Err, IsTrue}
+use Rattle.qg_device.specs.History.{Event, History, Recorded}
 use Rattle.qg_num.specs.declared.fault.BlockFault.{BlockFault}
 use Rattle.qg_num.specs.declared.fault.BlockFault.TheVariants.{Image}
 use Rattle.qg_num.specs.declared.rule.Rule.TheVariants as rule
@@ -14,7 +14,7 @@ use Rattle.qg_descent.specs.Way.{FailsOnWay}
 use Rattle.qg_inodes.specs.Items.{has_unread}
 
 -- a tree is told, and its items are those of these files, which tell no generation past some
-pub record TellsFiles (root : Root) (draft : Draft) (history : Option (List Event)) (files : List (ℕ × File)) : Type
+pub record TellsFiles (root : Root) (draft : Draft) (history : History) (files : List (ℕ × File)) : Type
     0 where
   pub items : List Item
   pub tells : TellsTree Files root draft history items
@@ -27,7 +27,7 @@ pub record IsMisread {A : Type 0} (root : Root) (draft : Draft) (events : List E
     (result : Result A BlockFault)
     : Type 0 where
   pub answer : result ≡ Err (Image rule.Item root.address)
-  pub there : (items : List Item) → TellsTree Files root draft (Some events) items → IsTrue (has_unread ino items)
+  pub there : (items : List Item) → TellsTree Files root draft (Recorded events) items → IsTrue (has_unread ino items)
 
 -- a call answers a rule and an address only where that rule is broken on the way, or an item of the file says nothing
 abbrev pub FailsOnFile : {A : Type 0} → Root → Draft → List Event → ℕ → Result A BlockFault → Type 0
@@ -38,7 +38,7 @@ FailsOnFile root draft events ino result =
 pub record IsUnfit {A : Type 0} (root : Root) (draft : Draft) (events : List Event) (result : Result A BlockFault)
     : Type 0 where
   pub answer : result ≡ Err (Image rule.File root.address)
-  pub none : (items : List Item) → TellsTree Files root draft (Some events) items → (generation : ℕ)
+  pub none : (items : List Item) → TellsTree Files root draft (Recorded events) items → (generation : ℕ)
       → files_of generation items ≡ None
 
 -- a call that reads pieces answers a rule and an address only where one of these holds

@@ -1,7 +1,7 @@
 // One file with its pieces.
-ghost use Rattle.std.specs.Prelude.{◌≡◌, ◌+◌, ◌*◌, ◌≤◌, ℕ, List, length, Some, IfOk, IfSome};
+ghost use Rattle.std.specs.Prelude.{◌≡◌, ◌+◌, ◌*◌, ◌≤◌, ℕ, List, length, IfOk, IfSome};
 ghost use Rattle.qg_device.specs.Cause.{HasCause};
-ghost use Rattle.qg_device.specs.History.{Event};
+ghost use Rattle.qg_device.specs.History.{Event, Recorded};
 ghost use Rattle.qg_image.specs.declared.file.File.{File as FileValue};
 ghost use Rattle.qg_image.specs.Table.{value_at};
 ghost use Rattle.qg_blocks.specs.Told.{BreaksNone};
@@ -40,7 +40,7 @@ pub fn file_of<D: Disk, L: Ledger>(
         → IfOk result (λ file. file ≡ value_at ino files) }
     ensures sound { (files : List (ℕ × FileValue)) → TellsFiles tree.now blocks.old.draft (D.history disk.old) files
         → BreaksNone result }
-    ensures broken { (events : List Event) → D.history disk.old ≡ Some events
+    ensures broken { (events : List Event) → D.history disk.old ≡ Recorded events
         → FailsOnPieces tree.now blocks.old.draft events ino result }
     ensures apart { IfOk result (λ file. IfSome file (λ file. AreApart file.pieces)) }
     ensures readable { IsReadable blocks.new (D.history disk.new) (D.size disk.new) }

@@ -1,8 +1,8 @@
 // The INODE_ITEM of one file.
-ghost use Rattle.std.specs.Prelude.{◌≡◌, ◌+◌, ◌≤◌, ℕ, List, Some, IfOk};
+ghost use Rattle.std.specs.Prelude.{◌≡◌, ◌+◌, ◌≤◌, ℕ, List, IfOk};
 ghost use Rattle.std.specs.Option.{option_map};
 ghost use Rattle.qg_device.specs.Cause.{HasCause};
-ghost use Rattle.qg_device.specs.History.{Event};
+ghost use Rattle.qg_device.specs.History.{Event, Recorded};
 ghost use Rattle.qg_image.specs.declared.file.File.{File as FileValue};
 ghost use Rattle.qg_image.specs.Table.{value_at};
 ghost use Rattle.qg_contents.specs.Written.{inode_of};
@@ -38,7 +38,7 @@ pub fn inode_of<D: Disk, L: Ledger>(
         → IfOk result (λ inode. inode ≡ option_map inode_of (value_at ino files)) }
     ensures sound { (files : List (ℕ × FileValue)) → TellsFiles tree.now blocks.old.draft (D.history disk.old) files
         → BreaksNone result }
-    ensures broken { (events : List Event) → D.history disk.old ≡ Some events
+    ensures broken { (events : List Event) → D.history disk.old ≡ Recorded events
         → FailsOnFile tree.now blocks.old.draft events ino result }
     ensures readable { IsReadable blocks.new (D.history disk.new) (D.size disk.new) }
     ensures read { HasRead blocks.old blocks.new (D.history disk.old) (D.history disk.new) (D.size disk.old)

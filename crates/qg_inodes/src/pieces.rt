@@ -1,7 +1,7 @@
 // The pieces of one file that share a byte with a range.
 ghost use Rattle.std.specs.Prelude.{◌≡◌, ◌+◌, ◌*◌, ◌≤◌, ◌<◌, ◌&&◌, ℕ, List, length, Some, IfOk, IfSome, IfNone, nat_lt};
 ghost use Rattle.qg_device.specs.Cause.{HasCause};
-ghost use Rattle.qg_device.specs.History.{Event};
+ghost use Rattle.qg_device.specs.History.{Event, Recorded};
 ghost use Rattle.qg_image.specs.declared.file.File.{File as FileValue};
 ghost use Rattle.qg_image.specs.FilesOf.{piece_end};
 ghost use Rattle.qg_blocks.specs.Told.{BreaksNone};
@@ -42,7 +42,7 @@ pub fn pieces_meeting<D: Disk, L: Ledger>(
         → IfOk result (λ pieces. pieces ≡ pieces_met from to (pieces_at ino files)) }
     ensures sound { (files : List (ℕ × FileValue)) → TellsFiles tree.now blocks.old.draft (D.history disk.old) files
         → BreaksNone result }
-    ensures broken { (events : List Event) → D.history disk.old ≡ Some events
+    ensures broken { (events : List Event) → D.history disk.old ≡ Recorded events
         → FailsOnPieces tree.now blocks.old.draft events ino result }
     ensures apart { IfOk result (λ pieces. AreApart pieces) }
     ensures readable { IsReadable blocks.new (D.history disk.new) (D.size disk.new) }
@@ -95,7 +95,7 @@ fn parted<D: Disk, L: Ledger>(
         → IfOk result (λ pieces. pieces ≡ pieces_met from to (pieces_at ino files)) }
     ensures sound { (files : List (ℕ × FileValue)) → TellsFiles tree.now blocks.old.draft (D.history disk.old) files
         → BreaksNone result }
-    ensures broken { (events : List Event) → D.history disk.old ≡ Some events
+    ensures broken { (events : List Event) → D.history disk.old ≡ Recorded events
         → FailsOnPieces tree.now blocks.old.draft events ino result }
     ensures apart { IfOk result (λ pieces. AreApart pieces) }
     ensures readable { IsReadable blocks.new (D.history disk.new) (D.size disk.new) }

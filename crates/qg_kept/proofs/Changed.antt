@@ -1,7 +1,7 @@
 -- What file commands change of the subvolume at hand, told by what is kept. Positions and lengths are in bytes.
 use Rattle.std.proofs.Common.{◌≡◌, ℕ, ◌+◌, ◌≤◌, List, Some, None, Option, refl, ap, subst, ◌∙◌}
 use Rattle.std.proofs.lemmas.List.Elements.{All-contains, All-nil}
-use Rattle.qg_device.specs.History.{Event}
+use Rattle.qg_device.specs.History.{History}
 use Rattle.qg_num.specs.declared.command.Command.TheVariants.{Clone}
 use Rattle.qg_num.specs.declared.piece.Piece.{Piece}
 use Rattle.qg_image.specs.declared.file.File.{File}
@@ -26,7 +26,7 @@ pub file-of : (state : State) (sub ino : ℕ) (from : Subvolume) → value_at su
     → file_at state sub ino ≡ value_at ino from.files
 file-of state sub ino from there = rw there refl
 
-module _ (kept : Kept) (state : State) (history : Option (List Event)) (bytes : ℕ) (fits : IsKept kept history bytes)
+module _ (kept : Kept) (state : State) (history : History) (bytes : ℕ) (fits : IsKept kept history bytes)
     (keeps : IsKeptOf kept state history) (table : IsTable kept.fs.refs.refs) where
   pub changes-here : TellsChanges state kept.fs.tree.owner kept.fs.tree.next kept.fs.land.space.sizes.nodesize
       keeps.files
@@ -63,7 +63,7 @@ short-files state sub mine short there =
     All-contains (λ (entry : ℕ × Subvolume). AreShort entry.1.files) state.subvolumes (sub, mine) short
     (entry_of_value sub mine state.subvolumes there)
 
-pub hand-short : (kept : Kept) (state : State) (history : Option (List Event)) (keeps : IsKeptOf kept state history)
+pub hand-short : (kept : Kept) (state : State) (history : History) (keeps : IsKeptOf kept state history)
     → AreShort keeps.files
 hand-short kept state history keeps =
     subst (λ (files : List (ℕ × File)). AreShort files) keeps.keeps.are

@@ -2,7 +2,7 @@
 -- pending. Sizes are in bytes.
 use Rattle.std.proofs.Common.{◌≡◌, ℕ, Bool, true, false, List, None, Some, Option, sym, ap, ◌∙◌}
 use Rattle.std.specs.Prelude.{is_none, not, nat_le, nat_lt}
-use Rattle.qg_device.specs.History.{Event}
+use Rattle.qg_device.specs.History.{History}
 use Rattle.qg_num.specs.declared.refusal.Refusal.TheVariants as why
 use Rattle.qg_super.specs.declared.sizes.Sizes.{Sizes}
 use Rattle.qg_image.specs.declared.file.File.{File}
@@ -14,7 +14,7 @@ use Rattle.qg_kept.specs.declared.kept.Kept.{Kept}
 use Rattle.qg_kept.specs.Keeping.{IsFitted, IsKeptOf}
 use Rattle.qg_kept.proofs.Tables.{key-mapped, key-of-value}
 
-module _ (kept : Kept) (state : State) (history : Option (List Event)) (keeps : IsKeptOf kept state history) where
+module _ (kept : Kept) (state : State) (history : History) (keeps : IsKeptOf kept state history) where
   -- ---- the subvolumes
 
   pub files-known : files_in_sub state kept.fs.tree.owner ≡ keeps.files

@@ -1,8 +1,8 @@
 -- The book of trees that are kept of a state knows nothing of a later generation.
-use Rattle.std.proofs.Common.{◌≡◌, ℕ, ◌≤◌, List, Option, sym, subst}
+use Rattle.std.proofs.Common.{◌≡◌, ℕ, ◌≤◌, List, sym, subst}
 use Rattle.std.specs.Prelude.{All}
 use Rattle.std.specs.List.{flat_map}
-use Rattle.qg_device.specs.History.{Event}
+use Rattle.qg_device.specs.History.{History}
 use Rattle.qg_image.specs.Record.{Record}
 use Rattle.qg_image.specs.State.{State}
 use Rattle.qg_contents.specs.Written.{items_of_file}
@@ -14,7 +14,7 @@ use Rattle.qg_kept.specs.declared.kept.Kept.{Kept}
 use Rattle.qg_kept.specs.Keeping.{IsKept, IsKeptWith, KnowsNoLater}
 use Rattle.qg_kept.proofs.Looked.{is-subvolume}
 
-module _ (kept : Kept) (state : State) (history : Option (List Event)) (bytes : ℕ) (names : List Record)
+module _ (kept : Kept) (state : State) (history : History) (bytes : ℕ) (names : List Record)
     (fits : IsKept kept history bytes) (keeps : IsKeptWith kept state history names) where
   pub none-later : IsTable kept.fs.refs.refs → KnowsNoLater kept
   none-later table =

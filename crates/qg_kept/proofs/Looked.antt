@@ -1,10 +1,10 @@
 -- What is kept may be read, and is left so by a reading.
-use Rattle.std.proofs.Common.{◌≡◌, ℕ, ◌^◌, ◌<◌, ◌≤◌, List, length, map, Option, refl, sym, ap, subst, ◌∙◌, arith}
+use Rattle.std.proofs.Common.{◌≡◌, ℕ, ◌^◌, ◌<◌, ◌≤◌, List, length, map, refl, sym, ap, subst, ◌∙◌, arith}
 use Rattle.std.specs.Prelude.{IsTrue}
 use Rattle.std.specs.List.{Contains, flat_map}
 use Rattle.std.proofs.lemmas.List.Elements.{All-contains}
 use Rattle.std.proofs.lemmas.List.Sorted.{Contains-permutation}
-use Rattle.qg_device.specs.History.{Event}
+use Rattle.qg_device.specs.History.{History}
 use Rattle.qg_num.specs.declared.piece.Piece.{Piece}
 use Rattle.qg_node.specs.declared.item.Item.{Item}
 use Rattle.qg_node.specs.declared.node.Node.{Node}
@@ -64,7 +64,7 @@ tree-numbered kept fits tree among =
 pub hand-among : (fs : FsTree) → Contains (trees_of fs) fs.tree
 hand-among fs = contains_here fs.tree fs.others.items
 
-module _ (kept : Kept) (history : Option (List Event)) (bytes : ℕ) (fits : IsKept kept history bytes) where
+module _ (kept : Kept) (history : History) (bytes : ℕ) (fits : IsKept kept history bytes) where
   pub has-room : second_place ≤ bytes
   has-room = omega (arith, fits.long)
 
@@ -123,7 +123,7 @@ fitted-blocks kept blocks same fits = record {
   };
 }
 
-pub kept-read : (kept : Kept) (blocks : Held) (before after : Option (List Event)) (bytes left : ℕ)
+pub kept-read : (kept : Kept) (blocks : Held) (before after : History) (bytes left : ℕ)
     → IsKept kept before bytes → HasRead kept.fs.land.blocks blocks before after bytes left
     → IsReadable blocks after left → IsKept (with_blocks kept blocks) after left
 kept-read kept blocks before after bytes left fits read readable = record {
@@ -135,7 +135,7 @@ kept-read kept blocks before after bytes left fits read readable = record {
 -- ---- where a tree is told
 
 -- a tree that has the items of files tells them
-pub tells-files : (fs : FsTree) (history : Option (List Event)) (files : List (ℕ × File))
+pub tells-files : (fs : FsTree) (history : History) (files : List (ℕ × File))
     → HoldsFiles fs history files → fs.tree.next < 2 ^ 64 → TellsFiles fs.tree fs.land.blocks.draft history files
 tells-files fs history files holds near = record {
   items = flat_map items_of_file files;
@@ -149,13 +149,13 @@ abbrev with_clean : FsTree → List (ℕ × Node) → FsTree
 with_clean fs clean = record fs { land = record fs.land { blocks = record fs.land.blocks { clean = clean } } }
 
 -- they stand still
-still-clean : (fs : FsTree) (clean : List (ℕ × Node)) (history : Option (List Event)) (items : List Item)
+still-clean : (fs : FsTree) (clean : List (ℕ × Node)) (history : History) (items : List Item)
     (names : List (ℕ × Piece)) → Stands fs history items names
     → StandsStill fs (with_clean fs clean) history history items names
 still-clean fs clean history items names stands =
     stands-alike fs (with_clean fs clean) history history items names refl (λ q. refl) stands
 
-holds-clean : (fs : FsTree) (clean : List (ℕ × Node)) (history : Option (List Event)) (files : List (ℕ × File))
+holds-clean : (fs : FsTree) (clean : List (ℕ × Node)) (history : History) (files : List (ℕ × File))
     → HoldsFiles fs history files → HoldsFiles (with_clean fs clean) history files
 holds-clean fs clean history files holds = record {
   stands = (still-clean fs clean history (flat_map items_of_file files) (named files) holds.stands).stands;
@@ -164,15 +164,15 @@ holds-clean fs clean history files holds = record {
 }
 
 -- so it has them after a reading
-pub holds-looked : (old new : Kept) (before after : Option (List Event)) (bytes left : ℕ) (files : List (ℕ × File))
+pub holds-looked : (old new : Kept) (before after : History) (bytes left : ℕ) (files : List (ℕ × File))
     → HasReadNodes old new before after bytes left → HoldsFiles old.fs before files → HoldsFiles new.fs after files
 holds-looked old new before after bytes left files looked holds =
-    subst (λ (history : Option (List Event)). HoldsFiles new.fs history files) (sym looked.history)
+    subst (λ (history : History). HoldsFiles new.fs history files) (sym looked.history)
     (subst (λ (kept : Kept). HoldsFiles kept.fs before files) (sym looked.same)
     (holds-clean old.fs new.fs.land.blocks.clean before files holds))
 
 -- what is read leaves all but clean nodes
-pub looked-read : (kept : Kept) (blocks : Held) (before after : Option (List Event)) (bytes left : ℕ)
+pub looked-read : (kept : Kept) (blocks : Held) (before after : History) (bytes left : ℕ)
     → HasRead kept.fs.land.blocks blocks before after bytes left
     → HasReadNodes kept (with_blocks kept blocks) before after bytes left
 looked-read kept blocks before after bytes left read = record {
@@ -182,7 +182,7 @@ looked-read kept blocks before after bytes left read = record {
 }
 
 -- so does what leaves the space
-pub looked-land : (kept : Kept) (land : Ground) (before after : Option (List Event)) (bytes left : ℕ)
+pub looked-land : (kept : Kept) (land : Ground) (before after : History) (bytes left : ℕ)
     → HasRead kept.fs.land.blocks land.blocks before after bytes left → land.space ≡ kept.fs.land.space
     → HasReadNodes kept (record kept { fs = record kept.fs { land = land } }) before after bytes left
 looked-land kept land before after bytes left read space = record {
@@ -199,7 +199,7 @@ looked-land kept land before after bytes left read space = record {
 }
 
 -- what was read fits together over any disk, where clean nodes are the disk's
-pub kept-looked : (old new : Kept) (before after : Option (List Event)) (bytes left : ℕ) → IsKept old before bytes
+pub kept-looked : (old new : Kept) (before after : History) (bytes left : ℕ) → IsKept old before bytes
     → HasReadNodes old new before after bytes left → IsBacked new.fs.land.blocks after → IsKept new after left
 kept-looked old new before after bytes left fits looked backed = record {
   fitted = subst (λ (kept : Kept). IsFitted kept) (sym looked.same)
@@ -210,7 +210,7 @@ kept-looked old new before after bytes left fits looked backed = record {
 }
 
 -- what is read and then read again is read
-pub looked-again : (old mid new : Kept) (before then after : Option (List Event)) (bytes between left : ℕ)
+pub looked-again : (old mid new : Kept) (before then after : History) (bytes between left : ℕ)
     → HasReadNodes old mid before then bytes between → HasReadNodes mid new then after between left
     → HasReadNodes old new before after bytes left
 looked-again old mid new before then after bytes between left first second = record {
@@ -222,29 +222,29 @@ looked-again old mid new before then after bytes between left first second = rec
 }
 
 -- the same subvolume's tree is at hand
-pub owner-read : (old new : Kept) (before after : Option (List Event)) (bytes left : ℕ)
+pub owner-read : (old new : Kept) (before after : History) (bytes left : ℕ)
     → HasReadNodes old new before after bytes left → old.fs.tree.owner ≡ new.fs.tree.owner
 owner-read old new before after bytes left looked = ap (λ (kept : Kept). kept.fs.tree.owner) (sym looked.same)
 
 -- and the last commit is
-pub superblock-read : (old new : Kept) (before after : Option (List Event)) (bytes left : ℕ)
+pub superblock-read : (old new : Kept) (before after : History) (bytes left : ℕ)
     → HasReadNodes old new before after bytes left → new.superblock ≡ old.superblock
 superblock-read old new before after bytes left looked = ap (λ (kept : Kept). kept.superblock) looked.same
 
 -- ---- where it is kept of a state
 
-keeps-clean : (fs : FsTree) (clean : List (ℕ × Node)) (history : Option (List Event)) (state : State) (mine : Subvolume)
+keeps-clean : (fs : FsTree) (clean : List (ℕ × Node)) (history : History) (state : State) (mine : Subvolume)
     (files : List (ℕ × File)) → KeepsState fs history state mine files
     → KeepsState (with_clean fs clean) history state mine files
 keeps-clean fs clean history state mine files keeps =
     kept-still fs (with_clean fs clean) history history state mine files refl refl refl
     (still-clean fs clean history (flat_map items_of_file files) (named files) keeps.holds.stands) keeps
 
-module _ (old new : Kept) (before after : Option (List Event)) (bytes left : ℕ) (state : State) (names : List Record)
+module _ (old new : Kept) (before after : History) (bytes left : ℕ) (state : State) (names : List Record)
     (looked : HasReadNodes old new before after bytes left) (keeps : IsKeptWith old state before names) where
   pub state-looked : KeepsState new.fs after state keeps.mine keeps.files
   state-looked =
-      subst (λ (history : Option (List Event)). KeepsState new.fs history state keeps.mine keeps.files)
+      subst (λ (history : History). KeepsState new.fs history state keeps.mine keeps.files)
       (sym looked.history)
       (subst (λ (kept : Kept). KeepsState kept.fs before state keeps.mine keeps.files) (sym looked.same)
       (keeps-clean old.fs new.fs.land.blocks.clean before state keeps.mine keeps.files keeps.keeps))

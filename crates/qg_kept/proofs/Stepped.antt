@@ -7,7 +7,7 @@ use Rattle.std.specs.List.{All, Contains}
 use Rattle.std.specs.List.Sorted.{IsStrictlyIncreasing}
 use Rattle.std.proofs.lemmas.List.{length-map}
 use Rattle.std.proofs.lemmas.List.Elements.{All-contains}
-use Rattle.qg_device.specs.History.{Event}
+use Rattle.qg_device.specs.History.{History}
 use Rattle.qg_num.specs.declared.answer.Answer.{Answer}
 use Rattle.qg_num.specs.declared.answer.Answer.TheVariants.{Refused}
 use Rattle.qg_num.specs.declared.command.Command.{Command}
@@ -60,7 +60,7 @@ use Rattle.qg_kept.proofs.Tables.{all-of, all-put, keys-mapped, map-put}
 -- ---- what is refused
 
 -- the state stays
-pub does_nothing : (kept : Kept) (state : State) (history : Option (List Event)) (command : Command) (reason : Refusal)
+pub does_nothing : (kept : Kept) (state : State) (history : History) (command : Command) (reason : Refusal)
     → IsKeptOf kept state history → refusal state command ≡ Some reason
     → Answered state command (Refused reason) [] kept history
 does_nothing kept state history command reason keeps refused = record {
@@ -94,7 +94,7 @@ pub record IsLate (state : State) (command : Command) (sub : ℕ) (files : List 
     pub change : file_change state command ≡ Some (change_to sub files amount pieces)
 
 -- where it is kept of a state, whatever the last commit's items name
-module _ (kept : Kept) (state : State) (history : Option (List Event)) (names : List Record) (fits : IsFitted kept)
+module _ (kept : Kept) (state : State) (history : History) (names : List Record) (fits : IsFitted kept)
     (keeps : IsKeptWith kept state history names) where
   pub keys-kept : keys_of state.subvolumes ≡ keys_of kept.snapshots
   keys-kept =
@@ -132,7 +132,7 @@ module _ (kept : Kept) (state : State) (history : Option (List Event)) (names : 
       others-weigh state ascend-kept numbers-kept groups-kept
       ∙ (λ i. root_tree_bytes (many-kept i) (keeps.quota i) + quota_tree_bytes (keeps.quota i))
 
-module _ (kept : Kept) (state : State) (history : Option (List Event)) (bytes : ℕ) (fits : IsKept kept history bytes)
+module _ (kept : Kept) (state : State) (history : History) (bytes : ℕ) (fits : IsKept kept history bytes)
     (keeps : IsKeptOf kept state history) (table : IsTable kept.fs.refs.refs) where
   pub tree-kept : step.IsKept kept.fs history bytes
   tree-kept = record {
@@ -220,7 +220,7 @@ needs-same old fs quota same = λ i.
 
 -- A command changed the tree at hand: it follows the state by copy on write, it is the same subvolume's still, what the
 -- last commit recorded stays, and a commit finds its slots
-pub record Follows (old : Kept) (fs : FsTree) (state : State) (mine : Subvolume) (history : Option (List Event))
+pub record Follows (old : Kept) (fs : FsTree) (state : State) (mine : Subvolume) (history : History)
     (files : List (ℕ × File)) (pieces : ℕ) : Type 0 where
   pub copied : (last : Accepted) → FollowsCommand fs history state (state_after state files fs history last)
       (mine_after mine files fs) files old.fs.tree.owner (file_copies old.fs.tree.height pieces)
@@ -235,7 +235,7 @@ tree_is : (state : State) (sub : ℕ) (mine : Subvolume) (files : List (ℕ × F
     ≡ record state { subvolumes = with_value sub (record mine { files = files; root = root }) state.subvolumes }
 tree_is state sub mine files root there = rw there refl
 
-module _ (old : Kept) (fs : FsTree) (before after : Option (List Event)) (bytes : ℕ) (state : State)
+module _ (old : Kept) (fs : FsTree) (before after : History) (bytes : ℕ) (state : State)
     (command : Command) (reply : Answer) (files : List (ℕ × File)) (amount pieces : ℕ) (fits : IsKept old before bytes)
     (keeps : IsKeptOf old state before) (table : IsTable old.fs.refs.refs)
     (late : IsLate state command old.fs.tree.owner files amount pieces) (enough : None ≡ slots_refusal old pieces)
@@ -369,6 +369,6 @@ module _ (old : Kept) (fs : FsTree) (before after : Option (List Event)) (bytes 
     does_edit does = record {
       new = state_now;
       step = steps does;
-      keeps = subst (λ (history : Option (List Event)). IsKeptOf (edited old fs quota) state_now history) (sym same)
+      keeps = subst (λ (history : History). IsKeptOf (edited old fs quota) state_now history) (sym same)
           keeps-now;
     }

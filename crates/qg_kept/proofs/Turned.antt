@@ -1,5 +1,5 @@
 -- Where another tree came to hand, what is kept is kept of the same state.
-use Rattle.std.proofs.Common.{◌≡◌, ℕ, ◌<◌, ◌≤◌, Bool, true, false, List, map, Option, Some, refl, sym, ap, subst, ◌∙◌}
+use Rattle.std.proofs.Common.{◌≡◌, ℕ, ◌<◌, ◌≤◌, Bool, true, false, List, map, Some, refl, sym, ap, subst, ◌∙◌}
 use Rattle.std.proofs.Common.{inl, inr}
 use Rattle.std.specs.Prelude.{◌↔◌, IfOk, IsTrue, Result, Ok, Err}
 use Rattle.std.specs.List.{All, Contains, filter_map, flat_map}
@@ -7,7 +7,7 @@ use Rattle.std.specs.List.Sorted.{IsPermutation}
 use Rattle.std.proofs.lemmas.Bool.{cases_Bool, true≢false}
 use Rattle.std.proofs.lemmas.List.Sorted.{IsPermutation-map, IsPermutation-refl, IsPermutation-sym, IsPermutation-trans}
 use Rattle.std.proofs.lemmas.Option.{same_Some}
-use Rattle.qg_device.specs.History.{Event}
+use Rattle.qg_device.specs.History.{History}
 use Rattle.qg_node.specs.declared.item.Item.{Item}
 use Rattle.qg_num.specs.declared.answer.Answer.{Answer}
 use Rattle.qg_num.specs.declared.fault.BlockFault.{BlockFault}
@@ -72,7 +72,7 @@ same-then old mid new first second = record {
 }
 
 -- nodes were read of the tree at hand
-module _ (old new : Kept) (before after : Option (List Event)) (bytes left : ℕ)
+module _ (old new : Kept) (before after : History) (bytes left : ℕ)
     (read : HasReadNodes old new before after bytes left) where
   fs-same : new.fs ≡ record old.fs {
     land = record old.fs.land { blocks = record old.fs.land.blocks { clean = new.fs.land.blocks.clean } };
@@ -105,12 +105,12 @@ module _ (old new : Kept) (before after : Option (List Event)) (bytes left : ℕ
   looked-nodes = record { same = same-nodes; history = read.history; size = read.size }
 
 -- nodes were read behind a turn
-pub same-read : (old mid new : Kept) (before after : Option (List Event)) (bytes left : ℕ) → SameButClean old mid
+pub same-read : (old mid new : Kept) (before after : History) (bytes left : ℕ) → SameButClean old mid
     → HasReadNodes mid new before after bytes left → SameButClean old new
 same-read old mid new before after bytes left first read =
     same-then old mid new first (same-nodes mid new before after bytes left read)
 
-pub looked-turned : (old mid new : Kept) (before after : Option (List Event)) (bytes left : ℕ) → SameButClean old mid
+pub looked-turned : (old mid new : Kept) (before after : History) (bytes left : ℕ) → SameButClean old mid
     → HasReadNodes mid new before after bytes left → HasLooked old new before after bytes left
 looked-turned old mid new before after bytes left first read = record {
   same = same-read old mid new before after bytes left first read;
@@ -119,11 +119,11 @@ looked-turned old mid new before after bytes left first read = record {
 }
 
 -- nothing was read
-pub looked-refl : (kept : Kept) (history : Option (List Event)) (bytes : ℕ)
+pub looked-refl : (kept : Kept) (history : History) (bytes : ℕ)
     → HasLooked kept kept history history bytes bytes
 looked-refl kept history bytes = record { same = same-refl kept; history = refl; size = refl }
 
-pub looked-then : (old mid new : Kept) (before then after : Option (List Event)) (bytes between left : ℕ)
+pub looked-then : (old mid new : Kept) (before then after : History) (bytes between left : ℕ)
     → HasLooked old mid before then bytes between → HasLooked mid new then after between left
     → HasLooked old new before after bytes left
 looked-then old mid new before then after bytes between left first second = record {
@@ -221,7 +221,7 @@ module _ (old : Kept) (fs : FsTree) (number : ℕ) (fits : IsFitted old) (turned
         (subst (λ (n : ℕ). IsDrafted old.fs.land n) (sym next-turned) fits.drafted);
   }
 
-  pub kept-turned : (history : Option (List Event)) (bytes : ℕ) → IsKept old history bytes → IsKept now history bytes
+  pub kept-turned : (history : History) (bytes : ℕ) → IsKept old history bytes → IsKept now history bytes
   kept-turned history bytes kept = record {
     fitted = fitted-turned;
     backed = subst (λ (land : Ground). IsBacked land.blocks history) (sym turned.land) kept.backed;
@@ -239,17 +239,17 @@ module _ (old : Kept) (fs : FsTree) (number : ℕ) (fits : IsFitted old) (turned
 -- ---- where it is kept of a state
 
 -- the same items are told of a tree where the same nodes are
-items-same : (a b : FsTree) (history : Option (List Event)) (tree : Root) → a.land ≡ b.land
+items-same : (a b : FsTree) (history : History) (tree : Root) → a.land ≡ b.land
     → items_in a history tree ≡ items_in b history tree
 items-same a b history tree same = ap (λ (land : Ground). items_in (record a { land = land }) history tree) same
 
 -- a tree has a subvolume's files
-pub record IsSource (fs : FsTree) (history : Option (List Event)) (mine : Subvolume) : Type 0 where
+pub record IsSource (fs : FsTree) (history : History) (mine : Subvolume) : Type 0 where
   pub tree : Root
   pub among : Contains (trees_of fs) tree
   pub files : HasFiles fs history tree mine.files
 
-module _ (old : Kept) (history : Option (List Event)) (bytes : ℕ) (state : State) (names : List Record)
+module _ (old : Kept) (history : History) (bytes : ℕ) (state : State) (names : List Record)
     (kept : IsKept old history bytes) (keeps : IsKeptWith old state history names) where
   hand-files : HasFiles old.fs history old.fs.tree keeps.mine.files
   hand-files =
@@ -415,14 +415,14 @@ module _ (old : Kept) (fs : FsTree) (number : ℕ) (found : Bool) (fits : IsFitt
     | inr not_so ↦ subst (λ (f : FsTree). SameButClean old (record old { fs = f })) (sym (left not_so)) (same-refl old)
   ]
 
-  pub asked-kept : (history : Option (List Event)) (bytes : ℕ) → IsKept old history bytes
+  pub asked-kept : (history : History) (bytes : ℕ) → IsKept old history bytes
       → IsKept (record old { fs = fs }) history bytes
   asked-kept history bytes kept = elim (cases_Bool found) [
     | inl is_so ↦ kept-turned old fs number fits (turned is_so) (numbers fits.numbered) history bytes kept
     | inr not_so ↦ subst (λ (f : FsTree). IsKept (record old { fs = f }) history bytes) (sym (left not_so)) kept
   ]
 
-  pub asked-keeps : (state : State) (history : Option (List Event)) (bytes : ℕ) (names : List Record)
+  pub asked-keeps : (state : State) (history : History) (bytes : ℕ) (names : List Record)
       → (AreNumbered old.fs → found ≡ true → layout_in fs history ≡ layout_in old.fs history)
       → ((items : List Item) → IsSubvolume old.fs history bytes
       → Stands old.fs history items (filter_map name_told items) → found ≡ true

@@ -1,6 +1,6 @@
 -- What a store answers (this project's own).
 use Rattle.std.specs.Prelude.{◌≡◌, ◌⊎◌, List, Option, None, Some, Bool, true, false, IsTrue}
-use Rattle.qg_device.specs.History.{Event}
+use Rattle.qg_device.specs.History.{Event, History, Recorded}
 use Rattle.qg_num.specs.declared.answer.Answer.{Answer}
 use Rattle.qg_num.specs.declared.answer.Answer.TheVariants as answer
 use Rattle.qg_num.specs.declared.command.Command.{Command}
@@ -18,13 +18,13 @@ use Rattle.qg_kept.specs.Making.{MadeCommits, StartsCommit, StartsSecond}
 -- the machine answers a command so with these commits, and what is kept is that of the state that it comes to, over a
 -- disk with this history
 pub record Answered (old : State) (command : Command) (answer : Answer) (commits : List State) (kept : Kept)
-    (history : Option (List Event)) : Type 0 where
+    (history : History) : Type 0 where
   pub new : State
   pub step : Step old command answer commits new
   pub keeps : IsKeptOf kept new history
 
 -- the machine answers a command so, and the disk was made to hold what it commits
-abbrev pub AnswersOn : State → Command → Answer → Kept → List Event → Option (List Event) → Type 0
+abbrev pub AnswersOn : State → Command → Answer → Kept → List Event → History → Type 0
 AnswersOn old command answer kept before history =
     (commits : List State) × Answered old command answer commits kept history
     × MadeCommits old.held commits before history
@@ -44,7 +44,7 @@ comes_to_disk command = is_structural command
 -- The calls of the commits that a command makes came so far, and perhaps were not all answered. It is one that comes to
 -- the disk, and is not refused. They are those of the commit of what was pending; or all of these, where something was,
 -- and behind them those of the commit of what a structural command changed
-pub record StartsCommits (old : State) (command : Command) (events : List Event) (history : Option (List Event)) : Type
+pub record StartsCommits (old : State) (command : Command) (events : List Event) (history : History) : Type
     0
   where
     pub comes : IsTrue (comes_to_disk command)
@@ -52,8 +52,8 @@ pub record StartsCommits (old : State) (command : Command) (events : List Event)
     pub calls : StartsCommit old events history ⊎ StartsSecond old command events history
 
 -- what a command has done to the disk, whatever is answered: nothing, or calls of the commits that it makes
-abbrev pub IsDoneSoFar : State → Command → List Event → Option (List Event) → Type 0
-IsDoneSoFar old command events history = (history ≡ Some events) ⊎ StartsCommits old command events history
+abbrev pub IsDoneSoFar : State → Command → List Event → History → Type 0
+IsDoneSoFar old command events history = (history ≡ Recorded events) ⊎ StartsCommits old command events history
 
 -- the answer to `show`: each group's stored counters and limits, while quota is on
 abbrev pub shown : Option Quota → Answer

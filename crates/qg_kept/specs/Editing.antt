@@ -1,7 +1,7 @@
 -- What a command that edits files reads and leaves of what is kept, and why it is refused (this project's own).
 -- Positions, lengths and sizes are in bytes.
 use Rattle.std.specs.Prelude.{◌≡◌, ℕ, ◌+◌, ◌==◌, ◌&&◌, List, [], ◌∷◌, Option, not, nat_lt}
-use Rattle.qg_device.specs.History.{Event}
+use Rattle.qg_device.specs.History.{History}
 use Rattle.qg_num.specs.declared.refusal.Refusal.{Refusal}
 use Rattle.qg_num.specs.declared.refusal.Refusal.TheVariants as why
 use Rattle.qg_image.specs.FilesOf.{is_aligned}
@@ -18,7 +18,7 @@ use Rattle.qg_kept.specs.Keeping.{SameButClean, need_of}
 
 -- Nodes were read, or put out of memory: clean nodes alone may be others, the tree at hand is the same, and the disk
 -- was not written
-pub record HasReadNodes (old new : Kept) (before after : Option (List Event)) (bytes left : ℕ) : Type 0 where
+pub record HasReadNodes (old new : Kept) (before after : History) (bytes left : ℕ) : Type 0 where
   pub same : new ≡ record old {
     fs = record old.fs {
       land = record old.fs.land {
@@ -30,7 +30,7 @@ pub record HasReadNodes (old new : Kept) (before after : Option (List Event)) (b
   pub size : left ≡ bytes
 
 -- so it is where another tree may be at hand
-pub record HasLooked (old new : Kept) (before after : Option (List Event)) (bytes left : ℕ) : Type 0 where
+pub record HasLooked (old new : Kept) (before after : History) (bytes left : ℕ) : Type 0 where
   pub same : SameButClean old new
   pub history : after ≡ before
   pub size : left ≡ bytes

@@ -1,8 +1,8 @@
 -- What a store keeps, and the state of the machine that it is kept of (this project's own). Addresses, lengths and
 -- weights are in bytes.
-use Rattle.std.specs.Prelude.{◌≡◌, ℕ, ◌+◌, ◌*◌, ◌<◌, ◌≤◌, All, List, length, map, Option, IfSome, IsTrue}
+use Rattle.std.specs.Prelude.{◌≡◌, ℕ, ◌+◌, ◌*◌, ◌<◌, ◌≤◌, All, List, length, map, IfSome, IsTrue}
 use Rattle.std.specs.List.Sorted.{IsPermutation, IsStrictlyIncreasing}
-use Rattle.qg_device.specs.History.{Event}
+use Rattle.qg_device.specs.History.{History}
 use Rattle.qg_items.specs.declared.tree.TheConstants.{TOP_LEVEL}
 use Rattle.qg_super.specs.Places.{total_bytes}
 use Rattle.qg_super.specs.SuperText.{is_super, sizes_of}
@@ -97,7 +97,7 @@ pub record IsFitted (kept : Kept) : Type 0 where
   pub drafted : IsDrafted kept.fs.land kept.fs.tree.next
 
 -- so it does, its clean nodes are those of a disk, where that tells, and the disk is as long as the image
-pub record IsKept (kept : Kept) (history : Option (List Event)) (bytes : ℕ) : Type 0 where
+pub record IsKept (kept : Kept) (history : History) (bytes : ℕ) : Type 0 where
   pub fitted : IsFitted kept
   pub backed : IsBacked kept.fs.land.blocks history
   pub long : total_bytes (sizes_of kept.superblock) ≤ bytes
@@ -127,7 +127,7 @@ KnowsNoLater kept = All (λ entry. entry.1.what.generation ≤ kept.fs.tree.next
 -- what is listed. The trees have the files of the state's subvolumes and are its layout; the book beside the present
 -- one is what the last commit recorded; what is pending is held for its groups; where something is pending a commit
 -- finds its slots, and where nothing is, and the last commit names what one now would name, no node is fresh
-pub record IsKeptWith (kept : Kept) (state : State) (history : Option (List Event)) (names : List Record) : Type 0 where
+pub record IsKeptWith (kept : Kept) (state : State) (history : History) (names : List Record) : Type 0 where
   pub files : List (ℕ × File)
   pub mine : Subvolume
   pub keeps : KeepsState kept.fs history state mine files
@@ -143,5 +143,5 @@ pub record IsKeptWith (kept : Kept) (state : State) (history : Option (List Even
       → kept.fs.land.blocks.draft ≡ nothing_fresh kept.fs.land.blocks.draft.sizes
 
 -- so it is kept of a state between two commands: the last commit's items name what a commit now would name
-abbrev pub IsKeptOf : Kept → State → Option (List Event) → Type 0
+abbrev pub IsKeptOf : Kept → State → History → Type 0
 IsKeptOf kept state history = IsKeptWith kept state history (other_names state)

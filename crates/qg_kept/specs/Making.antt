@@ -1,7 +1,7 @@
 -- What commits do to a disk (this project's own).
-use Rattle.std.specs.Prelude.{◌≡◌, ℕ, All, IsTrue, List, [], ◌∷◌, Option, Some}
+use Rattle.std.specs.Prelude.{◌≡◌, ℕ, All, IsTrue, List, [], ◌∷◌}
 use Rattle.std.specs.List.Sorted.{IsPermutation}
-use Rattle.qg_device.specs.History.{Event, Moment, content}
+use Rattle.qg_device.specs.History.{Event, History, Recorded, Moment, content}
 use Rattle.qg_num.specs.declared.answer.Answer.{Answer}
 use Rattle.qg_num.specs.declared.answer.Answer.TheVariants as answer
 use Rattle.qg_num.specs.declared.command.Command.{Command}
@@ -15,7 +15,7 @@ use Rattle.qg_machine.specs.Written.{new_nodes}
 use Rattle.qg_image.specs.StateOf.{StateOf}
 use Rattle.qg_crashes.specs.Counted.{AreDirect}
 use Rattle.qg_crashes.specs.Slots.{IsInSlot}
-use Rattle.qg_fs_laws.specs.Calls.{MadeFront, commit_calls, with_commit}
+use Rattle.qg_fs_laws.specs.Calls.{Call, MadeFront, commit_calls, unsure_calls, with_commit}
 
 -- an image is sound, stands for a committed state, and stores the direct count of each of its groups
 pub record IsCommitted (state : State) (image : List ℕ) : Type 0 where
@@ -43,31 +43,42 @@ Makes held (state ∷ states) before after =
 
 -- a disk was made to hold these commits, one after the other, and nothing else was done to it
 pub record MadeCommits (held : Committed) (commits : List State) (before : List Event)
-    (history : Option (List Event)) : Type 0 where
+    (history : History) : Type 0 where
   pub after : List Event
-  pub told : history ≡ Some after
+  pub told : history ≡ Recorded after
   pub made : Makes held commits before after
 
--- the calls of a commit that the machine does came so far
-pub record StartsCommit (old : State) (events : List Event) (history : Option (List Event)) : Type 0 where
+-- of the calls of a commit that the machine does, these came so far
+pub record CommitsSoFar (calls : Super → List Node → List Call) (old : State) (events : List Event) (history : History)
+    : Type 0 where
   pub new : State
   pub step : Step old command.Commit (answer.Commit new.generation) (new ∷ []) new
   pub super : Super
   pub nodes : List Node
   pub brings : BringsTo old.held new events super nodes
-  pub made : MadeFront (commit_calls super nodes) events history
+  pub made : MadeFront (calls super nodes) events history
+
+-- the calls of a commit that the machine does came so far
+abbrev pub StartsCommit : State → List Event → History → Type 0
+StartsCommit old events history = CommitsSoFar commit_calls old events history
+
+-- and its last sync is not among them
+abbrev pub StopsCommit : State → List Event → History → Type 0
+StopsCommit old events history = CommitsSoFar unsure_calls old events history
 
 -- What was pending is committed, by calls that a disk was given, and no more was done
-pub record MadeFirst (old : State) (events : List Event) (history : Option (List Event)) : Type 0 where
+pub record MadeFirst (old : State) (events : List Event) (history : History) : Type 0 where
   pub before : State
   pub earlier : List State
   pub first : CommitsPending old earlier before
   pub between : List Event
-  pub told : history ≡ Some between
+  pub told : history ≡ Recorded between
   pub made : Makes old.held earlier events between
 
--- What was pending is committed, a structural command made its change, and the calls of a commit of that came so far
-pub record StartsSecond (old : State) (given : Command) (events : List Event) (history : Option (List Event)) : Type 0
+-- What was pending is committed, a structural command made its change, and of the calls of a commit of that these came
+-- so far
+pub record SecondSoFar (calls : Super → List Node → List Call) (old : State) (given : Command) (events : List Event)
+    (history : History) : Type 0
   where
     pub before : State
     pub earlier : List State
@@ -82,7 +93,15 @@ pub record StartsSecond (old : State) (given : Command) (events : List Event) (h
     pub super : Super
     pub nodes : List Node
     pub brings : BringsTo changed.held new between super nodes
-    pub made : MadeFront (commit_calls super nodes) between history
+    pub made : MadeFront (calls super nodes) between history
+
+-- the calls of the second commit came so far
+abbrev pub StartsSecond : State → Command → List Event → History → Type 0
+StartsSecond old given events history = SecondSoFar commit_calls old given events history
+
+-- and its last sync is not among them
+abbrev pub StopsSecond : State → Command → List Event → History → Type 0
+StopsSecond old given events history = SecondSoFar unsure_calls old given events history
 
 -- commits of these states, the earliest first, made sure of what a disk held three times each, the newest first: each
 -- third time it is the state committed

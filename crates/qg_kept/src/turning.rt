@@ -1,6 +1,6 @@
 // A subvolume's tree comes to hand.
-ghost use Rattle.std.specs.Prelude.{◌≡◌, ℕ, List, Option, IsTrue};
-ghost use Rattle.qg_device.specs.History.{Event};
+ghost use Rattle.std.specs.Prelude.{◌≡◌, ℕ, List, IsTrue};
+ghost use Rattle.qg_device.specs.History.{History};
 ghost use Rattle.qg_image.specs.Table.{has_key};
 ghost use Rattle.qg_image.specs.Record.{Record};
 ghost use Rattle.qg_image.specs.State.{State};
@@ -17,9 +17,9 @@ pub fn turn_to(kept: &mut Kept, sub: RootId) -> bool
     ensures hand { IsTrue result → kept.new.fs.tree.owner ≡ sub }
     ensures same { SameButClean kept.old kept.new }
     ensures superblock { kept.new.superblock ≡ kept.old.superblock }
-    ensures kept { (history : Option (List Event)) (bytes : ℕ) → IsKept kept.old history bytes
+    ensures kept { (history : History) (bytes : ℕ) → IsKept kept.old history bytes
         → IsKept kept.new history bytes }
-    ensures keeps { (state : State) (history : Option (List Event)) (bytes : ℕ) (names : List Record)
+    ensures keeps { (state : State) (history : History) (bytes : ℕ) (names : List Record)
         → IsKept kept.old history bytes → IsKeptWith kept.old state history names
         → IsKeptWith kept.new state history names }
 {

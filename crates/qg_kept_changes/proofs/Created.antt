@@ -9,7 +9,7 @@ use Rattle.std.specs.List.{All, Contains}
 use Rattle.std.proofs.lemmas.List.{append_cancel_left, map-append}
 use Rattle.std.proofs.lemmas.List.Elements.{All-nil, Contains-append_cases, filter-append, recursion_from_All}
 use Rattle.std.proofs.lemmas.Option.{same_Some}
-use Rattle.qg_device.specs.History.{Event}
+use Rattle.qg_device.specs.History.{History}
 use Rattle.qg_node.specs.declared.node.Node.{Node}
 use Rattle.qg_node.specs.Nodes.{header_of}
 use Rattle.qg_items.specs.declared.tree.TheConstants.{EXTENT_TREE, QUOTA_TREE}
@@ -116,7 +116,7 @@ quota-first (Some quota) sub rest large same =
     let number : QUOTA_TREE ≡ sub = cc in
     omega (arith, number, large)
 
-module _ (old new : Kept) (history : Option (List Event)) (bytes : ℕ) (state after : State) (sub : ℕ) (tree : Root)
+module _ (old new : Kept) (history : History) (bytes : ℕ) (state after : State) (sub : ℕ) (tree : Root)
     (fits : IsKept old history bytes) (keeps : IsKeptOf old state history) (none : old.pending ≡ 0)
     (fits_new : IsKept new history bytes) (table_new : IsTable new.fs.refs.refs)
     (less : (entry : ℕ × Subvolume) → Contains state.subvolumes entry → entry.0 < sub) (large : 255 < sub)
@@ -334,7 +334,7 @@ module _ (old new : Kept) (history : Option (List Event)) (bytes : ℕ) (state a
 -- ---- what was known
 
 -- the book knew nothing of a later generation
-pub dated-before : (old : Kept) (history : Option (List Event)) (bytes : ℕ) (state : State) → IsKept old history bytes
+pub dated-before : (old : Kept) (history : History) (bytes : ℕ) (state : State) → IsKept old history bytes
     → IsKeptOf old state history → IsTable old.fs.refs.refs → (at : ℕ) (what : What)
     → what_in (book_of old.fs.refs.refs at) ≡ Some what → what.generation ≤ old.fs.tree.next
 dated-before old history bytes state fits keeps table at what there =
@@ -344,7 +344,7 @@ dated-before old history bytes state fits keeps table at what there =
 
 -- ---- no other fresh node
 
-module _ (old new : Kept) (history : Option (List Event)) (bytes : ℕ) (state after : State) (sub : ℕ) (tree : Root)
+module _ (old new : Kept) (history : History) (bytes : ℕ) (state after : State) (sub : ℕ) (tree : Root)
     (fits : IsKept old history bytes) (keeps : IsKeptOf old state history) (none : old.pending ≡ 0)
     (table : IsTable old.fs.refs.refs) (fits_new : IsKept new history bytes)
     (made : Subvolume) (placed : Placed) (adds : AddsSubvolume state after sub made placed)
@@ -426,7 +426,7 @@ module _ (old new : Kept) (history : Option (List Event)) (bytes : ℕ) (state a
 -- ---- an empty leaf
 
 -- a tree that is one has the items of no files
-pub empty-files : (fs : FsTree) (history : Option (List Event)) (tree : Root) (generation sub : ℕ) → tree.height ≡ 0
+pub empty-files : (fs : FsTree) (history : History) (tree : Root) (generation sub : ℕ) → tree.height ≡ 0
     → nodes_of fs history tree.address ≡ Some (empty_leaf generation sub tree.address).node
     → HasFiles fs history tree []
 empty-files fs history tree generation sub low told = record {
@@ -439,7 +439,7 @@ empty-files fs history tree generation sub low told = record {
 }
 
 -- and reaches its leaf alone
-pub at-leaf : (fs : FsTree) (history : Option (List Event)) (tree : Root) (at : ℕ) → tree.height ≡ 0
+pub at-leaf : (fs : FsTree) (history : History) (tree : Root) (at : ℕ) → tree.height ≡ 0
     → IsReachedBy fs history tree at → at ≡ tree.address
 unfolding Reaches
 at-leaf fs history tree at low reached =

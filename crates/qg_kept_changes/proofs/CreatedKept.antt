@@ -1,5 +1,5 @@
 -- What is kept where a subvolume without files was made: it fits together, and is kept of the state that this leaves.
-use Rattle.std.proofs.Common.{◌≡◌, ℕ, ◌+◌, ◌*◌, ◌<◌, ◌≤◌, true, List, [], ◌∷◌, ◌++◌, arith, length, Option, Some, None}
+use Rattle.std.proofs.Common.{◌≡◌, ℕ, ◌+◌, ◌*◌, ◌<◌, ◌≤◌, true, List, [], ◌∷◌, ◌++◌, arith, length, Some, None}
 use Rattle.std.proofs.Common.{refl, sym, ap, subst, ◌∙◌, inl, inr}
 use Rattle.std.specs.Prelude.{◌⊎◌, not}
 use Rattle.std.specs.List.{Contains}
@@ -7,7 +7,7 @@ use Rattle.std.specs.Option.{option_map}
 use Rattle.std.proofs.lemmas.Bool.{cases_Bool}
 use Rattle.std.proofs.lemmas.List.{length-append}
 use Rattle.std.proofs.lemmas.List.Elements.{All-nil}
-use Rattle.qg_device.specs.History.{Event}
+use Rattle.qg_device.specs.History.{History}
 use Rattle.qg_num.specs.declared.answer.Answer.TheVariants.{Sub}
 use Rattle.qg_num.specs.declared.command.Command.TheVariants.{SubCreate}
 use Rattle.qg_super.specs.declared.superblock.Super.{Super}
@@ -57,7 +57,7 @@ use Rattle.qg_kept.proofs.Tables.{key-listed}
 use Rattle.qg_kept_changes.proofs.Trees.{held-for}
 
 -- the number that comes next is no subvolume's
-pub number-new : (kept : Kept) (state : State) (history : Option (List Event)) (sub : ℕ) → IsFitted kept
+pub number-new : (kept : Kept) (state : State) (history : History) (sub : ℕ) → IsFitted kept
     → IsKeptOf kept state history → sub ≡ number_next kept → not (has_subvolume state sub) ≡ true
 number-new kept state history sub fits keeps comes = elim (cases_Bool (has_subvolume state sub)) [
   | inl there ↦
@@ -69,7 +69,7 @@ number-new kept state history sub fits keeps comes = elim (cases_Bool (has_subvo
 
 -- `land` and `book` are what making the leaf left; then the book stands for the tree at hand again, and the tree, its
 -- snapshot and, while quota is on, its group were put in
-module _ (old new : Kept) (land : Ground) (book : TreeRefs) (before after : Option (List Event)) (bytes left sub : ℕ)
+module _ (old new : Kept) (land : Ground) (book : TreeRefs) (before after : History) (bytes left sub : ℕ)
     (tree : Root) (fits : IsKept old before bytes) (comes : sub ≡ number_next old)
     (few : too_many_refusal old 0 ≡ None) (rests : LeavesBe old.fs.land land before after bytes left old.fs.tree.next)
     (tree_is : tree ≡ record { address = tree.address; height = 0; owner = sub; next = old.fs.tree.next })
@@ -132,11 +132,11 @@ module _ (old new : Kept) (land : Ground) (book : TreeRefs) (before after : Opti
     held_then =
         subst (λ (k : Kept). HoldsState k.fs.land before k.fs.refs next) (sym rest)
         (held-for land before book next old.fs.tree.owner
-        (subst (λ (h : Option (List Event)). HoldsState land h book next) rests.history held))
+        (subst (λ (h : History). HoldsState land h book next) rests.history held))
 
     kept_then : IsKept new before bytes
     kept_then =
-        subst (λ (h : Option (List Event)). IsKept new h bytes) rests.history
+        subst (λ (h : History). IsKept new h bytes) rests.history
         (subst (λ (n : ℕ). IsKept new after n) rests.size kept-created)
 
     less : (entry : ℕ × Subvolume) → Contains state.subvolumes entry → entry.0 < sub
@@ -238,7 +238,7 @@ module _ (old new : Kept) (land : Ground) (book : TreeRefs) (before after : Opti
         record {
           changed = next;
           changes = (ap (λ (n : ℕ). Sub n) number, subst (λ (n : ℕ). CreatesSubvolume state n next) number creates);
-          keeps = subst (λ (h : Option (List Event)). IsKeptWith new next h (other_names state)) (sym rests.history)
+          keeps = subst (λ (h : History). IsKeptWith new next h (other_names state)) (sym rests.history)
               keeps_now;
           room =
               let wide = large old fits.fitted in

@@ -4,7 +4,7 @@ use Rattle.std.specs.Prelude.{◌==◌, not}
 use Rattle.std.specs.List.{AllByRecursion, Contains}
 use Rattle.std.specs.Option.{option_map}
 use Rattle.std.proofs.lemmas.Bool.{cond-true}
-use Rattle.qg_device.specs.History.{Event}
+use Rattle.qg_device.specs.History.{History}
 use Rattle.qg_node.specs.declared.node.Node.{Node}
 use Rattle.qg_image.specs.Table.{value_at, without_key}
 use Rattle.qg_image.specs.Reach.{level_of}
@@ -30,7 +30,7 @@ use Rattle.qg_kept.proofs.Looked.{is-near, is-subvolume}
 use Rattle.qg_kept_changes.proofs.Numbers.{other-number}
 use Rattle.qg_kept_changes.proofs.Trees.{trees-are}
 
-module _ (old : Kept) (history : Option (List Event)) (bytes : ℕ) (state : State) (names : List Record)
+module _ (old : Kept) (history : History) (bytes : ℕ) (state : State) (names : List Record)
     (fits : IsKept old history bytes) (keeps : IsKeptWith old state history names) (table : IsTable old.fs.refs.refs)
     (sub : ℕ) where
   -- who stays

@@ -8,7 +8,7 @@ use Rattle.std.proofs.lemmas.List.{length-append, length-map}
 use Rattle.std.proofs.lemmas.List.Elements.{All-filter}
 use Rattle.std.proofs.lemmas.List.Filters.{length-filter_both}
 use Rattle.std.proofs.lemmas.Option.{same_Some}
-use Rattle.qg_device.specs.History.{Event}
+use Rattle.qg_device.specs.History.{History}
 use Rattle.qg_num.specs.declared.answer.Answer.TheVariants.{Done}
 use Rattle.qg_num.specs.declared.command.Command.TheVariants.{Delete}
 use Rattle.qg_node.specs.declared.node.Node.{Node}
@@ -125,7 +125,7 @@ rest-dropped old taken new land book now sub hand taken_is now_is hand_is is =
 
 -- `land` and `book` are what the drop left; then the book stands for the tree at hand again, the tree that went is no
 -- more among the others, and its number not among the snapshots
-module _ (old new : Kept) (land : Ground) (book : TreeRefs) (before after : Option (List Event)) (bytes left sub : ℕ)
+module _ (old new : Kept) (land : Ground) (book : TreeRefs) (before after : History) (bytes left sub : ℕ)
     (fits : IsKept old before bytes) (top : old.fs.tree.owner ≡ TOP_LEVEL)
     (other : sub ≡ TOP_LEVEL → ⊥) (rests : RestsButRuns old.fs.land land after old.fs.tree.next)
     (same_history : after ≡ before) (same_size : left ≡ bytes)
@@ -181,11 +181,11 @@ module _ (old new : Kept) (land : Ground) (book : TreeRefs) (before after : Opti
     held_then =
         subst (λ (k : Kept). HoldsState k.fs.land before k.fs.refs next) (sym rest)
         (held-for land before book next own
-        (subst (λ (h : Option (List Event)). HoldsState land h book next) same_history held))
+        (subst (λ (h : History). HoldsState land h book next) same_history held))
 
     kept_then : IsKept new before bytes
     kept_then =
-        subst (λ (h : Option (List Event)). IsKept new h bytes) same_history
+        subst (λ (h : History). IsKept new h bytes) same_history
         (subst (λ (n : ℕ). IsKept new after n) same_size kept-dropped)
 
     refs_are : new.fs.refs ≡ record book { tree = own }
@@ -416,7 +416,7 @@ module _ (old new : Kept) (land : Ground) (book : TreeRefs) (before after : Opti
     changed-dropped = record {
       changed = next;
       changes = (refl, refl);
-      keeps = subst (λ (h : Option (List Event)). IsKeptWith new next h (other_names state)) (sym same_history)
+      keeps = subst (λ (h : History). IsKeptWith new next h (other_names state)) (sym same_history)
           keeps_now;
       room = room-grown old new copies (nodes_reached state sub + 1) 0
           (nodes_reached state sub * capacity old.superblock.nodesize) 594 fits.fitted kept_then.fitted room superblock

@@ -4,7 +4,7 @@ use Rattle.std.specs.Prelude.{◌==◌, ◌&&◌, is_some, not}
 use Rattle.std.specs.List.{All, Contains, flat_map, list_any}
 use Rattle.std.specs.Option.{option_map}
 use Rattle.std.proofs.lemmas.Bool.{and_parts, true≢false}
-use Rattle.qg_device.specs.History.{Event}
+use Rattle.qg_device.specs.History.{History}
 use Rattle.qg_node.specs.declared.node.Node.{Node}
 use Rattle.qg_super.specs.Places.{is_slot}
 use Rattle.qg_image.specs.Below.{items_below}
@@ -66,14 +66,14 @@ layout-grown table address placed none q other there =
     sym none ∙ ap (λ (at : ℕ). value_at at table) same ∙ there in absurd cc)
     ∙ there
 
-items_by : (a b : FsTree) (history : Option (List Event)) (tree : Root)
+items_by : (a b : FsTree) (history : History) (tree : Root)
     → items_below (nodes_of a history) tree.height tree.address ≡ items_below (nodes_of b history) tree.height
     tree.address
     → items_in a history tree ≡ items_in b history tree
 items_by a b history tree same = rw same refl
 
 -- What is kept of a state
-module _ (old : Kept) (history : Option (List Event)) (bytes : ℕ) (state : State) (names : List Record)
+module _ (old : Kept) (history : History) (bytes : ℕ) (state : State) (names : List Record)
     (fits : IsKept old history bytes) (keeps : IsKeptWith old state history names) where
   -- what a tree reaches is in the layout, and told so
   pub placed-old : (tree : Root) (q : ℕ) → Contains (trees_of old.fs) tree → IsReachedBy old.fs history tree q

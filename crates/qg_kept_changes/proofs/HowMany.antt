@@ -1,7 +1,7 @@
 -- How many subvolumes and groups there are, told by what is kept.
 use Rattle.std.proofs.Common.{◌≡◌, ℕ, ◌+◌, ◌^◌, List, Option, arith, ap, ◌∙◌}
 use Rattle.std.specs.Prelude.{◌||◌, ◌&&◌, is_some, length, nat_le, nat_lt}
-use Rattle.qg_device.specs.History.{Event}
+use Rattle.qg_device.specs.History.{History}
 use Rattle.qg_num.specs.declared.refusal.Refusal.TheVariants as why
 use Rattle.qg_image.specs.declared.quota.Quota.{Quota}
 use Rattle.qg_image.specs.Members.{next_subvolume}
@@ -17,7 +17,7 @@ use Rattle.qg_kept.specs.Keeping.{IsFitted, IsKeptOf}
 use Rattle.qg_kept_changes.specs.Changing.{number_next, too_many_refusal}
 use Rattle.qg_kept.proofs.Stepped.{keys-kept, many-kept}
 
-module _ (kept : Kept) (state : State) (history : Option (List Event)) (fits : IsFitted kept)
+module _ (kept : Kept) (state : State) (history : History) (fits : IsFitted kept)
     (keeps : IsKeptOf kept state history) where
   groups_kept : groups_of state ≡ groups_in (quota_of kept.quota)
   groups_kept = groups-told state ∙ ap (λ (quota : Option Quota). groups_in quota) keeps.quota

@@ -1,10 +1,10 @@
 -- What is kept, where the last snapshot of the subvolume at hand is another one: it is kept of the state that says so.
-use Rattle.std.proofs.Common.{◌≡◌, ℕ, ◌≤◌, Bool, true, false, List, [], ◌∷◌, arith, length, map, Option, Some, refl}
+use Rattle.std.proofs.Common.{◌≡◌, ℕ, ◌≤◌, Bool, true, false, List, [], ◌∷◌, arith, length, map, Some, refl}
 use Rattle.std.proofs.Common.{sym, ap, subst, ◌∙◌}
 use Rattle.std.specs.Prelude.{◌==◌, nat_lt, if◌then◌else◌}
 use Rattle.std.specs.List.Sorted.{IsPermutation, IsStrictlyIncreasing}
 use Rattle.std.proofs.lemmas.List.{length-map}
-use Rattle.qg_device.specs.History.{Event}
+use Rattle.qg_device.specs.History.{History}
 use Rattle.qg_items.specs.declared.tree.TheConstants.{TOP_LEVEL}
 use Rattle.qg_groups.specs.Tracked.{quota_of}
 use Rattle.qg_image.specs.ItemMeaning.{is_subvolume_number}
@@ -98,7 +98,7 @@ module _ (old : Kept) (stamp : ℕ) (fits : IsFitted old) (dated : stamp ≤ old
 
 -- ---- the state
 
-module _ (old : Kept) (stamp : ℕ) (history : Option (List Event)) (bytes : ℕ) (state : State)
+module _ (old : Kept) (stamp : ℕ) (history : History) (bytes : ℕ) (state : State)
     (fits : IsKept old history bytes) (keeps : IsKeptOf old state history) (none : old.pending ≡ 0) where
   abbrev own_number : ℕ
   own_number = old.fs.tree.owner

@@ -4,7 +4,7 @@ use Rattle.std.proofs.Common.{refl, sym, ap, subst, ◌∙◌, inl, inr, arith}
 use Rattle.std.specs.Prelude.{◌↔◌, ◌&&◌, ◌||◌, ◌==◌, nat_le, not, IsTrue, Result, Ok, Err, IfOk, IsErrAnd}
 use Rattle.std.specs.List.{AllByRecursion, Contains, filter, flat_map}
 use Rattle.std.proofs.lemmas.List.Elements.{Contains-append_cases, Contains-append_left, Contains-append_right}
-use Rattle.qg_device.specs.History.{Event, content}
+use Rattle.qg_device.specs.History.{Event, Recorded, content}
 use Rattle.qg_items.specs.declared.root.RootItem.{RootItem}
 use Rattle.qg_items.specs.declared.tree.TheConstants.{TOP_LEVEL}
 use Rattle.qg_super.specs.declared.superblock.Super.{Super}
@@ -253,7 +253,7 @@ module _ (kept : Kept) (image : Image) (made : IsMadeOf kept image) (holds : Hol
     are = top.told;
   }
 
-  state_there : KeepsState kept.fs (Some events) state (mine_opened files root) files
+  state_there : KeepsState kept.fs (Recorded events) state (mine_opened files root) files
   state_there =
       opened-kept kept.fs image.superblock events root files table_there sound opened commit have_bytes is_of
 
@@ -285,7 +285,7 @@ module _ (kept : Kept) (image : Image) (made : IsMadeOf kept image) (holds : Hol
 
   -- ---- what is kept
 
-  kept_there : IsKeptOf kept state (Some events)
+  kept_there : IsKeptOf kept state (Recorded events)
   kept_there = record {
     files = files;
     mine = mine_opened files root;
@@ -304,8 +304,8 @@ module _ (kept : Kept) (image : Image) (made : IsMadeOf kept image) (holds : Hol
   }
 
   -- what is made of an image is kept of the state that it stands for
-  pub kept-opened : (stood : State) → StateOf (content events) stood → IsKeptOf kept stood (Some events)
+  pub kept-opened : (stood : State) → StateOf (content events) stood → IsKeptOf kept stood (Recorded events)
   kept-opened stood stands =
       let same = same_super image.superblock stands.super (super_of (content events)) is.chosen stands.chosen in
       let is_state = stands.stands ∙ ap (λ (super : Super). state_in super (content events)) same in
-      subst (λ (s : State). IsKeptOf kept s (Some events)) (sym is_state) kept_there
+      subst (λ (s : State). IsKeptOf kept s (Recorded events)) (sym is_state) kept_there

@@ -12,7 +12,7 @@ use Rattle.std.proofs.lemmas.List.Elements.{All-contains}
 use Rattle.std.proofs.lemmas.Map.Keys.{IsStrictlyIncreasing-from_sorted}
 use Rattle.std.proofs.lemmas.Option.{none-some}
 use Rattle.std.proofs.Math.Nat.{add-mul, mul-le-mul_left}
-use Rattle.qg_device.specs.History.{Event}
+use Rattle.qg_device.specs.History.{History}
 use Rattle.qg_num.specs.declared.answer.Answer.{Answer}
 use Rattle.qg_num.specs.declared.answer.Answer.TheVariants.{Done}
 use Rattle.qg_num.specs.declared.command.Command.{Command}
@@ -118,7 +118,7 @@ asked-so kept quota seen given found answer same asked is =
 
 -- ---- all but quota is as it was
 
-pub kept-regrouped : (mid new : Kept) (history : Option (List Event)) (bytes : ℕ) → IsKept mid history bytes
+pub kept-regrouped : (mid new : Kept) (history : History) (bytes : ℕ) → IsKept mid history bytes
     → new ≡ record mid { quota = new.quota } → IsFitted new → IsKept new history bytes
 kept-regrouped mid new history bytes fits rest fitted = record {
   fitted = fitted;
@@ -433,7 +433,7 @@ module _ (old : Kept) (given : Command) (quota : Option QuotaState) (fits : IsFi
 
     -- ---- the state
 
-    module _ (state : State) (history : Option (List Event)) (keeps : IsKeptOf old state history)
+    module _ (state : State) (history : History) (keeps : IsKeptOf old state history)
         (none : old.pending ≡ 0)
         (group : is_group_command given ≡ true) (room : HasRoom old (group_copies old given)) where
       abbrev changed : State

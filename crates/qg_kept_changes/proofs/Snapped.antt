@@ -3,7 +3,7 @@ use Rattle.std.proofs.Common.{◌≡◌, ℕ, zero, suc, ◌<◌, ◌≤◌, tru
 use Rattle.std.proofs.Common.{inr}
 use Rattle.std.specs.Prelude.{◌⊎◌, slice_get}
 use Rattle.std.proofs.lemmas.Option.{same_Some}
-use Rattle.qg_device.specs.History.{Event}
+use Rattle.qg_device.specs.History.{History}
 use Rattle.qg_node.specs.declared.node.Node.{Node}
 use Rattle.qg_node.specs.declared.node.Node.TheVariants.{Inner, Leaf}
 use Rattle.qg_node.specs.declared.pointer.Pointer.{Pointer}
@@ -82,13 +82,13 @@ copy-reach nodes generation copy address at root there here (suc level) q
       reaches,
     ))
 
-trees_alike : (fs : FsTree) (history : Option (List Event)) (a b : Root)
+trees_alike : (fs : FsTree) (history : History) (a b : Root)
     → items_below (nodes_of fs history) a.height a.address ≡ items_below (nodes_of fs history) b.height b.address
     → items_in fs history a ≡ items_in fs history b
 trees_alike fs history a b same = rw same refl
 
 -- the new tree has the files of the one that it was copied from
-pub copy-files : (fs : FsTree) (history : Option (List Event)) (super : Super) (generation copy : ℕ)
+pub copy-files : (fs : FsTree) (history : History) (super : Super) (generation copy : ℕ)
     (tree source : Root)
     (root : Node) (files : List (ℕ × File)) → is_subvolume_number copy ≡ true → 0 < generation
     → generation ≤ super.generation → tree.height ≡ source.height → nodes_of fs history source.address ≡ Some root

@@ -11,7 +11,7 @@ use Rattle.qg_node.specs.declared.node.Node.{Node}
 use Rattle.qg_node.specs.declared.node.Node.TheVariants.{Inner, Leaf}
 use Rattle.qg_node.specs.Nodes.{header_of}
 use Rattle.qg_kept.specs.Files.{HasFiles}
-use Rattle.qg_device.specs.History.{Event}
+use Rattle.qg_device.specs.History.{History}
 use Rattle.qg_num.specs.declared.answer.Answer.TheVariants.{Sub}
 use Rattle.qg_num.specs.declared.command.Command.TheVariants.{Snap}
 use Rattle.qg_super.specs.declared.sizes.Sizes.{Sizes}
@@ -100,7 +100,7 @@ rest-snapped old mid new land book now sub stamp now_is hand mid_is is =
       quota = new.quota;
     }) (now_is ∙ ap (λ (n : ℕ). record book { tree = n }) (sym hand))
 
-module _ (old new : Kept) (land : Ground) (book : TreeRefs) (before after : Option (List Event))
+module _ (old new : Kept) (land : Ground) (book : TreeRefs) (before after : History)
     (bytes left sub copy : ℕ) (parents : List ℕ) (tree : Root) (fits : IsKept old before bytes)
     (hand_is : old.fs.tree.owner ≡ sub) (comes : copy ≡ number_next old)
     (few : too_many_refusal old (length parents) ≡ None)
@@ -186,11 +186,11 @@ module _ (old new : Kept) (land : Ground) (book : TreeRefs) (before after : Opti
     held_then =
         subst (λ (k : Kept). HoldsState k.fs.land before k.fs.refs next) (sym rest)
         (held-for land before book next old.fs.tree.owner
-        (subst (λ (h : Option (List Event)). HoldsState land h book next) rests.history held))
+        (subst (λ (h : History). HoldsState land h book next) rests.history held))
 
     kept_then : IsKept new before bytes
     kept_then =
-        subst (λ (h : Option (List Event)). IsKept new h bytes) rests.history
+        subst (λ (h : History). IsKept new h bytes) rests.history
         (subst (λ (n : ℕ). IsKept new after n) rests.size kept-snapped)
 
     refs_are : new.fs.refs ≡ record book { tree = old.fs.tree.owner }
@@ -379,7 +379,7 @@ module _ (old new : Kept) (land : Ground) (book : TreeRefs) (before after : Opti
         record {
           changed = next;
           changes = (ap (λ (n : ℕ). Sub n) number, subst (λ (n : ℕ). Snapshots state sub parents n next) number snap);
-          keeps = subst (λ (h : Option (List Event)). IsKeptWith new next h (other_names state)) (sym rests.history)
+          keeps = subst (λ (h : History). IsKeptWith new next h (other_names state)) (sym rests.history)
               (subst (λ (names : List Record). IsKeptWith new next before names)
               (names_same old old.fs.tree.next before bytes state fits keeps none) keeps_now);
           room =

@@ -1,9 +1,9 @@
 -- The trees that are kept of a state are those of its subvolumes, and the book may stand for any of them.
-use Rattle.std.proofs.Common.{◌≡◌, ◌≢◌, ℕ, Bool, true, false, List, [], ◌∷◌, map, Option, refl, sym, ap, ◌∙◌, inl, inr}
+use Rattle.std.proofs.Common.{◌≡◌, ◌≢◌, ℕ, Bool, true, false, List, [], ◌∷◌, map, refl, sym, ap, ◌∙◌, inl, inr}
 use Rattle.std.specs.Prelude.{◌==◌, not, nat_lt, if◌then◌else◌}
 use Rattle.std.specs.List.{Contains, filter, flat_map}
 use Rattle.std.proofs.lemmas.Bool.{cond-false, cond-true, eq-eqb, ne_eqb}
-use Rattle.qg_device.specs.History.{Event}
+use Rattle.qg_device.specs.History.{History}
 use Rattle.qg_image.specs.Table.{keys_of, with_value, without_key}
 use Rattle.qg_image.specs.Record.{Record}
 use Rattle.qg_image.specs.Reach.{level_of}
@@ -116,7 +116,7 @@ entries_numbers (entry ∷ table) = ap (λ (numbers : List ℕ). entry.0 ∷ num
 
 -- ---- the trees of a state
 
-module _ (kept : Kept) (history : Option (List Event)) (bytes : ℕ) (state : State) (names : List Record)
+module _ (kept : Kept) (history : History) (bytes : ℕ) (state : State) (names : List Record)
     (fits : IsKept kept history bytes) (keeps : IsKeptWith kept state history names) where
   next_is : (tree : Root) → Contains (trees_of kept.fs) tree → tree.next ≡ kept.fs.tree.next
   next_is tree has = elim (contains_cases kept.fs.tree kept.fs.others.items tree has) [
@@ -177,7 +177,7 @@ module _ (kept : Kept) (history : Option (List Event)) (bytes : ℕ) (state : St
 -- ---- the book stands for another subvolume
 
 -- what is held is so whichever subvolume the book stands for
-pub held-for : (land : Ground) (history : Option (List Event)) (book : TreeRefs) (state : State) (sub : ℕ)
+pub held-for : (land : Ground) (history : History) (book : TreeRefs) (state : State) (sub : ℕ)
     → HoldsState land history book state → HoldsState land history (record book { tree = sub }) state
 held-for land history book state sub held = record {
   sizes = held.sizes;

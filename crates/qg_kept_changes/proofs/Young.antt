@@ -3,7 +3,7 @@ use Rattle.std.proofs.Common.{◌≡◌, ℕ, ◌<◌, ◌≤◌, true, List, Op
 use Rattle.std.specs.Prelude.{◌⊎◌, IsSome}
 use Rattle.std.proofs.lemmas.Bool.{ltb-true, true≢false}
 use Rattle.std.proofs.lemmas.Option.{same_Some}
-use Rattle.qg_device.specs.History.{Event}
+use Rattle.qg_device.specs.History.{History}
 use Rattle.qg_node.specs.declared.node.Node.{Node}
 use Rattle.qg_node.specs.Nodes.{header_of}
 use Rattle.qg_super.specs.declared.sizes.Sizes.{Sizes}
@@ -31,12 +31,12 @@ none-fresh : (draft : Draft) (sizes : Sizes) → draft ≡ nothing_fresh sizes �
 none-fresh draft sizes none at = ap (λ (d : Draft). fresh_at d at) none
 
 -- a fresh node is told
-pub fresh-told : (draft : Draft) (history : Option (List Event)) (at : ℕ) (node : Node) → fresh_at draft at ≡ Some node
+pub fresh-told : (draft : Draft) (history : History) (at : ℕ) (node : Node) → fresh_at draft at ≡ Some node
     → told draft history at ≡ Some node
 unfolding told
 fresh-told draft history at node fresh = ap (λ (o : Option Node). told_or o draft.sizes history at) fresh
 
-module _ (land : Ground) (history : Option (List Event)) (book : TreeRefs) (state : State)
+module _ (land : Ground) (history : History) (book : TreeRefs) (state : State)
     (held : HoldsState land history book state) (none : land.blocks.draft ≡ nothing_fresh land.blocks.draft.sizes)
     (slots : (at : ℕ) (placed : Placed) → value_at at state.layout ≡ Some placed → has_slot land.space at ≡ true) where
   -- references lead to each node of the layout
@@ -63,7 +63,7 @@ module _ (land : Ground) (history : Option (List Event)) (book : TreeRefs) (stat
       none_some (Some node) is some = absurd cc
 
   -- so a node that another land tells there as it was isn't fresh there
-  pub old-not-fresh : (new : Ground) (after : Option (List Event)) (next : ℕ) → IsDrafted new next → next ≡ book.next
+  pub old-not-fresh : (new : Ground) (after : History) (next : ℕ) → IsDrafted new next → next ≡ book.next
       → (at : ℕ) (placed : Placed) → value_at at state.layout ≡ Some placed
       → told new.blocks.draft after at ≡ Some placed.node → (node : Node)
       → fresh_at new.blocks.draft at ≡ Some node → ⊥

@@ -2,7 +2,7 @@
 use Rattle.std.specs.Prelude.{◌+◌, ◌*◌, None, ◌≡◌, ◌&&◌, ◌||◌, ℕ, ◌^◌, ◌≤◌, ◌==◌, not, List, length, Option, is_some}
 use Rattle.std.specs.Prelude.{IfSome, MatchOption, nat_le, nat_lt}
 use Rattle.std.specs.List.{filter}
-use Rattle.qg_device.specs.History.{Event}
+use Rattle.qg_device.specs.History.{History}
 use Rattle.qg_num.specs.declared.answer.Answer.{Answer}
 use Rattle.qg_num.specs.declared.command.Command.{Command}
 use Rattle.qg_num.specs.declared.command.Command.TheVariants.{QuotaOn}
@@ -68,7 +68,7 @@ without_tree number trees = filter (λ tree. not (tree.owner == number)) trees
 
 -- A structural command changed what is kept of a state in which nothing is pending. What is kept then is that of a
 -- state that the machine's change may leave, the last commit names what it named before, and a commit finds its slots
-pub record IsChanged (before : State) (given : Command) (reply : Answer) (new : Kept) (history : Option (List Event))
+pub record IsChanged (before : State) (given : Command) (reply : Answer) (new : Kept) (history : History)
     : Type 0 where
   pub changed : State
   pub changes : Changes before given reply changed

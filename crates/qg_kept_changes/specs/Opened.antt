@@ -1,12 +1,12 @@
 -- What is made of an image that was just opened (this project's own).
-use Rattle.std.specs.Prelude.{◌≡◌, ℕ, ◌+◌, ◌==◌, List, map, not, None, Option, Some}
+use Rattle.std.specs.Prelude.{◌≡◌, ℕ, ◌+◌, ◌==◌, List, map, not, None, Some}
 use Rattle.std.specs.List.{filter}
 use Rattle.qg_items.specs.declared.root.RootItem.{RootItem}
 use Rattle.qg_items.specs.declared.tree.TheConstants.{TOP_LEVEL}
 use Rattle.qg_super.specs.declared.superblock.Super.{Super}
 use Rattle.qg_image.specs.Table.{value_at}
 use Rattle.qg_blocks.specs.Held.{nothing_fresh, slots_of}
-use Rattle.qg_device.specs.History.{Event}
+use Rattle.qg_device.specs.History.{History}
 use Rattle.qg_blocks.specs.Told.{IsBacked}
 use Rattle.qg_space.specs.Holding.{Holding}
 use Rattle.qg_weighed.specs.Weight.{Books}
@@ -36,7 +36,7 @@ pub record AreTreesIn (super : Super) (roots : List (ℕ × RootItem)) (space : 
   pub others : fs.others.items
       ≡ map (tree_for (super.generation + 1)) (filter (λ entry. not (entry.0 == TOP_LEVEL)) roots)
   pub draft : fs.land.blocks.draft ≡ nothing_fresh (slots_of super.nodesize super.slots)
-  pub backed : (history : Option (List Event)) → IsBacked fs.land.blocks history
+  pub backed : (history : History) → IsBacked fs.land.blocks history
   pub space_is : fs.land.space ≡ space
   pub refs : fs.refs ≡ record {
     refs = books.refs;

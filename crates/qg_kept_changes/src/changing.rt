@@ -1,11 +1,11 @@
 // What structural commands change of what is kept, between their commits.
-ghost use Rattle.std.specs.Prelude.{◌≡◌, ◌≢◌, ◌+◌, ◌++◌, ◌∷◌, [], All, IfNone, IfOk, IfSome, IsTrue, List, None, Some};
+ghost use Rattle.std.specs.Prelude.{◌≡◌, ◌≢◌, ◌+◌, ◌++◌, ◌∷◌, [], All, IfNone, IfOk, IfSome, IsTrue, List, None};
 ghost use Rattle.std.specs.Prelude.{OnOk, length, map};
 ghost use Rattle.std.specs.List.{Contains};
 ghost use Rattle.std.specs.Option.{option_map};
 ghost use Rattle.std.specs.List.Sorted.{IsStrictlyIncreasing};
 ghost use Rattle.qg_device.specs.Cause.{HasCause};
-ghost use Rattle.qg_device.specs.History.{Event};
+ghost use Rattle.qg_device.specs.History.{Event, Recorded};
 ghost use Rattle.qg_num.specs.declared.answer.Answer.TheVariants.{Done, Sub};
 ghost use Rattle.qg_num.specs.declared.command.Command.TheVariants.{Delete, Snap, SubCreate};
 ghost use Rattle.qg_items.specs.declared.tree.TheConstants.{TOP_LEVEL as top_level};
@@ -48,7 +48,7 @@ pub fn create_change<D: Disk, L: Ledger>(
     ensures changed { (state : State) → IsKeptOf kept.old state (D.history disk.old) → kept.old.pending ≡ 0
         → IfOk result (λ done. IsChanged state SubCreate (Sub sub) kept.new (D.history disk.new)) }
     ensures sound { (state : State) (events : List Event) → IsKeptOf kept.old state (D.history disk.old)
-        → D.history disk.old ≡ Some events → BreaksNone result }
+        → D.history disk.old ≡ Recorded events → BreaksNone result }
     ensures superblock { kept.new.superblock ≡ kept.old.superblock }
     ensures apart { (D.history disk.new ≡ D.history disk.old) × (D.size disk.new ≡ D.size disk.old) }
     ensures cause { HasCause BlockFault.Disk (D.faults disk.old) (D.faults disk.new) result }
@@ -98,7 +98,7 @@ pub fn snap_change<D: Disk, L: Ledger>(
     ensures changed { (state : State) → IsKeptOf kept.old state (D.history disk.old) → kept.old.pending ≡ 0
         → IfOk result (λ done. IsChanged state (Snap sub parents.now) (Sub copy) kept.new (D.history disk.new)) }
     ensures sound { (state : State) (events : List Event) → IsKeptOf kept.old state (D.history disk.old)
-        → D.history disk.old ≡ Some events → BreaksNone result }
+        → D.history disk.old ≡ Recorded events → BreaksNone result }
     ensures superblock { kept.new.superblock ≡ kept.old.superblock }
     ensures apart { (D.history disk.new ≡ D.history disk.old) × (D.size disk.new ≡ D.size disk.old) }
     ensures cause { HasCause BlockFault.Disk (D.faults disk.old) (D.faults disk.new) result }
@@ -140,7 +140,7 @@ pub fn delete_change<D: Disk, L: Ledger>(
         → copies ≡ 18 + nodes_reached state sub
         → IfOk result (λ done. IsChanged state (Delete sub) Done kept.new (D.history disk.new)) }
     ensures sound { (state : State) (events : List Event) → IsKeptOf kept.old state (D.history disk.old)
-        → D.history disk.old ≡ Some events → BreaksNone result }
+        → D.history disk.old ≡ Recorded events → BreaksNone result }
     ensures superblock { kept.new.superblock ≡ kept.old.superblock }
     ensures apart { (D.history disk.new ≡ D.history disk.old) × (D.size disk.new ≡ D.size disk.old) }
     ensures cause { HasCause BlockFault.Disk (D.faults disk.old) (D.faults disk.new) result }

@@ -1,8 +1,8 @@
 // Quota is turned on or off, and groups, relations and limits change.
-ghost use Rattle.std.specs.Prelude.{◌≡◌, ℕ, [], IfSome, IsTrue, List, None, OnOk, Option, Some};
+ghost use Rattle.std.specs.Prelude.{◌≡◌, ℕ, [], IfSome, IsTrue, List, None, OnOk, Some};
 ghost use Rattle.std.specs.List.Sorted.{IsStrictlyIncreasing};
 ghost use Rattle.std.specs.Option.{option_map};
-ghost use Rattle.qg_device.specs.History.{Event};
+ghost use Rattle.qg_device.specs.History.{History};
 ghost use Rattle.qg_num.specs.declared.answer.Answer.TheVariants.{Done};
 ghost use Rattle.qg_image.specs.Table.{keys_of};
 ghost use Rattle.qg_image.specs.Members.{hierarchy_of};
@@ -26,7 +26,7 @@ pub fn change_groups(kept: &mut Kept, command: &Command) -> Result<(), NoMemory>
     requires room { HasRoom kept.old (group_copies kept.old command.now) }
     ensures fitted { OnOk result (IsFitted kept.new) }
     ensures rest { kept.new ≡ record kept.old { quota = kept.new.quota } }
-    ensures changed { (state : State) (history : Option (List Event)) → IsKeptOf kept.old state history
+    ensures changed { (state : State) (history : History) → IsKeptOf kept.old state history
         → kept.old.pending ≡ 0 → OnOk result (IsChanged state command.now Done kept.new history) }
 {
     let next = kept.fs.tree.next();

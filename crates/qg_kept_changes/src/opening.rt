@@ -1,7 +1,7 @@
 // What is kept of an image that was just opened.
-ghost use Rattle.std.specs.Prelude.{◌≡◌, ◌==◌, List, Option, Some, IfOk, IsTrue, map, not};
+ghost use Rattle.std.specs.Prelude.{◌≡◌, ◌==◌, List, IfOk, IsTrue, map, not};
 ghost use Rattle.std.specs.List.{filter};
-ghost use Rattle.qg_device.specs.History.{Event, content};
+ghost use Rattle.qg_device.specs.History.{Event, History, Recorded, content};
 ghost use Rattle.qg_items.specs.declared.tree.TheConstants.{TOP_LEVEL as TOP};
 ghost use Rattle.qg_super.specs.SuperText.{is_super};
 ghost use Rattle.qg_image.specs.Table.{has_key};
@@ -34,10 +34,10 @@ use std::alloc::{AllocError, Global};
 pub fn kept_of(alloc: Global, image: Image) -> Result<Kept, NoMemory>
     requires { IsEditable image }
     ensures fitted { IfOk result (λ kept. IsFitted kept) }
-    ensures backed { (history : Option (List Event)) → IfOk result (λ kept. IsBacked kept.fs.land.blocks history) }
+    ensures backed { (history : History) → IfOk result (λ kept. IsBacked kept.fs.land.blocks history) }
     ensures keeps { (events : List Event) (state : State) → IsImage (content events) image
         → StateOf (content events) state
-        → IfOk result (λ kept. IsKeptOf kept state (Some events)) }
+        → IfOk result (λ kept. IsKeptOf kept state (Recorded events)) }
     ensures superblock { IfOk result (λ kept. kept.superblock ≡ image.superblock) }
     ensures idle { IfOk result (λ kept. kept.pending ≡ 0) }
 {

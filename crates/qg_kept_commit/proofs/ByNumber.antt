@@ -1,5 +1,5 @@
 -- The trees of all subvolumes in the order of their numbers: those of the state that they are kept of.
-use Rattle.std.proofs.Common.{◌≡◌, ℕ, ◌<◌, List, [], ◌∷◌, map, length, eqb, Option, Some, refl, sym, ap}
+use Rattle.std.proofs.Common.{◌≡◌, ℕ, ◌<◌, List, [], ◌∷◌, map, length, eqb, Some, refl, sym, ap}
 use Rattle.std.proofs.Common.{subst, ◌∙◌, arith}
 use Rattle.std.specs.List.{Contains, IsDistinct, flat_map}
 use Rattle.std.specs.List.Sorted.{IsNonDecreasing, IsNonDecreasingBy, IsPermutation, IsStrictlyIncreasing}
@@ -10,7 +10,7 @@ use Rattle.std.proofs.lemmas.List.Sorted.{Contains-permutation, IsPermutation-ma
 use Rattle.std.proofs.lemmas.List.Sorted.{IsPermutation-trans}
 use Rattle.std.proofs.lemmas.Map.Keys.{IsDistinct-IsPermutation, IsStrictlyIncreasing-from_distinct}
 use Rattle.std.proofs.lemmas.Map.Made.{IsDistinct-from_AllPairs}
-use Rattle.qg_device.specs.History.{Event}
+use Rattle.qg_device.specs.History.{History}
 use Rattle.qg_image.specs.declared.file.File.{File}
 use Rattle.qg_image.specs.Table.{keys_of, value_at}
 use Rattle.qg_home.proofs.Reaching.{value_of_entry}
@@ -105,7 +105,7 @@ tree_alike a b address height owner next = λ i. let tree : Root = record {
   next = next i;
 } in tree
 
-module _ (fs : FsTree) (history : Option (List Event)) (bytes : ℕ) (state : State) (mine : Subvolume)
+module _ (fs : FsTree) (history : History) (bytes : ℕ) (state : State) (mine : Subvolume)
     (files : List (ℕ × File)) (kept : step.IsKept fs history bytes)
     (keeps : step.KeepsState fs history state mine files) where
   -- each tree is that of its subvolume
@@ -139,13 +139,13 @@ keys_copied [] = refl
 keys_copied (entry ∷ table) = ap (λ (ns : List ℕ). entry.0 ∷ ns) (keys_copied table)
 
 -- what is kept has the subvolumes' numbers
-pub keys-kept : (kept : Kept) (state : State) (history : Option (List Event)) (names : List Record)
+pub keys-kept : (kept : Kept) (state : State) (history : History) (names : List Record)
     → IsKeptWith kept state history names → keys_of kept.snapshots ≡ keys_of state.subvolumes
 keys-kept kept state history names keeps =
     ap (λ (table : List (ℕ × ℕ)). keys_of table) (sym keeps.snapshots) ∙ keys_copied state.subvolumes
 
 -- the trees in order are those of the state's subvolumes
-pub trees-are : (kept : Kept) (history : Option (List Event)) (bytes : ℕ) (state : State) (names : List Record)
+pub trees-are : (kept : Kept) (history : History) (bytes : ℕ) (state : State) (names : List Record)
     (trees : List Root) → IsKept kept history bytes → IsTable kept.fs.refs.refs
     → IsKeptWith kept state history names → IsPermutation (trees_of kept.fs) trees
     → IsNonDecreasingBy (λ tree. tree.owner) trees → trees ≡ trees_of_state state

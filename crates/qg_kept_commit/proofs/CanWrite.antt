@@ -1,9 +1,9 @@
 -- The trees of a plan can be laid out, and written with the fresh nodes; and how far a commit came that did not end.
-use Rattle.std.proofs.Common.{◌≡◌, ℕ, ◌+◌, ◌*◌, ◌≤◌, ◌^◌, List, Option, Some, inl, inr, sym, subst, ◌∙◌, arith}
+use Rattle.std.proofs.Common.{◌≡◌, ℕ, ◌+◌, ◌*◌, ◌≤◌, ◌^◌, List, Option, inl, inr, sym, subst, ◌∙◌, arith}
 use Rattle.std.specs.Prelude.{◌⊎◌, All, IfErr, IsTrue, Result}
 use Rattle.std.proofs.lemmas.List.Elements.{recursion_from_All}
 use Rattle.std.proofs.lemmas.Result.{IfErr-weaker}
-use Rattle.qg_device.specs.History.{Event}
+use Rattle.qg_device.specs.History.{Event, History, Recorded}
 use Rattle.qg_num.specs.declared.fault.BlockFault.{BlockFault}
 use Rattle.qg_node.specs.Nodes.{items_bytes}
 use Rattle.qg_items.specs.declared.root.RootItem.{RootItem}
@@ -136,20 +136,20 @@ module _ (kept : Kept) (plan : Plan) (sizes : Sizes) (next : ℕ) (told : Told) 
       (λ i. IsLaying (tells.sizes_are i) (tells.next_is i) (tells.roots i) (tells.book i) (tells.quota i)
       (tells.slots_are i) kept.fs.land.blocks.draft trees) laid
 
-  so-far : (events : List Event) (history : Option (List Event))
+  so-far : (events : List Event) (history : History)
       → StopsLaying sizes next told slots kept.fs.land.blocks.draft events history
-      → (history ≡ Some events) ⊎ LaysSoFar kept plan events history
+      → (history ≡ Recorded events) ⊎ LaysSoFar kept plan events history
   so-far events history (inl nothing) = inl nothing
   so-far events history (inr some) =
       inr (record { trees = some.trees; laid = laying-so some.trees some.is; made = some.made })
 
 -- so it is of a commit that did not end
 pub stops-so : (kept : Kept) (plan : Plan) (sizes : Sizes) (next : ℕ) (told : Told) (slots : List ℕ)
-    (events : List Event) (history : Option (List Event)) (result : Result OtherTrees BlockFault)
+    (events : List Event) (history : History) (result : Result OtherTrees BlockFault)
     → IfErr result (λ fault. StopsLaying sizes next told slots kept.fs.land.blocks.draft events history)
     → TellsPlan kept plan sizes next told slots
-    → IfErr result (λ fault. (history ≡ Some events) ⊎ LaysSoFar kept plan events history)
+    → IfErr result (λ fault. (history ≡ Recorded events) ⊎ LaysSoFar kept plan events history)
 stops-so kept plan sizes next told slots events history result stops tells =
     IfErr-weaker result (λ fault. StopsLaying sizes next told slots kept.fs.land.blocks.draft events history)
-    (λ fault. (history ≡ Some events) ⊎ LaysSoFar kept plan events history)
+    (λ fault. (history ≡ Recorded events) ⊎ LaysSoFar kept plan events history)
     (λ fault so. so-far kept plan sizes next told slots tells events history so) stops

@@ -1,8 +1,8 @@
 -- What is kept, with other clean nodes in memory: it is kept of the same state, and so is what a survey leaves.
-use Rattle.std.proofs.Common.{◌≡◌, ℕ, List, Option, refl, sym, ap, subst}
+use Rattle.std.proofs.Common.{◌≡◌, ℕ, List, refl, sym, ap, subst}
 use Rattle.std.specs.List.{flat_map}
 use Rattle.std.proofs.lemmas.List.Sorted.{IsPermutation-refl}
-use Rattle.qg_device.specs.History.{Event}
+use Rattle.qg_device.specs.History.{History}
 use Rattle.qg_node.specs.declared.node.Node.{Node}
 use Rattle.qg_image.specs.Record.{Record}
 use Rattle.qg_image.specs.State.{State}
@@ -36,7 +36,7 @@ blocks_same : (old new : Held) → new.draft ≡ old.draft → new.bound ≡ old
     → new ≡ record old { clean = new.clean }
 blocks_same old new draft bound = λ i. record new { draft = draft i; bound = bound i }
 
-keeps_clean : (kept : Kept) (clean : List (ℕ × Node)) (history : Option (List Event)) (state : State)
+keeps_clean : (kept : Kept) (clean : List (ℕ × Node)) (history : History) (state : State)
     (names : List Record) → IsKeptWith kept state history names
     → IsKeptWith (with_blocks kept (record kept.fs.land.blocks { clean = clean })) state history names
 keeps_clean kept clean history state names keeps = record {
@@ -56,7 +56,7 @@ keeps_clean kept clean history state names keeps = record {
   idle = keeps.idle;
 }
 
-pub keeps-cleaned : (kept : Kept) (blocks : Held) (history : Option (List Event)) (state : State)
+pub keeps-cleaned : (kept : Kept) (blocks : Held) (history : History) (state : State)
     (names : List Record) → blocks.draft ≡ kept.fs.land.blocks.draft → blocks.bound ≡ kept.fs.land.blocks.bound
     → IsKeptWith kept state history names → IsKeptWith (with_blocks kept blocks) state history names
 keeps-cleaned kept blocks history state names draft bound keeps =
@@ -66,7 +66,7 @@ keeps-cleaned kept blocks history state names draft bound keeps =
 
 -- ---- a survey
 
-module _ (old new : Kept) (before after : Option (List Event)) (bytes left : ℕ)
+module _ (old new : Kept) (before after : History) (bytes left : ℕ)
     (surveyed : HasSurveyed old new before after bytes left) where
   -- it has only looked
   same_nodes : SameButClean old (with_blocks old new.fs.land.blocks)
@@ -87,7 +87,7 @@ module _ (old new : Kept) (before after : Option (List Event)) (bytes left : ℕ
   pub surveyed-keeps : (state : State) (names : List Record) → IsKeptWith old state before names
       → IsKeptWith new state after names
   surveyed-keeps state names keeps =
-      subst (λ (history : Option (List Event)). IsKeptWith new state history names) (sym surveyed.read.history)
+      subst (λ (history : History). IsKeptWith new state history names) (sym surveyed.read.history)
       (subst (λ (kept : Kept). IsKeptWith kept state before names) (sym surveyed.rest)
       (keeps-cleaned old new.fs.land.blocks before state names surveyed.read.draft surveyed.read.bound keeps))
 
@@ -99,7 +99,7 @@ with_land kept land = record kept { fs = record kept.fs { land = land } }
 land_same : (old new : Ground) → new.space ≡ old.space → new ≡ record old { blocks = new.blocks }
 land_same old new space = λ i. record new { space = space i }
 
-module _ (kept : Kept) (land : Ground) (before after : Option (List Event)) (bytes left next : ℕ)
+module _ (kept : Kept) (land : Ground) (before after : History) (bytes left next : ℕ)
     (read : HasRead kept.fs.land.blocks land.blocks before after bytes left)
     (space : land.space ≡ kept.fs.land.space) where
   pub surveyed-there : HasSurveyed kept (with_land kept land) before after bytes left
@@ -116,13 +116,13 @@ module _ (kept : Kept) (land : Ground) (before after : Option (List Event)) (byt
       }))
 
 -- where nothing was read, nothing was done
-pub nothing-surveyed : (kept : Kept) (history : Option (List Event)) (bytes : ℕ)
+pub nothing-surveyed : (kept : Kept) (history : History) (bytes : ℕ)
     → HasSurveyed kept kept history history bytes bytes
 nothing-surveyed kept history bytes =
     record { rest = refl; read = record { draft = refl; bound = refl; history = refl; size = refl } }
 
 -- and nothing was looked at
-pub looked-nothing : (kept : Kept) (history : Option (List Event)) (bytes : ℕ)
+pub looked-nothing : (kept : Kept) (history : History) (bytes : ℕ)
     → HasLooked kept kept history history bytes bytes
 looked-nothing kept history bytes = record {
   same = record { rest = refl; trees = IsPermutation-refl (trees_of kept.fs) };
@@ -132,7 +132,7 @@ looked-nothing kept history bytes = record {
 
 -- ---- what is held of a state
 
-pub tree-now : (kept : Kept) (history : Option (List Event)) (bytes : ℕ) → IsKept kept history bytes
+pub tree-now : (kept : Kept) (history : History) (bytes : ℕ) → IsKept kept history bytes
     → IsTable kept.fs.refs.refs → step.IsKept kept.fs history bytes
 tree-now kept history bytes fits table = record {
   subvolume = is-subvolume kept history bytes fits;
@@ -140,7 +140,7 @@ tree-now kept history bytes fits table = record {
   near = is-near kept fits.fitted;
 }
 
-pub held-now : (kept : Kept) (history : Option (List Event)) (bytes : ℕ) (state : State) (names : List Record)
+pub held-now : (kept : Kept) (history : History) (bytes : ℕ) (state : State) (names : List Record)
     → IsKept kept history bytes → IsTable kept.fs.refs.refs → IsKeptWith kept state history names
     → HoldsState kept.fs.land history kept.fs.refs state
 held-now kept history bytes state names fits table keeps =

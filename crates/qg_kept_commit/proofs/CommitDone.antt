@@ -6,7 +6,7 @@ use Rattle.std.specs.Prelude.{◌==◌, All}
 use Rattle.std.specs.List.{flat_map}
 use Rattle.std.specs.Option.{option_map}
 use Rattle.std.proofs.lemmas.List.Elements.{Contains-get_or}
-use Rattle.qg_device.specs.History.{Event, content}
+use Rattle.qg_device.specs.History.{Event, History, Recorded, content}
 use Rattle.qg_node.specs.declared.node.Node.{Node}
 use Rattle.qg_node.specs.Nodes.{header_of}
 use Rattle.qg_node.specs.NodeText.{IsNode}
@@ -21,7 +21,8 @@ use Rattle.qg_machine.specs.Step.{Commits}
 use Rattle.qg_contents.specs.Written.{items_of_file}
 use Rattle.qg_blocks.specs.Held.{Draft, nothing_fresh}
 use Rattle.qg_crashes.specs.Slots.{IsInSlot}
-use Rattle.qg_kept.specs.Calls.{MadeFront, commit_calls}
+use Rattle.qg_super.specs.declared.superblock.Super.{Super}
+use Rattle.qg_kept.specs.Calls.{Call, MadeFront}
 use Rattle.qg_kept.specs.Named.{named}
 use Rattle.qg_descent.specs.Tree.{Root}
 use Rattle.qg_kept.specs.StandingCommitting.{StandsStill}
@@ -41,7 +42,7 @@ use Rattle.qg_kept_commit.specs.declared.planning.Plan.{Plan}
 use Rattle.qg_kept_commit.specs.Committing.{IsLaidBy, KeepsCommit}
 use Rattle.qg_kept.specs.Keeping.{IsKept, IsKeptOf, IsKeptWith}
 use Rattle.qg_kept.specs.Making.{BringsTo}
-use Rattle.qg_kept_commit.specs.Planning.{CommitsOn, IsPlanTold, StartsCommitOf}
+use Rattle.qg_kept_commit.specs.Planning.{CommitsOn, IsPlanTold, CommitsOfSoFar}
 use Rattle.qg_kept_commit.proofs.ByNumber.{keys-kept}
 use Rattle.qg_kept_commit.proofs.Cleaned.{tree-now}
 use Rattle.qg_kept.proofs.Settled.{settled-holds}
@@ -62,7 +63,8 @@ copied_value n (entry ∷ table) = from (entry.0 == n) (copied_value n table) wh
   from false rest = rest
 
 module _ (old : Kept) (plan : Plan) (trees : OtherTrees) (events : List Event) (bytes : ℕ) (state : State)
-    (names : List Record) (fits : IsKept old (Some events) bytes) (keeps : IsKeptWith old state (Some events) names)
+    (names : List Record) (fits : IsKept old (Recorded events) bytes)
+    (keeps : IsKeptWith old state (Recorded events) names)
     (so : IsPlanTold state old plan) (laid : IsLaidBy old plan trees)
     (long : total_bytes old.fs.land.space.sizes ≤ length (content events)) where
   -- ---- what it tells of the state
@@ -83,7 +85,7 @@ module _ (old : Kept) (plan : Plan) (trees : OtherTrees) (events : List Event) (
 
   roots-are : AreRootsNow old.fs state plan.roots
   roots-are = record {
-    numbers = so.is.roots.numbers ∙ keys-kept old state (Some events) names keeps;
+    numbers = so.is.roots.numbers ∙ keys-kept old state (Recorded events) names keeps;
     each = λ tree subvolume root among there named_so.
         so.is.roots.each tree subvolume.last_snapshot root among (snapshot_there tree subvolume there) named_so;
   }
@@ -98,7 +100,7 @@ module _ (old : Kept) (plan : Plan) (trees : OtherTrees) (events : List Event) (
 
   lays : LaysTree old.fs events bytes state keeps.mine keeps.files plan.roots so.counters plan.slots trees
   lays = record {
-    kept = tree-now old (Some events) bytes fits so.is.table;
+    kept = tree-now old (Recorded events) bytes fits so.is.table;
     keeps = keeps.keeps;
     order = so.is.order;
     short = keeps.short;
@@ -150,10 +152,10 @@ module _ (old : Kept) (plan : Plan) (trees : OtherTrees) (events : List Event) (
   }
 
   -- its calls came so far
-  pub starts : (history : Option (List Event))
-      → MadeFront (commit_calls trees.superblock (nodes_written old.fs.land.blocks.draft trees)) events history
-      → StartsCommitOf state events history
-  starts history made = record {
+  pub comes-so-far : (calls : Super → List Node → List Call) (history : History)
+      → MadeFront (calls trees.superblock (nodes_written old.fs.land.blocks.draft trees)) events history
+      → CommitsOfSoFar calls state events history
+  comes-so-far calls history made = record {
     new = state_now;
     commits = commits;
     super = trees.superblock;
@@ -165,13 +167,13 @@ module _ (old : Kept) (plan : Plan) (trees : OtherTrees) (events : List Event) (
   -- ---- what is left
 
   module _ (new : Kept) (later : List Event) (becomes : KeepsCommit old plan trees new)
-      (still : StandsStill old.fs new.fs (Some events) (Some later) (flat_map items_of_file keeps.files)
+      (still : StandsStill old.fs new.fs (Recorded events) (Recorded later) (flat_map items_of_file keeps.files)
       (named keeps.files)) where
-    kept-now : kept_by.KeepsCommit new.fs (Some later) state_now keeps.mine keeps.files
+    kept-now : kept_by.KeepsCommit new.fs (Recorded later) state_now keeps.mine keeps.files
     kept-now = commit-kept old.fs new.fs events later bytes state keeps.mine keeps.files plan.roots so.counters
         plan.slots trees sound.is.others lays sound.is.told becomes.fs still
 
-    keeps-now : IsKeptOf new state_now (Some later)
+    keeps-now : IsKeptOf new state_now (Recorded later)
     keeps-now = record {
       files = keeps.files;
       mine = keeps.mine;
@@ -189,8 +191,8 @@ module _ (old : Kept) (plan : Plan) (trees : OtherTrees) (events : List Event) (
     }
 
     -- what was done, where the disk was given the calls
-    pub commits-on : Some later ≡ Some (with_tree_commit old.fs trees events)
-        → CommitsOn state new events (Some later)
+    pub commits-on : Recorded later ≡ Recorded (with_tree_commit old.fs trees events)
+        → CommitsOn state new events (Recorded later)
     commits-on told = record {
       new = state_now;
       commits = commits;

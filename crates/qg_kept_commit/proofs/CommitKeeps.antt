@@ -1,11 +1,10 @@
 -- What a commit leaves over any disk: what is kept fits together still, and clean nodes are the disk's. All in bytes.
-use Rattle.std.proofs.Common.{◌≡◌, ℕ, ◌+◌, ◌*◌, ◌≤◌, List, [], ◌∷◌, length, map, Option, Some, refl, sym, ap, subst}
+use Rattle.std.proofs.Common.{◌≡◌, ℕ, ◌+◌, ◌*◌, ◌≤◌, List, [], ◌∷◌, length, map, Option, refl, sym, ap, subst}
 use Rattle.std.proofs.Common.{◌∙◌, arith}
 use Rattle.std.specs.Prelude.{All, IsTrue}
 use Rattle.std.specs.List.{Contains}
 use Rattle.std.specs.List.Sorted.{IsPermutation, IsStrictlyIncreasing}
-use Rattle.std.specs.Option.{option_map}
-use Rattle.qg_device.specs.History.{Event, content}
+use Rattle.qg_device.specs.History.{Event, History, Recorded, history_after, content}
 use Rattle.qg_num.specs.declared.counters.Counters.{Counters}
 use Rattle.qg_super.specs.declared.sizes.Sizes.{Sizes}
 use Rattle.qg_super.specs.declared.superblock.Super.{Super}
@@ -78,11 +77,11 @@ module _ (kept : Kept) (plan : Plan) (trees : OtherTrees) (fits : IsFitted kept)
       kept.fs.land.blocks.draft trees) (sym fits.sizes) laid
 
   -- once the calls were made, fresh nodes are the disk's, and clean ones are
-  pub flushed : (before : Option (List Event)) (bytes : ℕ) → IsKept kept before bytes → IsPlanSo kept plan
+  pub flushed : (before : History) (bytes : ℕ) → IsKept kept before bytes → IsPlanSo kept plan
       → AreForgotten kept.fs.land.blocks plan.slots
       → All (IsReadBack kept.superblock.nodesize) (fresh_nodes kept.fs.land.blocks.draft)
-      → ((events : List Event) → before ≡ Some events → bytes ≡ length (content events))
-      → IsFlushed kept.fs.land before (option_map (with_tree_commit kept.fs trees) before)
+      → ((events : List Event) → before ≡ Recorded events → bytes ≡ length (content events))
+      → IsFlushed kept.fs.land before (history_after (with_tree_commit kept.fs trees) before)
   flushed before bytes whole is gone read sized =
       is-flushed kept.fs plan.roots kept.fs.refs.refs plan.quota kept.fs.tree.next plan.slots trees laying-there
       fits.drafted is.is.free
@@ -102,7 +101,7 @@ module _ (kept : Kept) (plan : Plan) (trees : OtherTrees) (fits : IsFitted kept)
   generation-told : trees.superblock.generation ≡ kept.fs.tree.next
   generation-told = ap (λ (super : Super). super.generation) laid.laid.leads
 
-  module _ (new : Kept) (after : Option (List Event)) (left : ℕ) (is : IsPlanSo kept plan)
+  module _ (new : Kept) (after : History) (left : ℕ) (is : IsPlanSo kept plan)
       (becomes : KeepsCommit kept plan trees new) (subvolume : IsSubvolume new.fs after left) (turn : CanTurn new.fs)
     where
       generation-now : new.superblock.generation ≡ kept.fs.tree.next

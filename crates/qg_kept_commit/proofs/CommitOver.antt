@@ -1,13 +1,14 @@
 -- A commit over any disk and over one that tells, from the slots that are forgotten to what is kept then. All in bytes.
-use Rattle.std.proofs.Common.{◌≡◌, ℕ, ◌≤◌, List, length, Option, Some, None, inl, inr, refl, sym, ap, subst}
+use Rattle.std.proofs.Common.{◌≡◌, ℕ, ◌≤◌, List, length, None, inl, inr, refl, sym, ap, subst}
 use Rattle.std.proofs.Common.{◌∙◌, arith}
 use Rattle.std.specs.Prelude.{◌⊎◌, All}
 use Rattle.std.specs.List.{flat_map}
-use Rattle.std.specs.Option.{option_map}
-use Rattle.qg_device.specs.History.{Event, content}
+use Rattle.qg_device.specs.History.{Event, History, Recorded, history_after, content}
 use Rattle.qg_num.specs.declared.piece.Piece.{Piece}
 use Rattle.qg_node.specs.declared.item.Item.{Item}
+use Rattle.qg_node.specs.declared.node.Node.{Node}
 use Rattle.qg_super.specs.declared.sizes.Sizes.{Sizes}
+use Rattle.qg_super.specs.declared.superblock.Super.{Super}
 use Rattle.qg_super.specs.Places.{total_bytes}
 use Rattle.qg_super.specs.SuperText.{sizes_of}
 use Rattle.qg_image.specs.Record.{Record}
@@ -17,11 +18,11 @@ use Rattle.qg_blocks.specs.Held.{Held}
 use Rattle.qg_blocks.specs.Told.{IsBacked, fresh_at}
 use Rattle.qg_blocks.specs.Writing.{AreWritten}
 use Rattle.qg_ground.proofs.Settling.{fresh-free}
-use Rattle.qg_kept.specs.Calls.{IsReadBack}
+use Rattle.qg_kept.specs.Calls.{IsReadBack, commit_calls, unsure_calls, with_commit}
 use Rattle.qg_kept.specs.Named.{named}
 use Rattle.qg_kept.specs.Standing.{CanTurn, IsSubvolume, Stands}
 use Rattle.qg_kept.specs.StandingCommitting.{StandsStill, WritesTree}
-use Rattle.qg_kept.specs.Types.{OtherTrees}
+use Rattle.qg_kept.specs.Types.{FsTree, OtherTrees}
 use Rattle.qg_kept.specs.Holds.{AreForgotten, AreFree, IsFlushed, with_tree_commit}
 use Rattle.qg_kept.specs.Writing.{fresh_nodes, nodes_written}
 use Rattle.qg_kept.specs.declared.kept.Kept.{Kept}
@@ -29,8 +30,9 @@ use Rattle.qg_kept_commit.specs.declared.planning.Plan.{Plan}
 use Rattle.qg_kept_commit.specs.Committing.{IsLaidBy, KeepsCommit, LaysSoFar}
 use Rattle.qg_kept.specs.Keeping.{IsFitted, IsKept, IsKeptWith}
 use Rattle.qg_kept_commit.specs.Planning.{CommitsOn, HasSurveyed, IsPlanSo, IsPlanTold, LeavesRoom, StartsCommitOf}
+use Rattle.qg_kept_commit.specs.Planning.{StopsCommitOf}
 use Rattle.qg_kept_commit.proofs.Cleaned.{keeps-cleaned}
-use Rattle.qg_kept_commit.proofs.CommitDone.{commits-on, starts}
+use Rattle.qg_kept_commit.proofs.CommitDone.{comes-so-far, commits-on}
 use Rattle.qg_kept_commit.proofs.CommitKeeps.{flushed, kept-now, plan-still, told-still}
 use Rattle.qg_kept_commit.proofs.Commits.{all-made}
 use Rattle.qg_kept_commit.proofs.LeftRoom.{leaves-room}
@@ -47,7 +49,7 @@ unfresh kept slots given same fits are =
 
 module _ (old : Kept) (blocks : Held) (same : blocks ≡ record old.fs.land.blocks { clean = blocks.clean }) where
   -- what is kept fits together then
-  pub kept-forgotten : (history : Option (List Event)) (bytes : ℕ) → IsKept old history bytes → IsBacked blocks history
+  pub kept-forgotten : (history : History) (bytes : ℕ) → IsKept old history bytes → IsBacked blocks history
       → IsKept (with_blocks old blocks) history bytes
   kept-forgotten history bytes fits backed = record {
     fitted = fitted-blocks old blocks (ap (λ (held : Held). held.draft) same) fits.fitted;
@@ -56,7 +58,7 @@ module _ (old : Kept) (blocks : Held) (same : blocks ≡ record old.fs.land.bloc
   }
 
   -- and is kept of the same state
-  pub keeps-forgotten : (history : Option (List Event)) (state : State) (names : List Record)
+  pub keeps-forgotten : (history : History) (state : State) (names : List Record)
       → IsKeptWith old state history names → IsKeptWith (with_blocks old blocks) state history names
   keeps-forgotten history state names keeps =
       keeps-cleaned old blocks history state names (ap (λ (held : Held). held.draft) same)
@@ -64,7 +66,7 @@ module _ (old : Kept) (blocks : Held) (same : blocks ≡ record old.fs.land.bloc
 
 -- ---- what the disk was given
 
-long-told : (kept : Kept) (events : List Event) (bytes : ℕ) → IsKept kept (Some events) bytes
+long-told : (kept : Kept) (events : List Event) (bytes : ℕ) → IsKept kept (Recorded events) bytes
     → bytes ≡ length (content events) → total_bytes kept.fs.land.space.sizes ≤ length (content events)
 long-told kept events bytes fits sized =
     subst (λ (sizes : Sizes). total_bytes sizes ≤ length (content events)) (sym fits.fitted.sizes)
@@ -72,33 +74,33 @@ long-told kept events bytes fits sized =
 
 -- what a commit does where it doesn't end
 module _ (kept : Kept) (plan : Plan) (events : List Event) (bytes : ℕ) (state : State) (names : List Record)
-    (fits : IsKept kept (Some events) bytes) (keeps : IsKeptWith kept state (Some events) names)
+    (fits : IsKept kept (Recorded events) bytes) (keeps : IsKeptWith kept state (Recorded events) names)
     (so : IsPlanTold state kept plan) (sized : bytes ≡ length (content events)) where
-  stopped-there : (after : Option (List Event)) → (after ≡ Some events) ⊎ LaysSoFar kept plan events after
-      → (after ≡ Some events) ⊎ StartsCommitOf state events after
+  stopped-there : (after : History) → (after ≡ Recorded events) ⊎ LaysSoFar kept plan events after
+      → (after ≡ Recorded events) ⊎ StopsCommitOf state events after
   stopped-there after (inl nothing) = inl nothing
   stopped-there after (inr far) =
-      inr (starts kept plan far.trees events bytes state names fits keeps so far.laid
-      (long-told kept events bytes fits sized) after far.made)
+      inr (comes-so-far kept plan far.trees events bytes state names fits keeps so far.laid
+      (long-told kept events bytes fits sized) unsure_calls after far.made)
 
 -- the same before the slots were forgotten
-pub stopped-so : (old : Kept) (blocks : Held) (plan : Plan) (events : List Event) (before after : Option (List Event))
+pub stopped-so : (old : Kept) (blocks : Held) (plan : Plan) (events : List Event) (before after : History)
     (bytes : ℕ) (state : State) (names : List Record) → blocks ≡ record old.fs.land.blocks { clean = blocks.clean }
     → IsKept old before bytes → IsBacked blocks before → IsKeptWith old state before names
-    → IsPlanTold state old plan → before ≡ Some events → bytes ≡ length (content events)
-    → (after ≡ Some events) ⊎ LaysSoFar (with_blocks old blocks) plan events after
-    → (after ≡ Some events) ⊎ StartsCommitOf state events after
+    → IsPlanTold state old plan → before ≡ Recorded events → bytes ≡ length (content events)
+    → (after ≡ Recorded events) ⊎ LaysSoFar (with_blocks old blocks) plan events after
+    → (after ≡ Recorded events) ⊎ StopsCommitOf state events after
 stopped-so old blocks plan events before after bytes state names same fits backed keeps so told sized far =
     let there = kept-forgotten old blocks same before bytes fits backed in
     let of_state = keeps-forgotten old blocks same before state names keeps in
     stopped-there (with_blocks old blocks) plan events bytes state names
-    (subst (λ (history : Option (List Event)). IsKept (with_blocks old blocks) history bytes) told there)
-    (subst (λ (history : Option (List Event)). IsKeptWith (with_blocks old blocks) state history names) told of_state)
+    (subst (λ (history : History). IsKept (with_blocks old blocks) history bytes) told there)
+    (subst (λ (history : History). IsKeptWith (with_blocks old blocks) state history names) told of_state)
     (told-still state old blocks plan so) sized after far
 
 -- The trees of a plan were laid out once the slots were forgotten, and the disk was given the calls, where it tells
 pub record GivesTrees (old : Kept) (blocks : Held) (plan : Plan) (trees : OtherTrees) (slots : List ℕ)
-    (before after : Option (List Event)) (bytes : ℕ) : Type 0 where
+    (before after : History) (bytes : ℕ) : Type 0 where
   pub same : blocks ≡ record old.fs.land.blocks { clean = blocks.clean }
   pub fits : IsKept old before bytes
   pub backed : IsBacked blocks before
@@ -107,11 +109,11 @@ pub record GivesTrees (old : Kept) (blocks : Held) (plan : Plan) (trees : OtherT
   pub gone : AreForgotten blocks slots
   pub laid : IsLaidBy (with_blocks old blocks) plan trees
   pub read : All (IsReadBack old.superblock.nodesize) (fresh_nodes blocks.draft)
-  pub sized : (events : List Event) → before ≡ Some events → bytes ≡ length (content events)
-  pub calls : after ≡ option_map (with_tree_commit (with_blocks old blocks).fs trees) before
+  pub sized : (events : List Event) → before ≡ Recorded events → bytes ≡ length (content events)
+  pub calls : after ≡ history_after (with_tree_commit (with_blocks old blocks).fs trees) before
 
 module _ (old : Kept) (blocks : Held) (plan : Plan) (trees : OtherTrees) (slots : List ℕ)
-    (before after : Option (List Event)) (bytes : ℕ)
+    (before after : History) (bytes : ℕ)
     (gives : GivesTrees old blocks plan trees slots before after bytes) where
   abbrev there : Kept
   there = with_blocks old blocks
@@ -127,7 +129,7 @@ module _ (old : Kept) (blocks : Held) (plan : Plan) (trees : OtherTrees) (slots 
 
   flushed-there : IsFlushed there.fs.land before after
   flushed-there =
-      subst (λ (history : Option (List Event)). IsFlushed there.fs.land before history) (sym gives.calls)
+      subst (λ (history : History). IsFlushed there.fs.land before history) (sym gives.calls)
       (flushed there plan trees fits-there.fitted gives.laid before bytes fits-there plan-there gone-there gives.read
       gives.sized)
 
@@ -140,7 +142,7 @@ module _ (old : Kept) (blocks : Held) (plan : Plan) (trees : OtherTrees) (slots 
 
   -- what is kept then fits together
   pub kept-then : (new : Kept) (left : ℕ) → KeepsCommit there plan trees new → bytes ≤ left
-      → ((before : Option (List Event)) (bytes : ℕ) → IsSubvolume there.fs before bytes → bytes ≤ left
+      → ((before : History) (bytes : ℕ) → IsSubvolume there.fs before bytes → bytes ≤ left
       → IsSubvolume new.fs after left) → CanTurn new.fs → IsKept new after left
   kept-then new left becomes more subvolume turn =
       let of_tree = subvolume before bytes (is-subvolume there before bytes fits-there) more in
@@ -164,21 +166,21 @@ module _ (old : Kept) (blocks : Held) (plan : Plan) (trees : OtherTrees) (slots 
         free = left.free;
       }
 
-  module _ (events : List Event) (told : before ≡ Some events) (state : State) (names : List Record)
+  module _ (events : List Event) (told : before ≡ Recorded events) (state : State) (names : List Record)
       (keeps : IsKeptWith old state before names) (so : IsPlanTold state old plan) where
-    fits-told : IsKept there (Some events) bytes
-    fits-told = subst (λ (history : Option (List Event)). IsKept there history bytes) told fits-there
+    fits-told : IsKept there (Recorded events) bytes
+    fits-told = subst (λ (history : History). IsKept there history bytes) told fits-there
 
-    keeps-told : IsKeptWith there state (Some events) names
+    keeps-told : IsKeptWith there state (Recorded events) names
     keeps-told =
-        subst (λ (history : Option (List Event)). IsKeptWith there state history names) told
+        subst (λ (history : History). IsKeptWith there state history names) told
         (keeps-forgotten old blocks gives.same before state names keeps)
 
     so-told : IsPlanTold state there plan
     so-told = told-still state old blocks plan so
 
-    after-told : after ≡ Some (with_tree_commit there.fs trees events)
-    after-told = gives.calls ∙ ap (option_map (with_tree_commit there.fs trees)) told
+    after-told : after ≡ Recorded (with_tree_commit there.fs trees events)
+    after-told = gives.calls ∙ ap (history_after (with_tree_commit there.fs trees)) told
 
     long-there : total_bytes old.fs.land.space.sizes ≤ length (content events)
     long-there = long-told there events bytes fits-told (gives.sized events told)
@@ -186,35 +188,37 @@ module _ (old : Kept) (blocks : Held) (plan : Plan) (trees : OtherTrees) (slots 
     -- all calls came
     pub started : StartsCommitOf state events after
     started =
-        subst (λ (history : Option (List Event)). StartsCommitOf state events history) (sym after-told)
-        (starts there plan trees events bytes state names fits-told keeps-told so-told gives.laid long-there
-        (Some (with_tree_commit there.fs trees events))
+        subst (λ (history : History). StartsCommitOf state events history) (sym after-told)
+        (comes-so-far there plan trees events bytes state names fits-told keeps-told so-told gives.laid long-there
+        commit_calls (Recorded (with_tree_commit there.fs trees events))
         (all-made trees.superblock (nodes_written blocks.draft trees) events))
 
-    writes-told : WritesTree there.fs (Some events) after
+    writes-told : WritesTree there.fs (Recorded events) after
     writes-told =
-        let whole = subst (λ (history : Option (List Event)). IsFlushed there.fs.land history after) told
+        let whole = subst (λ (history : History). IsFlushed there.fs.land history after) told
         flushed-there in
         record { fresh = whole.written; held = whole.held }
 
     -- what was done
     pub committed-on : (new : Kept) → KeepsCommit there plan trees new
-        → ((items : List Item) (names : List (ℕ × Piece)) → IsSubvolume there.fs (Some events) bytes
-        → Stands there.fs (Some events) items names → WritesTree there.fs (Some events) after → (later : List Event)
-        → after ≡ Some later → StandsStill there.fs new.fs (Some events) after items names)
+        → ((items : List Item) (names : List (ℕ × Piece)) → IsSubvolume there.fs (Recorded events) bytes
+        → Stands there.fs (Recorded events) items names → WritesTree there.fs (Recorded events) after
+        → (later : List Event)
+        → after ≡ Recorded later → StandsStill there.fs new.fs (Recorded events) after items names)
         → CommitsOn state new events after
     committed-on new becomes stands =
         let later = with_tree_commit there.fs trees events in
         let still = stands (flat_map items_of_file keeps-told.files) (named keeps-told.files)
-        (is-subvolume there (Some events) bytes fits-told) keeps-told.keeps.holds.stands writes-told later after-told in
-        let still_told = subst (λ (history : Option (List Event)). StandsStill there.fs new.fs (Some events) history
+        (is-subvolume there (Recorded events) bytes fits-told) keeps-told.keeps.holds.stands writes-told later
+        after-told in
+        let still_told = subst (λ (history : History). StandsStill there.fs new.fs (Recorded events) history
         (flat_map items_of_file keeps-told.files) (named keeps-told.files)) after-told still in
-        subst (λ (history : Option (List Event)). CommitsOn state new events history) (sym after-told)
+        subst (λ (history : History). CommitsOn state new events history) (sym after-told)
         (commits-on there plan trees events bytes state names fits-told keeps-told so-told gives.laid long-there new
         later becomes still_told refl)
 
 -- where nodes were surveyed before, there is the same room
-pub room-back : (old mid new : Kept) (before then : Option (List Event)) (bytes between : ℕ)
+pub room-back : (old mid new : Kept) (before then : History) (bytes between : ℕ)
     → HasSurveyed old mid before then bytes between → LeavesRoom mid new → LeavesRoom old new
 room-back old mid new before then bytes between surveyed leaves =
     let left = subst (λ (kept : Kept). LeavesRoom kept new) surveyed.rest leaves in
@@ -229,3 +233,14 @@ room-back old mid new before then bytes between surveyed leaves =
       held = left.held;
       free = left.free;
     }
+
+-- all calls of a commit were made, over a disk that tells or not
+pub calls-over : (fs : FsTree) (trees : OtherTrees) (super : Super) (old mid new : History) → super ≡ trees.superblock
+    → mid ≡ old → new ≡ history_after (with_tree_commit fs trees) mid
+    → (nodes : List Node) × (new ≡ history_after (with_commit super nodes) old)
+calls-over fs trees super old mid new same read calls =
+    let nodes = nodes_written fs.land.blocks.draft trees in (
+      nodes,
+      calls ∙ ap (history_after (with_tree_commit fs trees)) read
+          ∙ ap (λ (s : Super). history_after (with_commit s nodes) old) (sym same),
+    )

@@ -4,7 +4,7 @@ use Rattle.std.proofs.Common.{ap, subst, ◌∙◌, arith, ◌⊎◌, inl, inr}
 use Rattle.std.specs.Prelude.{MatchBool, MatchOption, if◌then◌else◌, nat_lt}
 use Rattle.std.specs.Bool.{then_some}
 use Rattle.std.proofs.lemmas.Bool.{lt-ltb, le-ltb}
-use Rattle.qg_device.specs.History.{Event}
+use Rattle.qg_device.specs.History.{Event, History, Recorded}
 use Rattle.qg_num.specs.declared.answer.Answer.{Answer}
 use Rattle.qg_num.specs.declared.answer.Answer.TheVariants as answer
 use Rattle.qg_num.specs.declared.command.Command.TheVariants as command
@@ -16,13 +16,13 @@ use Rattle.qg_machine.specs.Step.{Commits, Step}
 use Rattle.qg_machine.specs.Step as machine
 use Rattle.qg_node.specs.declared.node.Node.{Node}
 use Rattle.qg_super.specs.declared.superblock.Super.{Super}
-use Rattle.qg_kept.specs.Calls.{MadeFront, commit_calls, node_calls, superblock_calls, with_commit, with_nodes}
-use Rattle.qg_kept.proofs.Fronts.{comes-all, comes-behind}
+use Rattle.qg_kept.specs.Calls.{Call, MadeFront, commit_calls, node_calls, superblock_calls, with_commit, with_nodes}
+use Rattle.qg_kept.proofs.Fronts.{comes-all, comes-behind, unsure-whole}
 use Rattle.qg_kept.specs.declared.kept.Kept.{Kept}
 use Rattle.qg_kept.specs.Answering.{Answered, AnswersOn}
 use Rattle.qg_kept.specs.Keeping.{IsFitted, IsKeptOf}
-use Rattle.qg_kept.specs.Making.{StartsCommit}
-use Rattle.qg_kept_commit.specs.Planning.{CommitsOn, StartsCommitOf}
+use Rattle.qg_kept.specs.Making.{CommitsSoFar}
+use Rattle.qg_kept_commit.specs.Planning.{CommitsOfSoFar, CommitsOn, StartsCommitOf, StopsCommitOf}
 
 -- ---- what is refused
 
@@ -58,12 +58,12 @@ CommitsBy old commits new pending = MatchBool pending (Commits old new × (commi
 
 -- all calls of a commit were made
 pub all-made : (super : Super) (nodes : List Node) (events : List Event)
-    → MadeFront (commit_calls super nodes) events (Some (with_commit super nodes events))
+    → MadeFront (commit_calls super nodes) events (Recorded (with_commit super nodes events))
 all-made super nodes events =
-    comes-behind (node_calls super.nodesize nodes) (superblock_calls super) (Some events)
-    (Some (with_nodes super.nodesize nodes events)) (Some (with_commit super nodes events)) refl
-    (comes-all (superblock_calls super) (Some (with_nodes super.nodesize nodes events))
-    (Some (with_commit super nodes events)) refl) events refl
+    comes-behind (node_calls super.nodesize nodes) (superblock_calls super) (Recorded events)
+    (Recorded (with_nodes super.nodesize nodes events)) (Recorded (with_commit super nodes events)) refl
+    (comes-all (superblock_calls super) (Recorded (with_nodes super.nodesize nodes events))
+    (Recorded (with_commit super nodes events)) refl) events refl
 
 -- nothing is pending
 idle_step : (state : State) (reply : Answer) → length state.pending ≡ 0 → reply ≡ answer.Commit state.generation
@@ -92,11 +92,11 @@ commit_step old new reply some early commits is =
 -- ---- what is kept then
 
 -- the generation is that of the last commit
-pub generation-kept : (kept : Kept) (state : State) (history : Option (List Event)) → IsFitted kept
+pub generation-kept : (kept : Kept) (state : State) (history : History) → IsFitted kept
     → IsKeptOf kept state history → state.generation ≡ kept.superblock.generation
 generation-kept kept state history fits keeps = omega (arith, keeps.keeps.laid.generation, fits.next)
 
-pub does_idle : (kept : Kept) (state : State) (history : Option (List Event)) → IsFitted kept
+pub does_idle : (kept : Kept) (state : State) (history : History) → IsFitted kept
     → IsKeptOf kept state history → kept.pending ≡ 0
     → Answered state command.Commit (answer.Commit kept.superblock.generation) [] kept history
 does_idle kept state history fits keeps idle = record {
@@ -106,7 +106,7 @@ does_idle kept state history fits keeps idle = record {
   keeps = keeps;
 }
 
-pub does_refuse : (kept : Kept) (state : State) (history : Option (List Event)) → IsFitted kept
+pub does_refuse : (kept : Kept) (state : State) (history : History) → IsFitted kept
     → IsKeptOf kept state history → 0 < kept.pending → last_generation < kept.superblock.generation
     → Answered state command.Commit (answer.Refused why.NoGeneration) [] kept history
 does_refuse kept state history fits keeps some late = record {
@@ -118,11 +118,12 @@ does_refuse kept state history fits keeps some late = record {
 
 -- ---- what was committed
 
-module _ (state : State) (events : List Event) (history : Option (List Event)) (some : 0 < length state.pending)
+module _ (state : State) (events : List Event) (history : History) (some : 0 < length state.pending)
     (early : state.generation ≤ last_generation) where
   -- it is what the machine does
-  pub starts-step : StartsCommitOf state events history → StartsCommit state events history
-  starts-step starts = record {
+  starts-step : (calls : Super → List Node → List Call) → CommitsOfSoFar calls state events history
+      → CommitsSoFar calls state events history
+  starts-step calls starts = record {
     new = starts.new;
     step = commit_step state starts.new (answer.Commit starts.new.generation) some early starts.commits refl;
     super = starts.super;
@@ -131,10 +132,11 @@ module _ (state : State) (events : List Event) (history : Option (List Event)) (
     made = starts.made;
   }
 
-  pub far-step : (history ≡ Some events) ⊎ StartsCommitOf state events history
-      → (history ≡ Some events) ⊎ StartsCommit state events history
-  far-step (inl nothing) = inl nothing
-  far-step (inr starts) = inr (starts-step starts)
+  pub far-step : (calls : Super → List Node → List Call)
+      → (history ≡ Recorded events) ⊎ CommitsOfSoFar calls state events history
+      → (history ≡ Recorded events) ⊎ CommitsSoFar calls state events history
+  far-step calls (inl nothing) = inl nothing
+  far-step calls (inr starts) = inr (starts-step calls starts)
 
   pub commits-step : (kept : Kept) → IsFitted kept → CommitsOn state kept events history
       → AnswersOn state command.Commit (answer.Commit kept.superblock.generation) kept events history
@@ -154,7 +156,7 @@ module _ (state : State) (events : List Event) (history : Option (List Event)) (
   )
 
 -- all calls of a commit came
-pub commits-start : (state : State) (kept : Kept) (events : List Event) (history : Option (List Event))
+pub commits-start : (state : State) (kept : Kept) (events : List Event) (history : History)
     → CommitsOn state kept events history → StartsCommitOf state events history
 commits-start state kept events history on = record {
   new = on.new;
@@ -162,16 +164,30 @@ commits-start state kept events history on = record {
   super = on.super;
   nodes = on.nodes;
   brings = on.brings;
-  made = subst (λ (after : Option (List Event)). MadeFront (commit_calls on.super on.nodes) events after)
+  made = subst (λ (after : History). MadeFront (commit_calls on.super on.nodes) events after)
       (sym on.told) (all-made on.super on.nodes events);
 }
 
+-- all but the last sync came so far: all did
+pub stops-starts : (state : State) (events : List Event) (history : History)
+    → (history ≡ Recorded events) ⊎ StopsCommitOf state events history
+    → (history ≡ Recorded events) ⊎ StartsCommitOf state events history
+stops-starts state events history (inl nothing) = inl nothing
+stops-starts state events history (inr stops) = inr (record {
+  new = stops.new;
+  commits = stops.commits;
+  super = stops.super;
+  nodes = stops.nodes;
+  brings = stops.brings;
+  made = unsure-whole stops.super stops.nodes events history stops.made;
+})
+
 -- something is pending of the state too
-pub pending-state : (kept : Kept) (state : State) (history : Option (List Event)) → IsKeptOf kept state history
+pub pending-state : (kept : Kept) (state : State) (history : History) → IsKeptOf kept state history
     → 0 < kept.pending → 0 < length state.pending
 pending-state kept state history keeps some = omega (arith, keeps.pending, some)
 
-pub early-state : (kept : Kept) (state : State) (history : Option (List Event)) → IsFitted kept
+pub early-state : (kept : Kept) (state : State) (history : History) → IsFitted kept
     → IsKeptOf kept state history → kept.superblock.generation ≤ last_generation
     → state.generation ≤ last_generation
 early-state kept state history fits keeps early =

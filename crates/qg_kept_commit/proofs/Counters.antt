@@ -1,11 +1,11 @@
 -- The direct counts of what is kept: how many bytes can be counted, and what the survey of its nodes tells. All in
 -- bytes.
-use Rattle.std.proofs.Common.{◌≡◌, ℕ, zero, suc, ◌+◌, ◌*◌, ◌<◌, ◌≤◌, ◌^◌, List, [], ◌∷◌, map, length, get_or, Option}
+use Rattle.std.proofs.Common.{◌≡◌, ℕ, zero, suc, ◌+◌, ◌*◌, ◌<◌, ◌≤◌, ◌^◌, List, [], ◌∷◌, map, length, get_or}
 use Rattle.std.proofs.Common.{sym, ap, subst, ◌∙◌, arith, inl, inr}
 use Rattle.std.specs.List.{Contains}
 use Rattle.std.specs.List.Sorted.{IsStrictlyIncreasing}
 use Rattle.std.proofs.Math.Nat.{mul_comm, mul-le-mul_left}
-use Rattle.qg_device.specs.History.{Event}
+use Rattle.qg_device.specs.History.{History}
 use Rattle.qg_super.specs.declared.sizes.Sizes.{Sizes}
 use Rattle.qg_super.specs.Places.{data_begin, sector}
 use Rattle.qg_super.specs.SuperText.{sizes_of}
@@ -94,7 +94,7 @@ runs_increase sizes from (run ∷ later) up =
 
 -- ---- a state
 
-module _ (kept : Kept) (history : Option (List Event)) (bytes : ℕ) (state : State) (names : List Record)
+module _ (kept : Kept) (history : History) (bytes : ℕ) (state : State) (names : List Record)
     (fits : IsKept kept history bytes) (table : IsTable kept.fs.refs.refs)
     (keeps : IsKeptWith kept state history names) (order : IsInOrder kept.fs.land.space) where
   named_now : HaveSame kept.fs.land.space.runs (layout_extents (layout_of state))
@@ -132,7 +132,7 @@ module _ (kept : Kept) (history : Option (List Event)) (bytes : ℕ) (state : St
 -- ---- after the survey
 
 -- what was surveyed is in order still
-pub order-still : (old new : Kept) (before after : Option (List Event)) (bytes left : ℕ) (nodes given : List Surveyed)
+pub order-still : (old new : Kept) (before after : History) (bytes left : ℕ) (nodes given : List Surveyed)
     → HasSurveyed old new before after bytes left → given ≡ nodes → AreInOrder old nodes → AreInOrder new given
 order-still old new before after bytes left nodes given looked same order =
     subst (λ (list : List Surveyed). AreInOrder new list) (sym same)
@@ -140,12 +140,12 @@ order-still old new before after bytes left nodes given looked same order =
     (record { ascending = order.ascending; few = order.few }))
 
 -- and so is the space, where it was before
-pub space-still : (old new : Kept) (before after : Option (List Event)) (bytes left : ℕ)
+pub space-still : (old new : Kept) (before after : History) (bytes left : ℕ)
     → HasSurveyed old new before after bytes left → IsInOrder old.fs.land.space → IsInOrder new.fs.land.space
 space-still old new before after bytes left looked order =
     subst (λ (kept : Kept). IsInOrder kept.fs.land.space) (sym looked.rest) order
 
 -- quota is the same
-pub quota-still : (old new : Kept) (before after : Option (List Event)) (bytes left : ℕ)
+pub quota-still : (old new : Kept) (before after : History) (bytes left : ℕ)
     → HasSurveyed old new before after bytes left → quota_of new.quota ≡ quota_of old.quota
 quota-still old new before after bytes left looked = ap (λ (kept : Kept). quota_of kept.quota) looked.rest

@@ -8,7 +8,7 @@ use Rattle.std.specs.Map.{lookup, remove_entry}
 use Rattle.std.specs.Ordering.{nat_cmp}
 use Rattle.std.proofs.lemmas.Bool.{cases_Bool, cond-false, cond-true}
 use Rattle.std.proofs.lemmas.List.Elements.{All-contains}
-use Rattle.qg_device.specs.History.{Event}
+use Rattle.qg_device.specs.History.{History}
 use Rattle.qg_node.specs.declared.node.Node.{Node}
 use Rattle.qg_blocks.specs.Held.{Draft, Held}
 use Rattle.qg_blocks.specs.Told.{IsBacked, clean_at, first_of, fresh_at, held_at}
@@ -43,14 +43,14 @@ pub record Forgets (old new : Held) (slots : List ℕ) (k : ℕ) : Type 0 where
   pub draft : new.draft ≡ old.draft
   pub bound : new.bound ≡ old.bound
   pub gone : (slot : ℕ) → Contains (take k slots) slot → clean_at new slot ≡ None
-  pub backed : (history : Option (List Event)) → IsBacked old history → IsBacked new history
+  pub backed : (history : History) → IsBacked old history → IsBacked new history
 
 -- one more was
 pub record ForgetsOne (old new : Held) (at : ℕ) : Type 0 where
   pub draft : new.draft ≡ record old.draft { fresh = remove_entry (is_at (nat_cmp at)) old.draft.fresh }
   pub gone : held_at new at ≡ None
   pub others : (other : ℕ) → clean_at old other ≡ None → clean_at new other ≡ None
-  pub backed : (history : Option (List Event)) → IsBacked old history → IsBacked new history
+  pub backed : (history : History) → IsBacked old history → IsBacked new history
   pub bound : new.bound ≡ old.bound
 
 pub forgets-none : (held : Held) (slots : List ℕ) → Forgets held held slots 0

@@ -2,7 +2,7 @@
 use Rattle.std.proofs.Common.{◌≡◌, ℕ, List, [], ◌∷◌, map, None, Option, refl, sym, ap, subst, ◌∙◌}
 use Rattle.std.specs.Prelude.{MatchOption}
 use Rattle.std.specs.List.Sorted.{IsStrictlyIncreasing}
-use Rattle.qg_device.specs.History.{Event}
+use Rattle.qg_device.specs.History.{History}
 use Rattle.qg_num.specs.declared.answer.Answer.TheVariants as answer
 use Rattle.qg_num.specs.declared.command.Command.TheVariants.{Owners}
 use Rattle.qg_num.specs.declared.refusal.Refusal.{Refusal}
@@ -33,7 +33,7 @@ unfolding refusal
 never_refused state address = refl
 
 -- the state stays
-pub does_own : (kept : Kept) (state : State) (history : Option (List Event)) (address : ℕ) (found : List ℕ)
+pub does_own : (kept : Kept) (state : State) (history : History) (address : ℕ) (found : List ℕ)
     → IsKeptOf kept state history → found ≡ owners (layout_of state) address
     → Answered state (Owners address) (answer.Owners found) [] kept history
 does_own kept state history address found keeps are = record {
@@ -63,7 +63,7 @@ keys_rooted [] = refl
 keys_rooted (entry ∷ table) = ap (λ (ns : List ℕ). entry.0 ∷ ns) (keys_rooted table)
 
 -- what is found by what was surveyed are the state's owners
-pub owners-now : (kept : Kept) (history : Option (List Event)) (bytes : ℕ) (state : State) (names : List Record)
+pub owners-now : (kept : Kept) (history : History) (bytes : ℕ) (state : State) (names : List Record)
     → IsKept kept history bytes → IsTable kept.fs.refs.refs → IsKeptWith kept state history names → (address : ℕ)
     (roots : List (ℕ × ℕ)) (nodes : List Surveyed) (found : List ℕ)
     → roots ≡ map root_of_tree (trees_of_state state)

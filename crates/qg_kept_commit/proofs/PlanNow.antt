@@ -1,7 +1,7 @@
 -- What a commit is told of what is kept: the ROOT_ITEMs of its trees, the groups with their direct counts, and slots.
-use Rattle.std.proofs.Common.{◌≡◌, ℕ, ◌≤◌, List, length, Option, Some, sym, ap, subst, ◌∙◌}
+use Rattle.std.proofs.Common.{◌≡◌, ℕ, ◌≤◌, List, length, Some, sym, ap, subst, ◌∙◌}
 use Rattle.std.specs.List.Sorted.{IsNonDecreasingBy, IsPermutation}
-use Rattle.qg_device.specs.History.{Event}
+use Rattle.qg_device.specs.History.{History}
 use Rattle.qg_num.specs.declared.counters.Counters.{Counters}
 use Rattle.qg_image.specs.Table.{keys_of}
 use Rattle.qg_image.specs.Record.{Record}
@@ -32,7 +32,7 @@ use Rattle.qg_kept_commit.proofs.RootsNow.{roots-of}
 
 -- ---- the trees and the numbers, after the survey
 
-module _ (old new : Kept) (before after : Option (List Event)) (bytes left : ℕ) (trees : List Root)
+module _ (old new : Kept) (before after : History) (bytes left : ℕ) (trees : List Root)
     (fits : IsKept old before bytes) (looked : HasSurveyed old new before after bytes left)
     (moved : IsPermutation (trees_of old.fs) trees) (up : IsNonDecreasingBy (λ tree. tree.owner) trees) where
   pub trees-moved : IsPermutation (trees_of new.fs) trees
@@ -48,7 +48,7 @@ module _ (old new : Kept) (before after : Option (List Event)) (bytes left : ℕ
       numbers-are old fits.fitted trees moved up
       ∙ ap (λ (table : List (ℕ × ℕ)). keys_of table) (sym snapshots-same)
 
-pub record IsPlanned (old new : Kept) (before after : Option (List Event)) (bytes left : ℕ) (trees : List Root)
+pub record IsPlanned (old new : Kept) (before after : History) (bytes left : ℕ) (trees : List Root)
     (counts : List Counters) (plan : Plan) : Type 0 where
   pub fits : IsKept old before bytes
   pub table : IsTable old.fs.refs.refs
@@ -65,7 +65,7 @@ pub record IsPlanned (old new : Kept) (before after : Option (List Event)) (byte
   pub enough : commit_need new ≤ length plan.slots
   pub most : length plan.slots ≤ commit_need new
 
-module _ (old new : Kept) (before after : Option (List Event)) (bytes left : ℕ) (trees : List Root)
+module _ (old new : Kept) (before after : History) (bytes left : ℕ) (trees : List Root)
     (counts : List Counters) (plan : Plan) (is : IsPlanned old new before after bytes left trees counts plan) where
   moved_now : IsPermutation (trees_of new.fs) trees
   moved_now = trees-moved old new before after bytes left trees is.fits is.looked is.moved is.up

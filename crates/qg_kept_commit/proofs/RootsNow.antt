@@ -1,5 +1,5 @@
 -- The ROOT_ITEMs of a commit: one for each subvolume's tree, in the order of the numbers.
-use Rattle.std.proofs.Common.{◌≡◌, ℕ, ◌+◌, ◌<◌, ◌≤◌, List, [], ◌∷◌, ◌++◌, take, length, get_or, Option, Some}
+use Rattle.std.proofs.Common.{◌≡◌, ℕ, ◌+◌, ◌<◌, ◌≤◌, List, [], ◌∷◌, ◌++◌, take, length, get_or, Some}
 use Rattle.std.proofs.Common.{refl, sym, ap, subst, ◌∙◌, arith}
 use Rattle.std.specs.Prelude.{All}
 use Rattle.std.specs.List.{Contains, flat_map}
@@ -7,7 +7,7 @@ use Rattle.std.specs.List.Sorted.{IsNonDecreasingBy, IsPermutation}
 use Rattle.std.proofs.lemmas.List.{get_or-map, length-map, map-append, take_all, take_more}
 use Rattle.std.proofs.lemmas.List.Elements.{All-append, All-cons, All-contains, All-nil, Contains-get_or}
 use Rattle.std.proofs.lemmas.Option.{none-some, same_Some}
-use Rattle.qg_device.specs.History.{Event}
+use Rattle.qg_device.specs.History.{History}
 use Rattle.qg_items.specs.declared.root.RootItem.{RootItem}
 use Rattle.qg_image.specs.Table.{keys_of, value_at}
 use Rattle.qg_image.specs.Record.{Record}
@@ -135,7 +135,7 @@ roots-of kept trees roots fits moved up are = record { numbers = are.numbers; ea
 
 -- ---- a state
 
-module _ (kept : Kept) (history : Option (List Event)) (bytes : ℕ) (state : State) (names : List Record)
+module _ (kept : Kept) (history : History) (bytes : ℕ) (state : State) (names : List Record)
     (fits : IsKept kept history bytes) (table : IsTable kept.fs.refs.refs)
     (keeps : IsKeptWith kept state history names) where
   -- the book knows the root of each tree

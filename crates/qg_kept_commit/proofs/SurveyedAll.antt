@@ -5,7 +5,7 @@ use Rattle.std.specs.List.{filter_map, flat_map}
 use Rattle.std.specs.List.Sorted.{IsStrictlyIncreasing}
 use Rattle.std.proofs.lemmas.List.{length-map}
 use Rattle.std.proofs.lemmas.List.FromFn.{length-map-range_with_len}
-use Rattle.qg_device.specs.History.{Event}
+use Rattle.qg_device.specs.History.{History}
 use Rattle.qg_super.specs.declared.sizes.Sizes.{Sizes}
 use Rattle.qg_super.specs.Places.{slot_at}
 use Rattle.qg_image.specs.Table.{keys_of}
@@ -28,7 +28,7 @@ use Rattle.qg_kept_commit.proofs.Cleaned.{tree-now}
 use Rattle.qg_kept.proofs.Looked.{is-subvolume}
 
 -- nodes and space are such as a survey may read, where the references are for the same generation to come
-pub editable-now : (kept : Kept) (history : Option (List Event)) (bytes : ℕ) → IsKept kept history bytes
+pub editable-now : (kept : Kept) (history : History) (bytes : ℕ) → IsKept kept history bytes
     → (told next : ℕ) → told ≡ kept.fs.refs.next → next ≡ kept.fs.tree.next → told ≡ next
     → IsEditable kept.fs.land history bytes kept.fs.refs.next
 editable-now kept history bytes fits told next of_refs of_tree same =
@@ -36,7 +36,7 @@ editable-now kept history bytes fits told next of_refs of_tree same =
     (is-subvolume kept history bytes fits).editable
 
 -- so they are where something is kept of a state
-pub next-same-now : (kept : Kept) (history : Option (List Event)) (state : State) (names : List Record)
+pub next-same-now : (kept : Kept) (history : History) (state : State) (names : List Record)
     → IsKeptWith kept state history names → kept.fs.refs.next ≡ kept.fs.tree.next
 next-same-now kept history state names keeps = keeps.keeps.holds.stands.book.next
 
@@ -59,7 +59,7 @@ fewer_made {X} {Y} f (x ∷ xs) = from (f x) refl (fewer_made f xs) where
       let same : length (filter_map f (x ∷ xs)) ≡ length (y ∷ filter_map f xs) = rw is refl in
       omega (arith, same, rest)
 
-module _ (kept : Kept) (history : Option (List Event)) (bytes : ℕ) (state : State) (names : List Record)
+module _ (kept : Kept) (history : History) (bytes : ℕ) (state : State) (names : List Record)
     (fits : IsKept kept history bytes) (table : IsTable kept.fs.refs.refs)
     (keeps : IsKeptWith kept state history names) where
   layout_ascends : IsStrictlyIncreasing (keys_of state.layout)

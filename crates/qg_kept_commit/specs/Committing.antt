@@ -1,14 +1,14 @@
 -- What a commit lays out and leaves of what is kept (this project's own). Addresses and lengths are in bytes.
-use Rattle.std.specs.Prelude.{◌≡◌, ℕ, ◌≤◌, List, [], length, map, Option, Some, IfSome}
+use Rattle.std.specs.Prelude.{◌≡◌, ℕ, ◌≤◌, List, [], length, map, Some, IfSome}
 use Rattle.std.specs.List.{Contains}
-use Rattle.qg_device.specs.History.{Event}
+use Rattle.qg_device.specs.History.{Event, History}
 use Rattle.qg_num.specs.declared.counters.Counters.{Counters}
 use Rattle.qg_node.specs.Nodes.{header_of}
 use Rattle.qg_items.specs.declared.root.RootItem.{RootItem}
 use Rattle.qg_super.specs.SuperText.{sizes_of}
 use Rattle.qg_image.specs.Table.{keys_of, value_at}
 use Rattle.qg_extents.specs.Table.{IsTable}
-use Rattle.qg_kept.specs.Calls.{MadeFront, commit_calls}
+use Rattle.qg_kept.specs.Calls.{MadeFront, unsure_calls}
 use Rattle.qg_descent.specs.Tree.{Root}
 use Rattle.qg_kept.specs.Standing.{trees_of}
 use Rattle.qg_kept.specs.StandingCommitting.{IsCommitted}
@@ -51,11 +51,11 @@ IsLaidBy kept plan trees =
     IsLaying (sizes_of kept.superblock) kept.fs.tree.next plan.roots kept.fs.refs.refs plan.quota plan.slots
     kept.fs.land.blocks.draft trees
 
--- the calls of such a commit came so far
-pub record LaysSoFar (kept : Kept) (plan : Plan) (events : List Event) (history : Option (List Event)) : Type 0 where
+-- the calls of such a commit came so far, and the last sync is not among them
+pub record LaysSoFar (kept : Kept) (plan : Plan) (events : List Event) (history : History) : Type 0 where
   pub trees : OtherTrees
   pub laid : IsLaidBy kept plan trees
-  pub made : MadeFront (commit_calls trees.superblock (nodes_written kept.fs.land.blocks.draft trees)) events history
+  pub made : MadeFront (unsure_calls trees.superblock (nodes_written kept.fs.land.blocks.draft trees)) events history
 
 -- ---- what it leaves
 

@@ -1,10 +1,10 @@
 -- What a commit is told of what is kept, and what it leaves of room (this project's own). Addresses and lengths are in
 -- bytes.
-use Rattle.std.specs.Prelude.{◌≡◌, ℕ, ◌+◌, ◌≤◌, ◌==◌, All, List, [], ◌∷◌, length, map, Option, Some, None}
+use Rattle.std.specs.Prelude.{◌≡◌, ℕ, ◌+◌, ◌≤◌, ◌<◌, ◌==◌, All, List, [], ◌∷◌, length, map, Some, None}
 use Rattle.std.specs.Prelude.{if◌then◌else◌}
 use Rattle.std.specs.List.{Contains}
 use Rattle.std.specs.List.Sorted.{IsStrictlyIncreasing}
-use Rattle.qg_device.specs.History.{Event}
+use Rattle.qg_device.specs.History.{Event, History, Recorded, history_after}
 use Rattle.qg_num.specs.declared.counters.Counters.{Counters}
 use Rattle.qg_node.specs.declared.node.Node.{Node}
 use Rattle.qg_items.specs.declared.root.RootItem.{RootItem}
@@ -16,7 +16,7 @@ use Rattle.qg_refs.specs.declared.kept.What.{What}
 use Rattle.qg_refs.specs.declared.kept.Kept.{Kept as Reference}
 use Rattle.qg_refs.specs.Book.{what_in}
 use Rattle.qg_extents.specs.Table.{book_of}
-use Rattle.qg_kept.specs.Calls.{MadeFront, commit_calls, with_commit}
+use Rattle.qg_kept.specs.Calls.{Call, MadeFront, commit_calls, unsure_calls, with_commit}
 use Rattle.qg_space.specs.Holding.{free_slots}
 use Rattle.qg_descent.specs.Tree.{Root}
 use Rattle.qg_descent.specs.Way.{HasRead}
@@ -34,7 +34,7 @@ use Rattle.qg_kept.specs.Making.{BringsTo}
 -- ---- what is surveyed
 
 -- all nodes that subvolumes reach were read, and nothing else was done
-pub record HasSurveyed (old new : Kept) (before after : Option (List Event)) (bytes left : ℕ) : Type 0 where
+pub record HasSurveyed (old new : Kept) (before after : History) (bytes left : ℕ) : Type 0 where
   pub rest : new ≡ record old {
     fs = record old.fs { land = record old.fs.land { blocks = new.fs.land.blocks } };
   }
@@ -44,6 +44,12 @@ pub record HasSurveyed (old new : Kept) (before after : Option (List Event)) (by
 pub record AreInOrder (kept : Kept) (nodes : List Surveyed) : Type 0 where
   pub ascending : IsStrictlyIncreasing (map (λ node. node.linked.address) nodes)
   pub few : length nodes ≤ kept.superblock.slots
+
+-- a thing of a later generation than this begins at an address
+pub record IsLaterAt (generation : ℕ) (book : List (ℕ × Reference)) (at : ℕ) : Type 0 where
+  pub kept : Reference
+  pub there : Contains book (at, kept)
+  pub later : generation < kept.what.generation
 
 -- ---- trees by number
 
@@ -109,23 +115,32 @@ pub record IsPlanTold (state : State) (kept : Kept) (plan : Plan) : Type 0 where
 -- ---- what a commit does, and leaves
 
 -- the machine commits a state so, the disk was given the calls, and what is kept then is that of the state afterwards
-pub record CommitsOn (old : State) (kept : Kept) (events : List Event) (history : Option (List Event)) : Type 0 where
+pub record CommitsOn (old : State) (kept : Kept) (events : List Event) (history : History) : Type 0 where
   pub new : State
   pub commits : Commits old new
   pub keeps : IsKeptOf kept new history
   pub super : Super
   pub nodes : List Node
   pub brings : BringsTo old.held new events super nodes
-  pub told : history ≡ Some (with_commit super nodes events)
+  pub told : history ≡ Recorded (with_commit super nodes events)
 
--- the calls of such a commit came so far
-pub record StartsCommitOf (old : State) (events : List Event) (history : Option (List Event)) : Type 0 where
+-- of the calls of such a commit these came so far
+pub record CommitsOfSoFar (calls : Super → List Node → List Call) (old : State) (events : List Event)
+    (history : History) : Type 0 where
   pub new : State
   pub commits : Commits old new
   pub super : Super
   pub nodes : List Node
   pub brings : BringsTo old.held new events super nodes
-  pub made : MadeFront (commit_calls super nodes) events history
+  pub made : MadeFront (calls super nodes) events history
+
+-- the calls of such a commit came so far
+abbrev pub StartsCommitOf : State → List Event → History → Type 0
+StartsCommitOf old events history = CommitsOfSoFar commit_calls old events history
+
+-- and its last sync is not among them
+abbrev pub StopsCommitOf : State → List Event → History → Type 0
+StopsCommitOf old events history = CommitsOfSoFar unsure_calls old events history
 
 -- What a commit leaves of what is kept, over any disk: nothing is pending, subvolumes are the same, groups too but for
 -- their counts, and so are the trees, but for the generation to come, and the references, which are held; and it took
@@ -140,3 +155,9 @@ pub record LeavesRoom (old new : Kept) : Type 0 where
   pub refs : new.fs.refs.refs ≡ old.fs.refs.refs
   pub held : new.fs.refs.held ≡ old.fs.refs.refs
   pub free : free_slots old.fs.land.space ≤ free_slots new.fs.land.space + commit_need old
+
+-- and a disk, whether it tells what it held or not, was given all calls of a commit
+pub record LeavesOver (old new : Kept) (before after : History) : Type 0 where
+  pub room : LeavesRoom old new
+  pub nodes : List Node
+  pub calls : after ≡ history_after (with_commit new.superblock nodes) before

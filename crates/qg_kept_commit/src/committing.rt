@@ -1,16 +1,15 @@
 // What is pending is committed.
-ghost use Rattle.std.specs.Prelude.{◌≡◌, ◌⊎◌, ◌+◌, ◌≤◌, ◌^◌, ℕ, All, List, None, Option, Some, [], IfOk, IfErr, IfSome};
+ghost use Rattle.std.specs.Prelude.{◌≡◌, ◌⊎◌, ◌+◌, ◌≤◌, ◌^◌, ℕ, All, List, None, Some, [], IfOk, IfErr, IfSome};
 ghost use Rattle.std.specs.Prelude.{IsTrue, OnErr, OnOk};
-ghost use Rattle.std.specs.Option.{option_map};
 ghost use Rattle.qg_device.specs.Cause.{HasCause};
-ghost use Rattle.qg_device.specs.History.{Event};
+ghost use Rattle.qg_device.specs.History.{Event, History, Recorded, history_after};
 ghost use Rattle.qg_num.specs.declared.command.Command.TheVariants.{Commit};
 ghost use Rattle.qg_num.specs.declared.piece.Piece.{Piece};
 ghost use Rattle.qg_node.specs.declared.item.Item.{Item};
 ghost use Rattle.qg_super.specs.SuperText.{sizes_of};
 ghost use Rattle.qg_image.specs.Record.{Record};
 ghost use Rattle.qg_image.specs.State.{State};
-ghost use Rattle.qg_blocks.specs.Told.{BreaksNone, IsBacked, fresh_at};
+ghost use Rattle.qg_blocks.specs.Told.{BreaksNone, IfBroken, IsBacked, fresh_at};
 ghost use Rattle.qg_blocks.specs.Writing.{AreWritten};
 ghost use Rattle.qg_kept.specs.Calls.{IsReadBack};
 ghost use Rattle.qg_space.specs.Holding.{free_slots};
@@ -24,7 +23,9 @@ ghost use Rattle.qg_kept_commit.specs.Committing.{IsLaidBy, KeepsCommit, LaysSoF
 ghost use Rattle.qg_kept.specs.Editing.{HasLooked};
 ghost use Rattle.qg_kept.specs.Keeping.{IsFitted, IsKept, IsKeptOf, IsKeptWith, commit_need};
 ghost use Rattle.qg_kept.specs.Making.{StartsCommit};
-ghost use Rattle.qg_kept_commit.specs.Planning.{CommitsOn, IsPlanSo, LeavesRoom, StartsCommitOf};
+ghost use Rattle.qg_kept.specs.Stored.{StaysLast, StopsPending};
+ghost use Rattle.qg_kept_commit.specs.Planning.{CommitsOn, IsPlanSo, LeavesOver, StartsCommitOf};
+ghost use Rattle.qg_kept_commit.specs.Planning.{StopsCommitOf};
 
 use crate::planning::{Plan, plan_of};
 use qg_blocks::Blocks;
@@ -34,7 +35,8 @@ use qg_image::Quota;
 use qg_kept::Kept;
 use qg_kept::other_trees::{OtherTrees, Told};
 use qg_kept::standing::committed;
-use qg_num::{Address, Answer, BlockFault, NoMemory, Refusal, Steps};
+use qg_kept::tree_refs::BookCopy;
+use qg_num::{Address, Answer, BlockFault, Refusal, Steps};
 use std::sync::ledger::Ledger;
 
 /// The greatest committed generation that a commit may meet.
@@ -49,18 +51,20 @@ pub fn commit<D: Disk, L: Ledger>(
     requires kept { IsKept kept.old (D.history disk.old) (D.size disk.old) }
     ensures kept { IfOk result (λ answer. IsKept kept.new (D.history disk.new) (D.size disk.new)) }
     ensures step { (state : State) (events : List Event) → IsKeptOf kept.old state (D.history disk.old)
-        → D.history disk.old ≡ Some events
+        → D.history disk.old ≡ Recorded events
         → IfOk result (λ answer. AnswersOn state Commit answer kept.new events (D.history disk.new)) }
     ensures so_far { (state : State) (events : List Event) → IsKeptOf kept.old state (D.history disk.old)
-        → D.history disk.old ≡ Some events
-        → (D.history disk.new ≡ Some events) ⊎ StartsCommit state events (D.history disk.new) }
-    ensures sound { (state : State) (events : List Event) → D.history disk.old ≡ Some events
+        → D.history disk.old ≡ Recorded events
+        → (D.history disk.new ≡ Recorded events) ⊎ StartsCommit state events (D.history disk.new) }
+    ensures sound { (state : State) (events : List Event) → D.history disk.old ≡ Recorded events
         → IsKeptOf kept.old state (D.history disk.old) → BreaksNone result }
     ensures idle { kept.old.pending ≡ 0 → HasLooked kept.old kept.new (D.history disk.old) (D.history disk.new)
         (D.size disk.old) (D.size disk.new) }
     ensures refused { IfOk result (λ answer. IsTrue (is_unchanging answer) → HasLooked kept.old kept.new
         (D.history disk.old) (D.history disk.new) (D.size disk.old) (D.size disk.new)) }
-    ensures err { IfErr result (λ fault. kept.new.superblock ≡ kept.old.superblock) }
+    ensures intact { IfBroken result (D.history disk.new ≡ D.history disk.old) }
+    ensures err { IfErr result
+        (λ fault. StaysLast StopsPending kept.old kept.new (D.history disk.old) (D.history disk.new)) }
     ensures sizes { (sizes_of kept.new.superblock ≡ sizes_of kept.old.superblock)
         × (D.size disk.old ≤ D.size disk.new) }
     ensures cause { HasCause BlockFault.Disk (D.faults disk.old) (D.faults disk.new) result }
@@ -87,26 +91,33 @@ pub fn commit_now<D: Disk, L: Ledger>(
     ensures kept { IfOk result (λ done. IsKept kept.new (D.history disk.new) (D.size disk.new)) }
     ensures commits { (state : State) (events : List Event) (names : List Record)
         → IsKeptWith kept.old state (D.history disk.old) names
-        → commit_need kept.old ≤ free_slots kept.old.fs.land.space → D.history disk.old ≡ Some events
+        → commit_need kept.old ≤ free_slots kept.old.fs.land.space → D.history disk.old ≡ Recorded events
         → IfOk result (λ done. CommitsOn state kept.new events (D.history disk.new)) }
     ensures so_far { (state : State) (events : List Event) (names : List Record)
         → IsKeptWith kept.old state (D.history disk.old) names
-        → commit_need kept.old ≤ free_slots kept.old.fs.land.space → D.history disk.old ≡ Some events
-        → (D.history disk.new ≡ Some events) ⊎ StartsCommitOf state events (D.history disk.new) }
+        → commit_need kept.old ≤ free_slots kept.old.fs.land.space → D.history disk.old ≡ Recorded events
+        → (D.history disk.new ≡ Recorded events) ⊎ StartsCommitOf state events (D.history disk.new) }
+    ensures stops { (state : State) (events : List Event) (names : List Record)
+        → IsKeptWith kept.old state (D.history disk.old) names
+        → commit_need kept.old ≤ free_slots kept.old.fs.land.space → D.history disk.old ≡ Recorded events
+        → OnErr result
+        ((D.history disk.new ≡ Recorded events) ⊎ StopsCommitOf state events (D.history disk.new)) }
     ensures sound { (state : State) (events : List Event) (names : List Record)
         → IsKeptWith kept.old state (D.history disk.old) names
-        → commit_need kept.old ≤ free_slots kept.old.fs.land.space → D.history disk.old ≡ Some events
+        → commit_need kept.old ≤ free_slots kept.old.fs.land.space → D.history disk.old ≡ Recorded events
         → BreaksNone result }
-    ensures leaves { OnOk result (LeavesRoom kept.old kept.new) }
+    ensures intact { IfBroken result (D.history disk.new ≡ D.history disk.old) }
+    ensures leaves { OnOk result (LeavesOver kept.old kept.new (D.history disk.old) (D.history disk.new)) }
     ensures err { IfErr result (λ fault. kept.new.superblock ≡ kept.old.superblock) }
     ensures sizes { (sizes_of kept.new.superblock ≡ sizes_of kept.old.superblock)
         × (D.size disk.old ≤ D.size disk.new) }
     ensures cause { HasCause BlockFault.Disk (D.faults disk.old) (D.faults disk.new) result }
 {
     let plan = plan_of(kept, disk, reads)?;
+    let copy = kept.fs.refs.to_record()?;
     forget_slots(&mut kept.fs.land.blocks, plan.slots.as_slice());
     let trees = write_trees(kept, disk, &plan)?;
-    keep_commit(kept, disk, plan, &trees)?;
+    keep_commit(kept, disk, plan, &trees, copy);
     Ok(())
 }
 
@@ -115,7 +126,7 @@ fn forget_slots(blocks: &mut Blocks, slots: &[Address])
     requires clean { All (λ slot. fresh_at blocks.old.draft slot ≡ None) slots.now }
     ensures same { blocks.new ≡ record blocks.old { clean = blocks.new.clean } }
     ensures forgotten { AreForgotten blocks.new slots.now }
-    ensures backed { (history : Option (List Event)) → IsBacked blocks.old history → IsBacked blocks.new history }
+    ensures backed { (history : History) → IsBacked blocks.old history → IsBacked blocks.new history }
 {
     for slot in slots {
         blocks.forget(*slot);
@@ -129,11 +140,11 @@ fn write_trees<D: Disk>(kept: &Kept, disk: &mut D, plan: &Plan) -> Result<OtherT
     requires plan { IsPlanSo kept.now plan.now }
     ensures laid { IfOk result (λ trees. IsLaidBy kept.now plan.now trees) }
     ensures calls { IfOk result (λ trees. D.history disk.new
-        ≡ option_map (with_tree_commit kept.now.fs trees) (D.history disk.old)) }
+        ≡ history_after (with_tree_commit kept.now.fs trees) (D.history disk.old)) }
     ensures read { IfOk result (λ trees. All (IsReadBack kept.now.superblock.nodesize)
         (fresh_nodes kept.now.fs.land.blocks.draft)) }
-    ensures stopped { (events : List Event) → D.history disk.old ≡ Some events
-        → IfErr result (λ fault. (D.history disk.new ≡ Some events)
+    ensures stopped { (events : List Event) → D.history disk.old ≡ Recorded events
+        → IfErr result (λ fault. (D.history disk.new ≡ Recorded events)
         ⊎ LaysSoFar kept.now plan.now events (D.history disk.new)) }
     ensures no_less { D.size disk.old ≤ D.size disk.new }
     ensures no_image { IfErr result (λ fault. (fault ≡ BlockFault.Disk) ⊎ (fault ≡ BlockFault.NoMemory)) }
@@ -155,37 +166,30 @@ fn write_trees<D: Disk>(kept: &Kept, disk: &mut D, plan: &Plan) -> Result<OtherT
     )
 }
 
-// What was laid out is committed, and takes the place of the last commit. It is done whole, or memory is refused and
-// nothing changes.
-fn keep_commit<D: Disk>(
-    kept: &mut Kept,
-    disk: &D,
-    plan: Plan,
-    trees: &OtherTrees,
-) -> Result<(), NoMemory>
+// What was laid out is committed, and takes the place of the last commit. It takes no memory.
+fn keep_commit<D: Disk>(kept: &mut Kept, disk: &D, plan: Plan, trees: &OtherTrees, copy: BookCopy)
     requires fitted { IsFitted kept.old }
     requires early { kept.old.superblock.generation ≤ 2 ^ 63 + 1 }
     requires plan { IsPlanSo kept.old plan }
     requires laid { IsLaidBy kept.old plan trees.now }
     requires backed { IsBacked kept.old.fs.land.blocks (D.history disk.now) }
     requires written { AreWritten kept.old.fs.land.blocks.draft (D.history disk.now) }
-    ensures keeps { OnOk result (KeepsCommit kept.old plan trees.now kept.new × CanTurn kept.new.fs) }
-    ensures subvolume { (before : Option (List Event)) (bytes : ℕ) → IsSubvolume kept.old.fs before bytes
+    requires copy { copy ≡ kept.old.fs.refs.refs }
+    ensures keeps { KeepsCommit kept.old plan trees.now kept.new × CanTurn kept.new.fs }
+    ensures subvolume { (before : History) (bytes : ℕ) → IsSubvolume kept.old.fs before bytes
         → bytes ≤ D.size disk.now
-        → OnOk result (IsSubvolume kept.new.fs (D.history disk.now) (D.size disk.now)) }
+        → IsSubvolume kept.new.fs (D.history disk.now) (D.size disk.now) }
     ensures stands { (events : List Event) (bytes : ℕ) (items : List Item) (names : List (ℕ × Piece))
-        → IsSubvolume kept.old.fs (Some events) bytes → Stands kept.old.fs (Some events) items names
-        → WritesTree kept.old.fs (Some events) (D.history disk.now) → (later : List Event)
-        → D.history disk.now ≡ Some later
-        → OnOk result (StandsStill kept.old.fs kept.new.fs (Some events) (D.history disk.now) items names) }
-    ensures err { OnErr result (kept.new ≡ kept.old) }
+        → IsSubvolume kept.old.fs (Recorded events) bytes → Stands kept.old.fs (Recorded events) items names
+        → WritesTree kept.old.fs (Recorded events) (D.history disk.now) → (later : List Event)
+        → D.history disk.now ≡ Recorded later
+        → StandsStill kept.old.fs kept.new.fs (Recorded events) (D.history disk.now) items names }
 {
     let (others, _) = plan.slots.as_slice().split_at(trees.len());
-    committed(&mut kept.fs, disk, others)?;
+    committed(&mut kept.fs, disk, others, copy);
     kept.superblock = trees.superblock;
     settle_quota(&mut kept.quota, plan.quota);
     kept.pending = 0;
-    Ok(())
 }
 
 // What is tracked takes over quota as a commit counted it anew, and nothing is held any more.

@@ -1,8 +1,8 @@
 // The groups with their counters, as a commit is to store them.
-ghost use Rattle.std.specs.Prelude.{◌≡◌, ℕ, All, List, Option, Some, IfOk, length, map};
+ghost use Rattle.std.specs.Prelude.{◌≡◌, ℕ, All, List, Some, IfOk, length, map};
 ghost use Rattle.std.specs.List.Sorted.{IsStrictlyIncreasing};
 ghost use Rattle.qg_device.specs.Cause.{HasCause};
-ghost use Rattle.qg_device.specs.History.{Event};
+ghost use Rattle.qg_device.specs.History.{Event, History, Recorded};
 ghost use Rattle.qg_image.specs.Table.{keys_of};
 ghost use Rattle.qg_image.specs.declared.quota.Quota.{Quota};
 ghost use Rattle.qg_image.specs.Members.{hierarchy_of, level_of_group};
@@ -48,7 +48,7 @@ pub(crate) fn counts_now<D: Disk, L: Ledger>(
         → IsKeptWith kept.old state (D.history disk.old) names → trees.now ≡ trees_of state
         → quota_of kept.old.quota ≡ Some quota
         → IfOk result (λ counts. AreGroupCounts (layout_of state) (hierarchy_of quota) counts.items) }
-    ensures sound { (state : State) (events : List Event) (names : List Record) → D.history disk.old ≡ Some events
+    ensures sound { (state : State) (events : List Event) (names : List Record) → D.history disk.old ≡ Recorded events
         → IsKeptWith kept.old state (D.history disk.old) names → trees.now ≡ trees_of state → BreaksNone result }
     ensures order { IfOk result (λ counts. IsInOrder kept.new.fs.land.space) }
     ensures kept { IsKept kept.new (D.history disk.new) (D.size disk.new) }
@@ -72,7 +72,7 @@ fn counts_of(kept: &Kept, trees: &[Tree], nodes: &[Surveyed]) -> Result<Vec<Coun
     requires order { AreInOrder kept.now nodes.now }
     requires lowest { All (λ tree. level_of_group tree.owner ≡ 0) trees.now }
     ensures all { IfOk result (λ counts. length counts.items ≡ length (groups_in (quota_of kept.now.quota))) }
-    ensures direct { (state : State) (history : Option (List Event)) (bytes : ℕ) (names : List Record) (quota : Quota)
+    ensures direct { (state : State) (history : History) (bytes : ℕ) (names : List Record) (quota : Quota)
         → IsKept kept.now history bytes → IsKeptWith kept.now state history names → trees.now ≡ trees_of state
         → nodes.now ≡ map (λ entry. surveyed_of entry.0 entry.1) state.layout → quota_of kept.now.quota ≡ Some quota
         → IfOk result (λ counts. AreGroupCounts (layout_of state) (hierarchy_of quota) counts.items) }

@@ -1,9 +1,9 @@
 // The subvolumes that reach what begins at an address.
-ghost use Rattle.std.specs.Prelude.{◌≡◌, ◌<◌, ◌==◌, [], All, List, Some, IfOk, length, map};
+ghost use Rattle.std.specs.Prelude.{◌≡◌, ◌<◌, ◌==◌, [], All, List, IfOk, length, map};
 ghost use Rattle.std.specs.List.{list_any};
 ghost use Rattle.std.specs.List.Sorted.{IsStrictlyIncreasing};
 ghost use Rattle.qg_device.specs.Cause.{HasCause};
-ghost use Rattle.qg_device.specs.History.{Event};
+ghost use Rattle.qg_device.specs.History.{Event, Recorded};
 ghost use Rattle.qg_num.specs.declared.command.Command.TheVariants.{Owners};
 ghost use Rattle.qg_image.specs.State.{State};
 ghost use Rattle.qg_blocks.specs.Told.{BreaksNone};
@@ -34,7 +34,7 @@ pub fn owners<D: Disk, L: Ledger>(
     ensures kept { IsKept kept.new (D.history disk.new) (D.size disk.new) }
     ensures step { (state : State) → IsKeptOf kept.old state (D.history disk.old)
         → IfOk result (λ answer. Answered state (Owners address) answer [] kept.new (D.history disk.new)) }
-    ensures sound { (state : State) (events : List Event) → D.history disk.old ≡ Some events
+    ensures sound { (state : State) (events : List Event) → D.history disk.old ≡ Recorded events
         → IsKeptOf kept.old state (D.history disk.old) → BreaksNone result }
     ensures looked { HasLooked kept.old kept.new (D.history disk.old) (D.history disk.new) (D.size disk.old)
         (D.size disk.new) }

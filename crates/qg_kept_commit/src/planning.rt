@@ -1,12 +1,13 @@
 // What a commit tells besides the references, and where it may lie.
-ghost use Rattle.std.specs.Prelude.{◌≡◌, ◌≤◌, All, List, Some, IfErr, IfNone, IfOk, IfSome, length};
+ghost use Rattle.std.specs.Prelude.{◌≡◌, ◌≤◌, All, List, IfErr, IfNone, IfOk, IfSome, length};
 ghost use Rattle.std.specs.List.{Contains};
 ghost use Rattle.qg_device.specs.Cause.{HasCause};
-ghost use Rattle.qg_device.specs.History.{Event};
+ghost use Rattle.qg_device.specs.History.{Event, Recorded};
+ghost use Rattle.qg_num.specs.declared.rule.Rule.TheVariants.{Refs};
 ghost use Rattle.qg_image.specs.Table.{keys_of};
 ghost use Rattle.qg_image.specs.Record.{Record};
 ghost use Rattle.qg_image.specs.State.{State};
-ghost use Rattle.qg_blocks.specs.Told.{BreaksNone};
+ghost use Rattle.qg_blocks.specs.Told.{BreaksAt, BreaksNone};
 ghost use Rattle.qg_extents.specs.Table.{IsTable};
 ghost use Rattle.qg_space.specs.Holding.{free_slots};
 ghost use Rattle.qg_descent.specs.Tree.{Root};
@@ -15,6 +16,7 @@ ghost use Rattle.qg_kept.specs.Keeping.{IsFitted, IsKept, IsKeptWith, commit_nee
 ghost use Rattle.qg_kept_commit.specs.Planning.{
   AreRootsBy,
   HasSurveyed,
+  IsLaterAt,
   IsPlanSo,
   IsPlanTold,
   IsRootIn,
@@ -45,9 +47,9 @@ pub(crate) struct Plan {
 /// What a commit tells of what is kept, and where it may lie. While quota is on all nodes that subvolumes reach are
 /// read once each, and nothing else is done.
 ///
-/// `Image` comes only where the trees have the items of no files: as the survey says it; with the rule `Refs` where a
-/// root is not known, or something is of a generation past the one to come; and with the rule `Shape` and the address
-/// of the root at hand where too few slots are free.
+/// `Image` comes only where the trees have the items of no files: as the survey says it; or with the rule `Refs`, and
+/// the address of a root that is not known, of a thing that is of a generation past the one to come, or of the root at
+/// hand where too few slots are free.
 pub(crate) fn plan_of<D: Disk, L: Ledger>(
     kept: &mut Kept,
     disk: &mut D,
@@ -58,7 +60,7 @@ pub(crate) fn plan_of<D: Disk, L: Ledger>(
     ensures told { (state : State) (names : List Record) → IsKeptWith kept.old state (D.history disk.old) names
         → IfOk result (λ plan. IsPlanTold state kept.new plan) }
     ensures sound { (state : State) (events : List Event) (names : List Record)
-        → D.history disk.old ≡ Some events → IsKeptWith kept.old state (D.history disk.old) names
+        → D.history disk.old ≡ Recorded events → IsKeptWith kept.old state (D.history disk.old) names
         → commit_need kept.old ≤ free_slots kept.old.fs.land.space → BreaksNone result }
     ensures kept { IsKept kept.new (D.history disk.new) (D.size disk.new) }
     ensures looked { HasSurveyed kept.old kept.new (D.history disk.old) (D.history disk.new) (D.size disk.old)
@@ -109,6 +111,7 @@ fn roots_now(
 fn root_now(book: &Extents, tree: &Tree, last_snapshot: Generation) -> Result<RootItem, BlockFault>
     ensures root { IfOk result (λ root. IsRootIn book.now tree.now last_snapshot root) }
     ensures sound { KnowsRoot book.now tree.now → BreaksNone result }
+    ensures unknown { BreaksAt result Refs tree.now.address }
     ensures apart { IfErr result (λ fault. fault ≡ BlockFault.Disk → ⊥) }
 {
     let address = tree.root();
@@ -131,6 +134,7 @@ fn root_now(book: &Extents, tree: &Tree, last_snapshot: Generation) -> Result<Ro
 fn first_later(book: &Extents, generation: Generation) -> Option<Address>
     ensures none { IfNone result (All (λ entry. entry.1.what.generation ≤ generation) book.now) }
     ensures some { IfSome result (λ at. All (λ entry. entry.1.what.generation ≤ generation) book.now → ⊥) }
+    ensures there { IfSome result (λ at. IsLaterAt generation book.now at) }
     ensures table { IsTable book.now }
 {
     for (at, kept) in book.table().iter() {
@@ -149,13 +153,14 @@ fn slots_for(kept: &Kept) -> Result<Sequence<Address>, BlockFault>
     ensures enough { IfOk result (λ slots. commit_need kept.now ≤ length slots) }
     ensures most { IfOk result (λ slots. length slots ≤ commit_need kept.now) }
     ensures sound { commit_need kept.now ≤ free_slots kept.now.fs.land.space → BreaksNone result }
+    ensures short { BreaksAt result Refs kept.now.fs.tree.address }
     ensures apart { IfErr result (λ fault. fault ≡ BlockFault.Disk → ⊥) }
 {
     let need = commit_need(kept)?;
     let slots = kept.fs.land.space.free_list(kept.alloc, need)?;
     if (slots.len() as u64) < need {
         return Err(BlockFault::Image {
-            rule: Rule::Shape,
+            rule: Rule::Refs,
             address: kept.fs.tree.root(),
         });
     }

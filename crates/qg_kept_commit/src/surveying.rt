@@ -1,8 +1,8 @@
 // All nodes that subvolumes reach, each once.
-ghost use Rattle.std.specs.Prelude.{◌≡◌, ◌∷◌, List, Some, IfOk, IsTrue, false, map};
+ghost use Rattle.std.specs.Prelude.{◌≡◌, ◌∷◌, List, IfOk, IsTrue, false, map};
 ghost use Rattle.std.specs.List.Sorted.{IsNonDecreasingBy, IsPermutation, IsStrictlyIncreasing};
 ghost use Rattle.qg_device.specs.Cause.{HasCause};
-ghost use Rattle.qg_device.specs.History.{Event};
+ghost use Rattle.qg_device.specs.History.{Event, Recorded};
 ghost use Rattle.qg_num.specs.declared.fault.BlockFault.TheVariants.{Image};
 ghost use Rattle.qg_num.specs.declared.rule.Rule.TheVariants.{Refs};
 ghost use Rattle.qg_image.specs.Record.{Record};
@@ -77,7 +77,7 @@ pub(crate) fn survey_all<D: Disk, L: Ledger>(
     ensures surveyed { (state : State) (names : List Record)
         → IsKeptWith kept.old state (D.history disk.old) names → trees.now ≡ trees_of_state state
         → IfOk result (λ nodes. nodes.items ≡ map (λ entry. surveyed_of entry.0 entry.1) state.layout) }
-    ensures sound { (state : State) (events : List Event) (names : List Record) → D.history disk.old ≡ Some events
+    ensures sound { (state : State) (events : List Event) (names : List Record) → D.history disk.old ≡ Recorded events
         → IsKeptWith kept.old state (D.history disk.old) names → trees.now ≡ trees_of_state state
         → BreaksNone result }
     ensures order { IfOk result (λ nodes. AreInOrder kept.old nodes.items) }

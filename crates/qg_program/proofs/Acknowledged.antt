@@ -4,8 +4,9 @@ use Rattle.std.proofs.Common.{append_assoc}
 use Rattle.std.specs.List.Sorted.{IsPermutation}
 use Rattle.std.proofs.lemmas.List.Sorted.{length_permutation}
 use Rattle.std.proofs.lemmas.Option.{same_Some}
-use Rattle.qg_device.specs.History.{Event, Synced, content}
+use Rattle.qg_device.specs.History.{Event, Recorded, Synced, content}
 use Rattle.qg_device.specs.CrashSince.{events_by}
+use Rattle.qg_device.proofs.Histories.{same_Recorded}
 use Rattle.qg_node.specs.declared.node.Node.{Node}
 use Rattle.qg_super.specs.declared.superblock.Super.{Super}
 use Rattle.qg_image.specs.State.{Committed, State}
@@ -111,12 +112,13 @@ last-of committed (state ∷ first) commit = last-of state first commit
 
 -- ---- an image is opened in one way
 
-opened-same : (events one other : List Event) → IsOpened events (Some one) → IsOpened events (Some other) → one ≡ other
+opened-same : (events one other : List Event) → IsOpened events (Recorded one)
+    → IsOpened events (Recorded other) → one ≡ other
 opened-same events one other first second =
     let super : first.super ≡ second.super = same_Some first.super second.super (sym first.chosen ∙ second.chosen) in
     let by : Super → List Event = λ s. with_repair s (stale_of (content events)) (Synced ∷ events) in
-    same_Some one (by first.super) first.repaired ∙ ap by super
-    ∙ sym (same_Some other (by second.super) second.repaired)
+    same_Recorded one (by first.super) first.repaired ∙ ap by super
+    ∙ sym (same_Recorded other (by second.super) second.repaired)
 
 -- ---- what is acknowledged stays
 
@@ -154,7 +156,7 @@ module _ (state : State) (events opened after : List Event) (commits : List Stat
       let all : commits ≡ front ++ later = are ∙ sym (append_assoc first (commit ∷ []) later) in
       let begun = opened-same events makes.opened opened makes.opens is.opens in
       let there : makes.made.after ≡ events_by moment after =
-      sym (same_Some (events_by moment after) makes.made.after makes.made.told) in
+      sym (same_Recorded (events_by moment after) makes.made.after makes.made.told) in
       let from = subst (λ (before : List Event). Makes state.held front before makes.made.after) begun
       makes.made.made in
       let made = subst (λ (done : List Event). Makes state.held front opened done) there from in

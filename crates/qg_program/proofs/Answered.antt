@@ -6,7 +6,7 @@ use Rattle.std.specs.List.{concat}
 use Rattle.std.specs.Io.KnownBytes.{append_known, IsAtEnd}
 use Rattle.std.proofs.Math.Seq.{drop-append_seam, take-append_seam, take-append-add}
 use Rattle.std.proofs.lemmas.List.{append-nil, length-append, take-append-le}
-use Rattle.qg_device.specs.History.{Event}
+use Rattle.qg_device.specs.History.{Event, History, Recorded}
 use Rattle.qg_edge.specs.Appended.{AppendsFront}
 use Rattle.qg_grammar.specs.ScriptText.{script_lines, longest_script}
 use Rattle.qg_script.specs.Feeding.{Feeding, IsTooLong, IsWithinLimit}
@@ -47,7 +47,7 @@ IsScript (Some input) lines (Some left) = IsAhead input lines left
 -- some lines of the input were answered and their replies put; so much of it is left. The store stands for the present
 -- state, and since it was opened the disk was made to hold what was committed
 pub record HasAnswered (state : State) (input : Option (List ℕ)) (opened : List Event) (pend : Option (List ℕ))
-    (store : Stored) (history : Option (List Event)) (old new : Option (List ℕ)) : Type 0 where
+    (store : Stored) (history : History) (old new : Option (List ℕ)) : Type 0 where
   pub lines : List (List ℕ)
   pub replies : List (List ℕ)
   pub commits : List State
@@ -57,7 +57,7 @@ pub record HasAnswered (state : State) (input : Option (List ℕ)) (opened : Lis
   pub script : IsScript input lines pend
   pub stands : IsStoreOf store present history
   pub events : List Event
-  pub known : history ≡ Some events
+  pub known : history ≡ Recorded events
   pub made : Makes state.held commits opened events
   pub held : held_after state.held commits ≡ present.held
 
@@ -68,8 +68,8 @@ script-none (Some input) =
     record { ahead = refl; limit = inl (record { front = []; parted = refl; ended = λ tail. refl }) }
 
 pub answered-none : (state : State) (input : Option (List ℕ)) (opened : List Event) (pend : Option (List ℕ))
-    (store : Stored) (history : Option (List Event)) (old : Option (List ℕ))
-    → pend ≡ input → IsStoreOf store state history → history ≡ Some opened
+    (store : Stored) (history : History) (old : Option (List ℕ))
+    → pend ≡ input → IsStoreOf store state history → history ≡ Recorded opened
     → HasAnswered state input opened pend store history old old
 answered-none state input opened pend store history old all stands known = record {
   lines = [];
@@ -152,7 +152,7 @@ made-more state present first more before mid after held made later =
 
 -- a turn that goes on
 pub answered-more : {state : State} {input : Option (List ℕ)} {opened : List Event} {pend : Option (List ℕ)}
-    {before store : Stored} {history told : Option (List Event)} {old mid new : Option (List ℕ)}
+    {before store : Stored} {history told : History} {old mid new : Option (List ℕ)}
     → (after : Option (List ℕ)) → (so_far : HasAnswered state input opened pend before history old mid)
     → IsTurn true so_far.present so_far.events pend after store told mid new
     → HasAnswered state input opened after store told old new
@@ -212,7 +212,7 @@ next-line input lines (Some left) (Some after) line script takes = record {
 
 -- what stops before the next line
 stops-script : (state : State) (input : List ℕ) (lines : List (List ℕ)) (left : Option (List ℕ)) (events : List Event)
-    (history : Option (List Event))
+    (history : History)
     → IsScript (Some input) lines left → StopsLine state left events history
     → StopsBefore state (drop (length lines) (script_lines input)) events history
 stops-script state input lines left events history script (inl none) = inl none
@@ -227,7 +227,7 @@ stops-script state input lines left events history script (inr breaks) =
 
 -- where the source tells its input
 pub script-told : {state : State} {input : Option (List ℕ)} {opened : List Event} {pend : Option (List ℕ)}
-    {before : Stored} {history : Option (List Event)} {old mid : Option (List ℕ)}
+    {before : Stored} {history : History} {old mid : Option (List ℕ)}
     → (so_far : HasAnswered state input opened pend before history old mid) (bytes : List ℕ) → input ≡ Some bytes
     → IsScript (Some bytes) so_far.lines pend
 script-told {pend = pend} so_far bytes told =
@@ -237,8 +237,8 @@ script-told {pend = pend} so_far bytes told =
 
 -- what was committed, and nothing else, was done to the disk
 pub made-all : {held : Committed} {commits : List State} {events opened after : List Event}
-    {history : Option (List Event)} → IsOpened events (Some opened)
-    → history ≡ Some after → Makes held commits opened after → MakesAll held commits events history
+    {history : History} → IsOpened events (Recorded opened)
+    → history ≡ Recorded after → Makes held commits opened after → MakesAll held commits events history
 made-all {held} {commits} {events} {opened} {after} {history} opens told made = record {
   opened = opened;
   opens = opens;
@@ -248,10 +248,10 @@ made-all {held} {commits} {events} {opened} {after} {history} opens told made = 
 
 -- the turn that finds nothing left
 pub answered-all : {state : State} {input : Option (List ℕ)} {events opened : List Event} {pend : Option (List ℕ)}
-    {before : Stored} {history told : Option (List Event)} {old mid new : Option (List ℕ)}
+    {before : Stored} {history told : History} {old mid new : Option (List ℕ)}
     → (bytes : List ℕ) (after : Option (List ℕ)) (store : Stored)
     → (so_far : HasAnswered state input opened pend before history old mid) → input ≡ Some bytes
-    → IsOpened events (Some opened) → IsTurn false so_far.present so_far.events pend after store told mid new
+    → IsOpened events (Recorded opened) → IsTurn false so_far.present so_far.events pend after store told mid new
     → Follows status.Done state bytes events told old new
 answered-all {state} {input} {events} {opened} {pend} {before} {history} {told} {old} {mid} {new} bytes after store
     so_far is opens over =
@@ -268,10 +268,10 @@ answered-all {state} {input} {events} {opened} {pend} {before} {history} {told} 
 
 -- whole replies up to a fault
 answered-some : {state : State} {input : Option (List ℕ)} {events opened : List Event} {pend : Option (List ℕ)}
-    {before : Stored} {history told : Option (List Event)} {old mid new : Option (List ℕ)}
+    {before : Stored} {history told : History} {old mid new : Option (List ℕ)}
     → (bytes : List ℕ) (so_far : HasAnswered state input opened pend before history old mid) → input ≡ Some bytes
-    → IsOpened events (Some opened)
-    → told ≡ Some so_far.events → new ≡ mid → FollowsSome state (script_lines bytes) events told old new
+    → IsOpened events (Recorded opened)
+    → told ≡ Recorded so_far.events → new ≡ mid → FollowsSome state (script_lines bytes) events told old new
 answered-some {state = state} {pend = pend} bytes so_far is opens told same =
     let front = first-lines bytes so_far.lines pend (script-told so_far bytes is) in
     record {
@@ -289,9 +289,9 @@ answered-some {state = state} {pend = pend} bytes so_far is opens told same =
 
 -- and then perhaps calls of the next line's commits
 answered-until : {state : State} {input : Option (List ℕ)} {events opened : List Event} {pend : Option (List ℕ)}
-    {before : Stored} {history told : Option (List Event)} {old mid new : Option (List ℕ)}
+    {before : Stored} {history told : History} {old mid new : Option (List ℕ)}
     → (bytes : List ℕ) (so_far : HasAnswered state input opened pend before history old mid) → input ≡ Some bytes
-    → IsOpened events (Some opened)
+    → IsOpened events (Recorded opened)
     → StopsLine so_far.present pend so_far.events told × (new ≡ mid)
     → FollowsUntil state (script_lines bytes) events told old new
 answered-until {state} {input} {events} {opened} {pend} {before} {history} {told} bytes so_far is opens stops =
@@ -312,9 +312,9 @@ answered-until {state} {input} {events} {opened} {pend} {before} {history} {told
 
 -- the sink failed: a front of the last reply
 failed-sink : {state : State} {input : Option (List ℕ)} {events opened : List Event} {pend : Option (List ℕ)}
-    {before store : Stored} {history told : Option (List Event)} {old mid new : Option (List ℕ)}
+    {before store : Stored} {history told : History} {old mid new : Option (List ℕ)}
     → (bytes : List ℕ) (so_far : HasAnswered state input opened pend before history old mid) → input ≡ Some bytes
-    → IsOpened events (Some opened)
+    → IsOpened events (Recorded opened)
     → TurnsPart so_far.present so_far.events pend store told mid new
     → Follows status.Sink state bytes events told old new
 failed-sink {state} {input} {events} {opened} {pend} {before} {store} {history} {told} {old} {mid} {new} bytes so_far
@@ -385,7 +385,7 @@ limit-lines input lines feeding (Some left) script fed too_long = elim script.li
 ]
 
 pub answered-limit : {state : State} {input : Option (List ℕ)} {opened : List Event} {pend : Option (List ℕ)}
-    {before : Stored} {history : Option (List Event)} {old mid : Option (List ℕ)}
+    {before : Stored} {history : History} {old mid : Option (List ℕ)}
     → (bytes : List ℕ) (feeding : Feeding) (left : Option (List ℕ))
     (so_far : HasAnswered state input opened pend before history old mid) → input ≡ Some bytes
     → pending feeding left ≡ pend → HasFed bytes feeding left → IsTooLong feeding
@@ -397,11 +397,11 @@ answered-limit bytes feeding left so_far is same fed too_long =
 
 -- a turn that fails
 pub answered-failed : {state : State} {input : Option (List ℕ)} {events opened : List Event} {pend : Option (List ℕ)}
-    {before : Stored} {history : Option (List Event)} {old mid : Option (List ℕ)}
+    {before : Stored} {history : History} {old mid : Option (List ℕ)}
     → (end : Status) (bytes : List ℕ) (feeding : Feeding) (left : Option (List ℕ)) (store : Stored)
-    (told : Option (List Event)) (new : Option (List ℕ))
+    (told : History) (new : Option (List ℕ))
     → (so_far : HasAnswered state input opened pend before history old mid) → input ≡ Some bytes
-    → IsOpened events (Some opened) → HasFed bytes feeding left → (end ≡ status.TooLong → IsTooLong feeding)
+    → IsOpened events (Recorded opened) → HasFed bytes feeding left → (end ≡ status.TooLong → IsTooLong feeding)
     → FailsToTurn end so_far.present so_far.events pend (pending feeding left) store told mid new
     → Follows end state bytes events told old new
 answered-failed status.Sink bytes feeding left store told new so_far is opens fed too_long fails =

@@ -1,7 +1,8 @@
 -- How what was asked ends where nothing fails.
 use Rattle.std.proofs.Common.{◌≡◌, inl, inr, ℕ, ◌≤◌, List, length, Option, Some, None, IsTrue, refl, sym, ◌∙◌, arith}
 use Rattle.std.proofs.Common.{String, Global}
-use Rattle.qg_device.specs.History.{Event, content}
+use Rattle.qg_device.specs.History.{Event, History, Recorded, content}
+use Rattle.qg_device.proofs.Causes.{end-rose}
 use Rattle.qg_grammar.specs.ScriptText.{longest_script}
 use Rattle.qg_image.specs.State.{State}
 use Rattle.qg_image.specs.Verdict.{IsSound, verdict}
@@ -20,12 +21,14 @@ use Rattle.qg_program.specs.Putting.{Refuses}
 use Rattle.qg_program.specs.Running.{IsTaken}
 
 -- what ends for a cause, and is done where there is none
-pub for-cause : {words : List (String Global)} {end : Status} {before : Option (List Event)} {left : Option (List ℕ)}
-    {S K D : Type 0}
-    → HasCauses end S K D
-    → (HasCauses end S K D → (events : List Event) → before ≡ Some events → NothingFails S K D
+pub for-cause : {words : List (String Global)} {end : Status} {before : History} {left : Option (List ℕ)}
+    {source_before source_now sink_before sink_now disk_before disk_now : ℕ}
+    → HasCauses end source_before source_now sink_before sink_now disk_before disk_now
+    → (HasCauses end source_before source_now sink_before sink_now disk_before disk_now
+    → (events : List Event) → before ≡ Recorded events
+    → NothingFails source_before source_now sink_before sink_now disk_before disk_now
     → IsComplete words end (content events) left)
-    → EndsForCause words end before left S K D
+    → EndsForCause words end before left source_before source_now sink_before sink_now disk_before disk_now
 for-cause causes complete = record { causes = causes; complete = complete causes }
 
 -- an image that is not sound has a failure
@@ -58,22 +61,37 @@ none-done image (Sound generation) unsound is ends = unsound is.sound
 none-done image (Broken rule address) unsound is ends = absurd cc
 none-done image (Differs group which stored counted) unsound is ends = absurd cc
 
-module _ {S K D : Type 0} (nothing : NothingFails S K D) where
+module _ {source_before source_now sink_before sink_now disk_before disk_now : ℕ}
+    (nothing : NothingFails source_before source_now sink_before sink_now disk_before disk_now) where
+  -- it ends for its causes
+  abbrev pub Caused : Status → Type 0
+  Caused end = HasCauses end source_before source_now sink_before sink_now disk_before disk_now
+
+  no-source : Caused status.Source → ⊥
+  no-source causes =
+      nothing.source (end-rose status.Source source_before source_now status.Source refl causes.source)
+
+  no-sink : Caused status.Sink → ⊥
+  no-sink causes = nothing.sink (end-rose status.Sink sink_before sink_now status.Sink refl causes.sink)
+
+  no-disk : Caused status.Disk → ⊥
+  no-disk causes = nothing.disk (end-rose status.Disk disk_before disk_now status.Disk refl causes.disk)
+
   -- a run over a sound image
   pub follows-ends : (end : Status) (state : State) (input : List ℕ) (events : List Event)
-      (history : Option (List Event)) (old new after : Option (List ℕ))
-      → HasCauses end S K D → Follows end state input events history old new → IsTaken end (Some input) after
+      (history : History) (old new after : Option (List ℕ))
+      → Caused end → Follows end state input events history old new → IsTaken end (Some input) after
       → length input ≤ longest_script → EndsIn status.Done end
   follows-ends status.Done state input events history old new after causes follows taken within = inl refl
   follows-ends status.NoMemory state input events history old new after causes follows taken within = inr refl
   follows-ends status.TooLong state input events history old new after causes follows taken within =
       absurd (script-taken input after taken within)
   follows-ends status.Source state input events history old new after causes follows taken within =
-      absurd (nothing.source (causes.source refl))
+      absurd (no-source causes)
   follows-ends status.Sink state input events history old new after causes follows taken within =
-      absurd (nothing.sink (causes.sink refl))
+      absurd (no-sink causes)
   follows-ends status.Disk state input events history old new after causes follows taken within =
-      absurd (nothing.disk (causes.disk refl))
+      absurd (no-disk causes)
   follows-ends status.Words state input events history old new after causes follows taken within = absurd follows
   follows-ends status.Image state input events history old new after causes follows taken within = absurd follows
   follows-ends status.Found state input events history old new after causes follows taken within = absurd follows
@@ -81,14 +99,14 @@ module _ {S K D : Type 0} (nothing : NothingFails S K D) where
 
   -- one of the generator's lines
   pub generates-ends : (end : Status) (state : State) (seed count : ℕ) (events : List Event)
-      (history : Option (List Event)) (old new : Option (List ℕ))
-      → HasCauses end S K D → Generates end state seed count events history old new → EndsIn status.Done end
+      (history : History) (old new : Option (List ℕ))
+      → Caused end → Generates end state seed count events history old new → EndsIn status.Done end
   generates-ends status.Done state seed count events history old new causes generates = inl refl
   generates-ends status.NoMemory state seed count events history old new causes generates = inr refl
   generates-ends status.Sink state seed count events history old new causes generates =
-      absurd (nothing.sink (causes.sink refl))
+      absurd (no-sink causes)
   generates-ends status.Disk state seed count events history old new causes generates =
-      absurd (nothing.disk (causes.disk refl))
+      absurd (no-disk causes)
   generates-ends status.Source state seed count events history old new causes generates = absurd generates
   generates-ends status.TooLong state seed count events history old new causes generates = absurd generates
   generates-ends status.Words state seed count events history old new causes generates = absurd generates
@@ -97,12 +115,12 @@ module _ {S K D : Type 0} (nothing : NothingFails S K D) where
   generates-ends status.Sizes state seed count events history old new causes generates = absurd generates
 
   -- either over another image
-  pub refuses-ends : (end : Status) (text : List ℕ) (old new : Option (List ℕ)) → HasCauses end S K D
+  pub refuses-ends : (end : Status) (text : List ℕ) (old new : Option (List ℕ)) → Caused end
       → Refuses end text old new → EndsIn status.Image end
   refuses-ends status.Image text old new causes refuses = inl refl
   refuses-ends status.NoMemory text old new causes refuses = inr refl
-  refuses-ends status.Sink text old new causes refuses = absurd (nothing.sink (causes.sink refl))
-  refuses-ends status.Disk text old new causes refuses = absurd (nothing.disk (causes.disk refl))
+  refuses-ends status.Sink text old new causes refuses = absurd (no-sink causes)
+  refuses-ends status.Disk text old new causes refuses = absurd (no-disk causes)
   refuses-ends status.Done text old new causes refuses = absurd refuses
   refuses-ends status.Source text old new causes refuses = absurd refuses
   refuses-ends status.TooLong text old new causes refuses = absurd refuses
@@ -111,30 +129,31 @@ module _ {S K D : Type 0} (nothing : NothingFails S K D) where
   refuses-ends status.Sizes text old new causes refuses = absurd refuses
 
   -- a check
-  pub checks-done : (end : Status) (events : List Event) (history : Option (List Event)) (old new : Option (List ℕ))
-      → HasCauses end S K D
-      → history ≡ Some events → Checks end history old new → IsSound (content events) → EndsIn status.Done end
+  pub checks-done : (end : Status) (events : List Event) (history : History) (old new : Option (List ℕ))
+      → Caused end
+      → history ≡ Recorded events → Checks end history old new → IsSound (content events) → EndsIn status.Done end
   checks-done status.Done events history old new causes told checks sound = inl refl
   checks-done status.NoMemory events history old new causes told checks sound = inr refl
   checks-done status.Found events history old new causes told checks sound =
       absurd (none-found (content events) checks.report sound (checks.right events told) checks.ends)
-  checks-done status.Sink events history old new causes told checks sound = absurd (nothing.sink (causes.sink refl))
-  checks-done status.Disk events history old new causes told checks sound = absurd (nothing.disk (causes.disk refl))
+  checks-done status.Sink events history old new causes told checks sound = absurd (no-sink causes)
+  checks-done status.Disk events history old new causes told checks sound = absurd (no-disk causes)
   checks-done status.Source events history old new causes told checks sound = absurd checks
   checks-done status.TooLong events history old new causes told checks sound = absurd checks
   checks-done status.Words events history old new causes told checks sound = absurd checks
   checks-done status.Image events history old new causes told checks sound = absurd checks
   checks-done status.Sizes events history old new causes told checks sound = absurd checks
 
-  pub checks-found : (end : Status) (events : List Event) (history : Option (List Event)) (old new : Option (List ℕ))
-      → HasCauses end S K D
-      → history ≡ Some events → Checks end history old new → (IsSound (content events) → ⊥) → EndsIn status.Found end
+  pub checks-found : (end : Status) (events : List Event) (history : History) (old new : Option (List ℕ))
+      → Caused end
+      → history ≡ Recorded events → Checks end history old new → (IsSound (content events) → ⊥)
+      → EndsIn status.Found end
   checks-found status.Found events history old new causes told checks unsound = inl refl
   checks-found status.NoMemory events history old new causes told checks unsound = inr refl
   checks-found status.Done events history old new causes told checks unsound =
       absurd (none-done (content events) checks.report unsound (checks.right events told) checks.ends)
-  checks-found status.Sink events history old new causes told checks unsound = absurd (nothing.sink (causes.sink refl))
-  checks-found status.Disk events history old new causes told checks unsound = absurd (nothing.disk (causes.disk refl))
+  checks-found status.Sink events history old new causes told checks unsound = absurd (no-sink causes)
+  checks-found status.Disk events history old new causes told checks unsound = absurd (no-disk causes)
   checks-found status.Source events history old new causes told checks unsound = absurd checks
   checks-found status.TooLong events history old new causes told checks unsound = absurd checks
   checks-found status.Words events history old new causes told checks unsound = absurd checks
@@ -142,12 +161,12 @@ module _ {S K D : Type 0} (nothing : NothingFails S K D) where
   checks-found status.Sizes events history old new causes told checks unsound = absurd checks
 
   -- an image is made
-  pub makes-done : (end : Status) → HasCauses end S K D → IsTrue (is_makers end) → (end ≡ status.Sizes → ⊥)
+  pub makes-done : (end : Status) → Caused end → IsTrue (is_makers end) → (end ≡ status.Sizes → ⊥)
       → EndsIn status.Done end
   makes-done status.Done causes is served = inl refl
   makes-done status.NoMemory causes is served = inr refl
-  makes-done status.Sink causes is served = absurd (nothing.sink (causes.sink refl))
-  makes-done status.Disk causes is served = absurd (nothing.disk (causes.disk refl))
+  makes-done status.Sink causes is served = absurd (no-sink causes)
+  makes-done status.Disk causes is served = absurd (no-disk causes)
   makes-done status.Sizes causes is served = absurd (served refl)
   makes-done status.Source causes is served = absurd cc
   makes-done status.TooLong causes is served = absurd cc

@@ -1,12 +1,12 @@
 -- What a run of the generator's lines leaves behind, by how it ended.
 use Rattle.std.proofs.Common.{◌≡◌, ◌≢◌, ◌⊎◌, ◌∙◌, inl, inr, ℕ, ◌+◌, ◌≤◌, List, [], ◌∷◌, ◌++◌, length, map, take, drop}
-use Rattle.std.proofs.Common.{Option, Some, IsTrue, refl, sym, ap, subst}
+use Rattle.std.proofs.Common.{Option, IsTrue, refl, sym, ap, subst}
 use Rattle.std.specs.Io.KnownBytes.{append_known}
 use Rattle.std.proofs.lemmas.List.{length-take-le, take-append-drop}
-use Rattle.std.proofs.lemmas.Option.{same_Some}
-use Rattle.qg_device.specs.History.{Event}
+use Rattle.qg_device.specs.History.{Event, History, Recorded}
 use Rattle.qg_device.specs.Crash.{Leaves}
 use Rattle.qg_device.specs.CrashSince.{LeavesSince}
+use Rattle.qg_device.proofs.Histories.{same_Recorded}
 use Rattle.qg_edge.specs.Appended.{AppendsFront}
 use Rattle.qg_grammar.specs.ReplyText.{reply_text}
 use Rattle.qg_image.specs.State.{State}
@@ -44,7 +44,7 @@ lines-unopened state seed count events after old new survives early same end (in
 -- ---- all lines were answered
 
 module _ (state : State) (seed count : ℕ) (opened after : List Event) (text : List ℕ)
-    (loaded : IsLoaded state seed count text opened (Some after)) where
+    (loaded : IsLoaded state seed count text opened (Recorded after)) where
   abbrev replies : List (List ℕ)
   replies = map reply_text loaded.tells.answers ++ loaded.tells.committed ∷ loaded.tells.shown ∷ []
 
@@ -74,7 +74,7 @@ module _ (state : State) (seed count : ℕ) (opened after : List Event) (text : 
     made = loaded.made.made;
     begun = [];
     begins = begins;
-    next = record { later = tt; made = same_Some after loaded.made.after loaded.made.told };
+    next = record { later = tt; made = same_Recorded after loaded.made.after loaded.made.told };
   }
 
   -- the text was put, or a front of it
@@ -103,7 +103,7 @@ next-taken count lines line later first =
     (later, sym (take-append-drop count lines) ∙ ap (λ (more : List (List ℕ)). take count lines ++ more) first)
 
 module _ (state : State) (seed count : ℕ) (opened after : List Event)
-    (stops : StopsWithin state (asked_lines seed count) opened (Some after)) where
+    (stops : StopsWithin state (asked_lines seed count) opened (Recorded after)) where
   abbrev lines : List (List ℕ)
   lines = take stops.count (asked_lines seed count)
 
@@ -129,23 +129,23 @@ module _ (state : State) (seed count : ℕ) (opened after : List Event)
 
   -- so the disk had the calls of the lines that were answered, and no others
   mid-made : stops.mid ≡ stops.made.after
-  mid-made = same_Some stops.mid stops.made.after stops.made.told
+  mid-made = same_Recorded stops.mid stops.made.after stops.made.told
 
   ended-by : (end : Status) (old new : Option (List ℕ)) → AreDrawn end (asked_lines seed count) lines
       → IsTold end count stops.replies old new
       → ((begun : List State) → (begun ≡ []) ⊎ BeginsNext stops.after (Drawn seed count) lines begun
       → Begins end stops.after (Drawn seed count) lines begun)
-      → StopsBefore stops.after (drop stops.count (asked_lines seed count)) stops.made.after (Some after)
+      → StopsBefore stops.after (drop stops.count (asked_lines seed count)) stops.made.after (Recorded after)
       → HasEnded end state (Drawn seed count) opened after old new
   ended-by end old new answered put begins (inl none) =
       ended-begun end old new [] answered put (begins [] (inl refl))
-      (record { later = tt; made = same_Some after stops.made.after none })
+      (record { later = tt; made = same_Recorded after stops.made.after none })
   ended-by end old new answered put begins (inr breaks) =
       let given = breaks.starts.command in
-      let done : IsDoneSoFar stops.after given stops.made.after (Some after) = inr breaks.starts.starts in
-      let begun = begun-so-far stops.after given stops.after stops.made.after (Some after)
+      let done : IsDoneSoFar stops.after given stops.made.after (Recorded after) = inr breaks.starts.starts in
+      let begun = begun-so-far stops.after given stops.after stops.made.after (Recorded after)
       (last-itself stops.after) done in
-      let same : begun.after ≡ after = sym (same_Some after begun.after begun.told) in
+      let same : begun.after ≡ after = sym (same_Recorded after begun.after begun.told) in
       ended-begun end old new begun.commits answered put
       (begins begun.commits (inr (record {
         line = breaks.line;
@@ -161,9 +161,10 @@ module _ (state : State) (seed count : ℕ) (opened after : List Event)
             begun.made;
       })
 
-  stopped-there : StopsBefore stops.after (drop stops.count (asked_lines seed count)) stops.made.after (Some after)
+  stopped-there : StopsBefore stops.after (drop stops.count (asked_lines seed count)) stops.made.after (Recorded after)
   stopped-there =
-      subst (λ (mid : List Event). StopsBefore stops.after (drop stops.count (asked_lines seed count)) mid (Some after))
+      subst (λ (mid : List Event). StopsBefore stops.after (drop stops.count (asked_lines seed count)) mid
+      (Recorded after))
       mid-made
       stops.stops
 
@@ -195,7 +196,7 @@ module _ (state : State) (seed count : ℕ) (events opened after : List Event)
 
   -- the text was not put whole
   leaves-unput : (end : Status) (text : List ℕ) (old new : Option (List ℕ))
-      → IsLoaded state seed count text opened (Some after)
+      → IsLoaded state seed count text opened (Recorded after)
       → FailsToPut end text old new → LeavesBehind end state (Drawn seed count) events after old new
   leaves-unput status.Sink text old new loaded fails =
       leaves-by status.Sink old new (ended-front state seed count opened after text loaded old new fails)
@@ -215,7 +216,7 @@ module _ (state : State) (seed count : ℕ) (events opened after : List Event)
 
   -- it was to be put
   leaves-put : (end : Status) (text : List ℕ) (old new : Option (List ℕ))
-      → IsLoaded state seed count text opened (Some after)
+      → IsLoaded state seed count text opened (Recorded after)
       → PutsAndEnds status.Done end text old new → LeavesBehind end state (Drawn seed count) events after old new
   leaves-put end text old new loaded (inl put) =
       subst (λ (end : Status). LeavesBehind end state (Drawn seed count) events after old new) (sym put.0)
@@ -223,18 +224,19 @@ module _ (state : State) (seed count : ℕ) (events opened after : List Event)
   leaves-put end text old new loaded (inr fails) = leaves-unput end text old new loaded fails
 
   -- over what the disk tells in the end
-  pub lines-loaded : (history : Option (List Event)) (end : Status) (text : List ℕ) (old new : Option (List ℕ))
-      → history ≡ Some after → IsLoaded state seed count text opened history → PutsAndEnds status.Done end text old new
+  pub lines-loaded : (history : History) (end : Status) (text : List ℕ) (old new : Option (List ℕ))
+      → history ≡ Recorded after → IsLoaded state seed count text opened history
+      → PutsAndEnds status.Done end text old new
       → LeavesBehind end state (Drawn seed count) events after old new
   lines-loaded history end text old new now loaded puts =
       leaves-put end text old new
-      (subst (λ (h : Option (List Event)). IsLoaded state seed count text opened h) now loaded) puts
+      (subst (λ (h : History). IsLoaded state seed count text opened h) now loaded) puts
 
-  pub lines-stopped : (history : Option (List Event)) (end result : Status) (old new : Option (List ℕ))
-      → history ≡ Some after
+  pub lines-stopped : (history : History) (end result : Status) (old new : Option (List ℕ))
+      → history ≡ Recorded after
       → StopsWithin state (asked_lines seed count) opened history → result ≡ end → new ≡ old → IsTrue (is_stop end)
       → end ≢ status.Image → LeavesBehind result state (Drawn seed count) events after old new
   lines-stopped history end result old new now stops same silent is sound =
-      let told = subst (λ (h : Option (List Event)). StopsWithin state (asked_lines seed count) opened h) now stops in
+      let told = subst (λ (h : History). StopsWithin state (asked_lines seed count) opened h) now stops in
       subst (λ (end : Status). LeavesBehind end state (Drawn seed count) events after old new) (sym same)
       (leaves-by end old new (ended-stopped state seed count opened after told end old new silent is sound))

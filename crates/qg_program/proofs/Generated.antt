@@ -1,12 +1,12 @@
 -- What follows where the generator's lines were answered, and a commit and `show` behind them.
-use Rattle.std.proofs.Common.{◌≡◌, ◌≢◌, ◌⊎◌, inl, inr, ℕ, List, [], ◌∷◌, ◌++◌, length, map, take, drop, Option, Some}
+use Rattle.std.proofs.Common.{◌≡◌, ◌≢◌, ◌⊎◌, inl, inr, ℕ, List, [], ◌∷◌, ◌++◌, length, map, take, drop, Option}
 use Rattle.std.proofs.Common.{IsTrue, refl, sym, ap, ◌∙◌, subst, arith, append_assoc}
 use Rattle.std.specs.Prelude.{codes}
 use Rattle.std.specs.List.{count_by}
 use Rattle.std.specs.Io.KnownBytes.{append_known}
 use Rattle.std.proofs.Math.Seq.{drop-append_seam, take-append_seam}
 use Rattle.std.proofs.lemmas.List.{length-append, take_all}
-use Rattle.qg_device.specs.History.{Event}
+use Rattle.qg_device.specs.History.{Event, History, Recorded}
 use Rattle.qg_num.specs.declared.answer.Answer.{Answer}
 use Rattle.qg_num.specs.declared.command.Command.TheVariants.{Commit, Show}
 use Rattle.qg_grammar.specs.ReplyText.{reply_text}
@@ -42,7 +42,7 @@ show-line = record { text = refl; in_grammar = refl; short = omega arith }
 
 -- all lines were answered, and the text was made
 pub load-whole : (state : State) (seed count : ℕ) (tally : Tally) {store store' store'' : Stored} {events : List Event}
-    {before mid history : Option (List Event)}
+    {before mid history : History}
     (committed shown : Answer) (text : List ℕ)
     → (so_far : AreRun state (lines_of (generated_script seed count)) tally store events before)
     → (first : IsReply so_far.after so_far.made.after (codes "commit") (reply_text committed) store' mid)
@@ -92,7 +92,7 @@ load-whole state seed count tally {store} {store'} {store''} {events} {before} {
 
 -- in the last commit
 pub stopped-commit : (state : State) (seed count : ℕ) (tally : Tally) {store : Stored} {events : List Event}
-    {before : Option (List Event)} (history : Option (List Event))
+    {before : History} (history : History)
     → (so_far : AreRun state (lines_of (generated_script seed count)) tally store events before)
     → IsLineSoFar so_far.after (codes "commit") so_far.made.after history
     → StopsWithin state (asked_lines seed count) events history
@@ -102,7 +102,7 @@ stopped-commit state seed count tally history so_far line =
 
 -- behind it
 pub stopped-show : (state : State) (seed count : ℕ) (tally : Tally) {store store' : Stored} {events : List Event}
-    {before mid : Option (List Event)} (history : Option (List Event))
+    {before mid : History} (history : History)
     (committed : Answer) → (so_far : AreRun state (lines_of (generated_script seed count)) tally store events before)
     → (first : IsReply so_far.after so_far.made.after (codes "commit") (reply_text committed) store' mid)
     → IsLineSoFar first.new (codes "show") first.made.after history
@@ -140,7 +140,7 @@ stopped-show state seed count tally {store} {store'} {events} {before} {mid} his
 
 -- while the text is made, or put: all lines were answered
 pub stopped-told : (state : State) (seed count : ℕ) (text : List ℕ) {events : List Event}
-    {history : Option (List Event)} → IsLoaded state seed count text events history
+    {history : History} → IsLoaded state seed count text events history
     → StopsWithin state (asked_lines seed count) events history
 stopped-told state seed count text {events} {history} loaded =
     let lines = asked_lines seed count in record {
@@ -159,8 +159,8 @@ stopped-told state seed count text {events} {history} loaded =
 
 -- ---- how it ends
 
-loads-all : {state : State} {seed count : ℕ} {events opened : List Event} {history : Option (List Event)}
-    {text : List ℕ} → IsOpened events (Some opened)
+loads-all : {state : State} {seed count : ℕ} {events opened : List Event} {history : History}
+    {text : List ℕ} → IsOpened events (Recorded opened)
     → IsLoaded state seed count text opened history → GeneratesAll state seed count events history text
 loads-all opens loaded = record {
   commits = loaded.commits;
@@ -169,15 +169,15 @@ loads-all opens loaded = record {
 }
 
 -- the text was put
-generates-put : {state : State} {seed count : ℕ} {events opened : List Event} {history : Option (List Event)}
+generates-put : {state : State} {seed count : ℕ} {events opened : List Event} {history : History}
     (text : List ℕ) {old new : Option (List ℕ)}
-    → IsOpened events (Some opened) → IsLoaded state seed count text opened history → new ≡ append_known old text
+    → IsOpened events (Recorded opened) → IsLoaded state seed count text opened history → new ≡ append_known old text
     → Generates status.Done state seed count events history old new
 generates-put text opens loaded put = record { text = text; generates = loads-all opens loaded; put = put }
 
-generates-until : {state : State} {lines : List (List ℕ)} {events opened : List Event} {history : Option (List Event)}
+generates-until : {state : State} {lines : List (List ℕ)} {events opened : List Event} {history : History}
     {old new : Option (List ℕ)}
-    → IsOpened events (Some opened) → StopsWithin state lines opened history → new ≡ old
+    → IsOpened events (Recorded opened) → StopsWithin state lines opened history → new ≡ old
     → GeneratesUntil state lines events history old new
 generates-until opens stops silent = record {
   count = stops.count;
@@ -193,8 +193,8 @@ generates-until opens stops silent = record {
 
 -- the text was not put whole
 generates-unput : (end : Status) {state : State} {seed count : ℕ} {events opened : List Event}
-    {history : Option (List Event)} (text : List ℕ) (old new : Option (List ℕ))
-    → IsOpened events (Some opened) → IsLoaded state seed count text opened history → FailsToPut end text old new
+    {history : History} (text : List ℕ) (old new : Option (List ℕ))
+    → IsOpened events (Recorded opened) → IsLoaded state seed count text opened history → FailsToPut end text old new
     → Generates end state seed count events history old new
 generates-unput status.Sink text old new opens loaded fails = record {
   text = text;
@@ -214,8 +214,8 @@ generates-unput status.TooLong text old new opens loaded fails = absurd fails
 
 -- the text was to be put
 pub generates-ended : (end : Status) {state : State} {seed count : ℕ} {events opened : List Event}
-    {history : Option (List Event)} (text : List ℕ) (old new : Option (List ℕ))
-    → IsOpened events (Some opened) → IsLoaded state seed count text opened history
+    {history : History} (text : List ℕ) (old new : Option (List ℕ))
+    → IsOpened events (Recorded opened) → IsLoaded state seed count text opened history
     → PutsAndEnds status.Done end text old new
     → Generates end state seed count events history old new
 generates-ended end {state} {seed} {count} {events} {opened} {history} text old new opens loaded (inl put) =
@@ -225,8 +225,8 @@ generates-ended end text old new opens loaded (inr fails) = generates-unput end 
 
 -- it stopped before that
 pub generates-stopped : (end : Status) {state : State} (seed count : ℕ) {events opened : List Event}
-    {history : Option (List Event)} {old new : Option (List ℕ)}
-    → IsOpened events (Some opened) → StopsWithin state (asked_lines seed count) opened history → new ≡ old
+    {history : History} {old new : Option (List ℕ)}
+    → IsOpened events (Recorded opened) → StopsWithin state (asked_lines seed count) opened history → new ≡ old
     → IsTrue (is_stop end) → end ≢ status.Image
     → Generates end state seed count events history old new
 generates-stopped status.NoMemory seed count opens stops silent is sound = inr (generates-until opens stops silent)
@@ -242,14 +242,14 @@ generates-stopped status.TooLong seed count opens stops silent is sound = absurd
 
 -- and that was handed on
 pub generates-handed : (end result : Status) (state : State) (seed count : ℕ) (events : List Event)
-    (history : Option (List Event)) (old new : Option (List ℕ)) → result ≡ end
+    (history : History) (old new : Option (List ℕ)) → result ≡ end
     → Generates end state seed count events history old new → Generates result state seed count events history old new
 generates-handed end result state seed count events history old new same generates =
     subst (λ (end : Status). Generates end state seed count events history old new) (sym same) generates
 
 -- the image was not opened
 pub generates-unopened : (end : Status) (state : State) (seed count : ℕ) {events : List Event}
-    {history : Option (List Event)} {old new : Option (List ℕ)}
+    {history : History} {old new : Option (List ℕ)}
     → (end ≡ status.Disk) ⊎ (end ≡ status.NoMemory) → IsOpening events history → new ≡ old
     → Generates end state seed count events history old new
 generates-unopened end state seed count {events} {history} {old} {new} (inl is) touched same =

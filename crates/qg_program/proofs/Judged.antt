@@ -1,6 +1,6 @@
 -- An image that was opened, and one that was not.
 use Rattle.std.proofs.Common.{◌≡◌, ◌⊎◌, ℕ, List, [], Option, Some, None, inl, inr, refl, sym, ◌∙◌, subst}
-use Rattle.qg_device.specs.History.{Event, content}
+use Rattle.qg_device.specs.History.{Event, History, Recorded, content}
 use Rattle.qg_super.specs.declared.superblock.Super.{Super}
 use Rattle.qg_image.specs.State.{State}
 use Rattle.qg_image.specs.ImageState.{state_in, super_of}
@@ -27,16 +27,16 @@ pub state-sound : (bytes : List ℕ) → IsSound bytes → (state : State) × St
 state-sound bytes sound = state-found bytes (super_of bytes) refl sound
 
 -- an image that was judged was not written
-pub untouched-judged : (fault : OpenFault) {history : Option (List Event)} {events : List Event}
+pub untouched-judged : (fault : OpenFault) {history : History} {events : List Event}
     → IsUntouched fault history events
-    → (fault ≡ opening.Disk → ⊥) → (fault ≡ opening.NoMemory → ⊥) → history ≡ Some events
+    → (fault ≡ opening.Disk → ⊥) → (fault ≡ opening.NoMemory → ⊥) → history ≡ Recorded events
 untouched-judged (opening.Broken rule address) same disk memory = same
 untouched-judged (opening.Differs group which stored counted) same disk memory = same
 untouched-judged opening.Disk same disk memory = absurd (disk refl)
 untouched-judged opening.NoMemory same disk memory = absurd (memory refl)
 
 -- nor was any that is not sound
-pub looked-unsound : (events : List Event) (failure : Failure) (history : Option (List Event))
+pub looked-unsound : (events : List Event) (failure : Failure) (history : History)
     → verdict (content events) ≡ Some failure → IsOpening events history
     → IsLookedAt events history
 looked-unsound events failure history unsound (inl looked) = looked
@@ -45,7 +45,7 @@ looked-unsound events failure history unsound (inr repairing) = let sound : verd
 
 -- a sound image that was not opened: no line was answered, and nothing was committed
 pub follows-unopened : (end : Status) (state : State) (input : List ℕ) {events : List Event}
-    {history : Option (List Event)} {old new : Option (List ℕ)}
+    {history : History} {old new : Option (List ℕ)}
     → (end ≡ status.Disk) ⊎ (end ≡ status.NoMemory) → IsOpening events history → new ≡ old
     → Follows end state input events history old new
 follows-unopened end state input {events} {history} {old} {new} (inl is) touched same =

@@ -1,11 +1,10 @@
 -- What a run leaves behind, by how it ended; of the generator's lines `Drawn` says the rest.
 use Rattle.std.proofs.Common.{◌≡◌, ◌∙◌, ◌⊎◌, inl, inr, ℕ, ◌+◌, List, [], ◌∷◌, ◌++◌, length, take, false, Option, Some}
 use Rattle.std.proofs.Common.{refl, sym, subst, arith}
-use Rattle.std.specs.Prelude.{IfSome}
-use Rattle.std.proofs.lemmas.Option.{same_Some}
-use Rattle.qg_device.specs.History.{Event}
+use Rattle.qg_device.specs.History.{Event, History, Recorded, IfRecorded}
 use Rattle.qg_device.specs.Crash.{Leaves}
 use Rattle.qg_device.specs.CrashSince.{LeavesSince}
+use Rattle.qg_device.proofs.Histories.{same_Recorded}
 use Rattle.qg_edge.specs.Appended.{AppendsFront}
 use Rattle.qg_grammar.specs.ScriptText.{script_lines}
 use Rattle.qg_script.specs.Feeding.{Feeding, IsTooLong, IsWithinLimit}
@@ -32,9 +31,9 @@ use Rattle.qg_program.proofs.Outlived.{AreBehind, HasOpened, lines-kept, opened-
 use Rattle.qg_program.proofs.Steps.{append_known-nil, run-snoc}
 
 -- what an image that was opened rests in, where the disk tells
-pub rests-told : (history : Option (List Event)) (opened : List Event) (state : State) → history ≡ Some opened
-    → IfSome history (Rests state) → Rests state opened
-rests-told history opened state told rests = subst (λ (h : Option (List Event)). IfSome h (Rests state)) told rests
+pub rests-told : (history : History) (opened : List Event) (state : State) → history ≡ Recorded opened
+    → IfRecorded history (Rests state) → Rests state opened
+rests-told history opened state told rests = subst (λ (h : History). IfRecorded h (Rests state)) told rests
 
 -- ---- an image that was not opened
 
@@ -123,7 +122,7 @@ leaves-ended end state asked events opened after old new is opening =
 -- ---- by what was answered
 
 module _ (state : State) (input : Option (List ℕ)) (opened : List Event) (pend : Option (List ℕ)) (store : Stored)
-    (history : Option (List Event)) (old mid : Option (List ℕ))
+    (history : History) (old mid : Option (List ℕ))
     (so_far : HasAnswered state input opened pend store history old mid) (after : List Event) where
   -- nothing more was done
   ended-there : (end : Status) (new : Option (List ℕ)) → after ≡ so_far.events
@@ -151,19 +150,19 @@ module _ (state : State) (input : Option (List ℕ)) (opened : List Event) (pend
   first-answered bytes told = first-lines bytes so_far.lines pend (script-told so_far bytes told)
 
   -- and perhaps calls of the next one's commits
-  ended-before : (end : Status) (new : Option (List ℕ)) → StopsLine so_far.present pend so_far.events (Some after)
+  ended-before : (end : Status) (new : Option (List ℕ)) → StopsLine so_far.present pend so_far.events (Recorded after)
       → ((bytes : List ℕ) → input ≡ Some bytes → AreAnswered end bytes so_far.lines) → ArePut end so_far.replies old new
       → ((begun : List State) → (begun ≡ []) ⊎ BeginsNext so_far.present (Input input) so_far.lines begun
       → Begins end so_far.present (Input input) so_far.lines begun)
       → HasEnded end state (Input input) opened after old new
   ended-before end new (inl none) answered put begins =
-      ended-there end new (same_Some after so_far.events none) answered put (begins [] (inl refl))
+      ended-there end new (same_Recorded after so_far.events none) answered put (begins [] (inl refl))
   ended-before end new (inr breaks) answered put begins =
       let given = breaks.starts.command in
-      let done : IsDoneSoFar so_far.present given so_far.events (Some after) = inr breaks.starts.starts in
-      let begun = begun-so-far so_far.present given so_far.present so_far.events (Some after)
+      let done : IsDoneSoFar so_far.present given so_far.events (Recorded after) = inr breaks.starts.starts in
+      let begun = begun-so-far so_far.present given so_far.present so_far.events (Recorded after)
       (last-itself so_far.present) done in
-      let same : begun.after ≡ after = sym (same_Some after begun.after begun.told) in
+      let same : begun.after ≡ after = sym (same_Recorded after begun.after begun.told) in
       record {
         lines = so_far.lines;
         replies = so_far.replies;
@@ -195,13 +194,13 @@ module _ (state : State) (input : Option (List ℕ)) (opened : List Event) (pend
 
   -- the sink failed: one line more, and a front of its reply
   ended-sink : (next : Stored) (new : Option (List ℕ))
-      → TurnsPart so_far.present so_far.events pend next (Some after) mid new
+      → TurnsPart so_far.present so_far.events pend next (Recorded after) mid new
       → HasEnded status.Sink state (Input input) opened after old new
   ended-sink next new turns =
       let line = turns.replies.line in
       let is = turns.replies.answered in
       let lines = so_far.lines ++ line ∷ [] in
-      let same : after ≡ is.made.after = same_Some after is.made.after is.made.told in
+      let same : after ≡ is.made.after = same_Recorded after is.made.after is.made.told in
       record {
         lines = so_far.lines ++ line ∷ [];
         replies = so_far.replies ++ turns.reply ∷ [];
@@ -232,11 +231,12 @@ module _ (state : State) (input : Option (List ℕ)) (opened : List Event) (pend
   -- what a turn that fails ends
   ended-failed : (end : Status) (feeding : Feeding) (left : Option (List ℕ)) (next : Stored) (new : Option (List ℕ))
       → CountsTaken input left 0 feeding.taken → IsWithinLimit feeding → (end ≡ status.TooLong → IsTooLong feeding)
-      → FailsToTurn end so_far.present so_far.events pend (pending feeding left) next (Some after) mid new
+      → FailsToTurn end so_far.present so_far.events pend (pending feeding left) next (Recorded after) mid new
       → HasEnded end state (Input input) opened after old new
   ended-failed status.Sink feeding left next new counted within too_long fails = ended-sink next new fails
   ended-failed status.Source feeding left next new counted within too_long fails =
-      ended-there status.Source new (same_Some after so_far.events fails.0) first-answered (fails.1 ∙ so_far.put) refl
+      ended-there status.Source new (same_Recorded after so_far.events fails.0) first-answered (fails.1
+      ∙ so_far.put) refl
   ended-failed status.NoMemory feeding left next new counted within too_long fails =
       ended-before status.NoMemory new fails.0 first-answered (fails.1 ∙ so_far.put) (λ begun begins. begins)
   ended-failed status.Disk feeding left next new counted within too_long fails =
@@ -244,7 +244,7 @@ module _ (state : State) (input : Option (List ℕ)) (opened : List Event) (pend
   ended-failed status.TooLong feeding left next new counted within too_long fails =
       let taken : (bytes : List ℕ) → input ≡ Some bytes → CountsTaken (Some bytes) left 0 feeding.taken =
       λ bytes told. subst (λ (i : Option (List ℕ)). CountsTaken i left 0 feeding.taken) told counted in
-      ended-there status.TooLong new (same_Some after so_far.events fails.1)
+      ended-there status.TooLong new (same_Recorded after so_far.events fails.1)
       (λ bytes told.
       answered-limit bytes feeding left so_far told fails.0 (record { counted = taken bytes told; within = within })
       (too_long refl))
@@ -259,14 +259,14 @@ module _ (state : State) (input : Option (List ℕ)) (opened : List Event) (pend
 
 -- the turn that finds nothing left
 pub leaves-all : {state : State} {input : Option (List ℕ)} {events opened after : List Event} {pend : Option (List ℕ)}
-    {before : Stored} {history told : Option (List Event)} {old mid new : Option (List ℕ)}
+    {before : Stored} {history told : History} {old mid new : Option (List ℕ)}
     → (left : Option (List ℕ)) (store : Stored) → (so_far : HasAnswered state input opened pend before history old mid)
-    → HasOpened state events opened → told ≡ Some after
+    → HasOpened state events opened → told ≡ Recorded after
     → IsTurn false so_far.present so_far.events pend left store told mid new
     → LeavesBehind status.Done state (Input input) events after old new
 leaves-all {state} {input} {events} {opened} {after} {pend} {before} {history} {told} {old} {mid} {new} left store
     so_far opening now over =
-    let same : after ≡ so_far.events = same_Some after so_far.events (sym now ∙ over.2) in
+    let same : after ≡ so_far.events = same_Recorded after so_far.events (sym now ∙ over.2) in
     let ended = ended-there state input opened pend before history old mid so_far after status.Done new same
     (λ bytes is. all-lines bytes so_far.lines pend (script-told so_far bytes is) over.0) (over.3 ∙ so_far.put) refl in
     leaves-ended status.Done state (Input input) events opened after old new ended opening
@@ -274,10 +274,11 @@ leaves-all {state} {input} {events} {opened} {after} {pend} {before} {history} {
 -- a turn that fails
 pub leaves-failed : {state : State} {input : Option (List ℕ)} {events opened after : List Event}
     {pend : Option (List ℕ)}
-    {before : Stored} {history told : Option (List Event)} {old mid new : Option (List ℕ)}
+    {before : Stored} {history told : History} {old mid new : Option (List ℕ)}
     → (end : Status) (feeding : Feeding) (left : Option (List ℕ)) (store : Stored)
     → (so_far : HasAnswered state input opened pend before history old mid)
-    → HasOpened state events opened → told ≡ Some after → CountsTaken input left 0 feeding.taken → IsWithinLimit feeding
+    → HasOpened state events opened → told ≡ Recorded after → CountsTaken input left 0 feeding.taken
+    → IsWithinLimit feeding
     → (end ≡ status.TooLong → IsTooLong feeding)
     → FailsToTurn end so_far.present so_far.events pend (pending feeding left) store told mid new
     → LeavesBehind end state (Input input) events after old new
@@ -286,7 +287,7 @@ leaves-failed {state} {input} {events} {opened} {after} {pend} {before} {history
     store so_far opening now counted within too_long fails =
     let known =
     subst
-    (λ (h : Option (List Event)). FailsToTurn end so_far.present so_far.events pend (pending feeding left) store h mid
+    (λ (h : History). FailsToTurn end so_far.present so_far.events pend (pending feeding left) store h mid
     new)
     now fails in
     leaves-ended end state (Input input) events opened after old new

@@ -1,5 +1,6 @@
 pub mod EndedLines
 pub mod Steps
+pub mod Stopped
 pub mod Answered
 pub mod Grown
 pub mod Outlived

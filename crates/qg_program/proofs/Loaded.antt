@@ -1,13 +1,12 @@
 -- The generator's lines were answered so far, line by line, and what follows at the end.
-use Rattle.std.proofs.Common.{◌≡◌, inl, inr, ℕ, zero, suc, ◌+◌, ◌≤◌, Bool, true, false, List, [], ◌∷◌, ◌++◌, length}
-use Rattle.std.proofs.Common.{map, drop, Option, Some, refl, sym, ap, ◌∙◌, subst, cond, arith, append_assoc}
-use Rattle.std.specs.Prelude.{not, Result, Err, IsErrOf}
+use Rattle.std.proofs.Common.{◌≡◌, inl, inr, ℕ, zero, suc, ◌+◌, Bool, true, false, List, [], ◌∷◌, ◌++◌, length}
+use Rattle.std.proofs.Common.{map, drop, refl, sym, ap, ◌∙◌, subst, cond, arith, append_assoc}
+use Rattle.std.specs.Prelude.{not}
 use Rattle.std.specs.List.{count_by}
 use Rattle.std.proofs.Math.Seq.{drop-append_seam, take-append_seam}
 use Rattle.std.proofs.lemmas.List.{append-nil, drop-append-le, length-append, map-append, take-append-le}
 use Rattle.std.proofs.lemmas.List.Sums.{sum_by_push}
-use Rattle.qg_device.specs.Cause.{HasCause}
-use Rattle.qg_device.specs.History.{Event}
+use Rattle.qg_device.specs.History.{Event, History, Recorded}
 use Rattle.qg_num.specs.declared.answer.Answer.{Answer}
 use Rattle.qg_num.specs.declared.command.Command.{Command}
 use Rattle.qg_grammar.specs.ReplyText.{reply_text}
@@ -19,8 +18,6 @@ use Rattle.qg_generator.specs.GeneratedScript.{generated_script, line_drawn, lin
 use Rattle.qg_store.proofs.HeldAfter.{held_after-append, turn-held}
 use Rattle.qg_store.proofs.Synced.{held_after}
 use Rattle.qg_program.specs.declared.generate.Tally.{Tally}
-use Rattle.qg_program.specs.declared.status.Status.{Status}
-use Rattle.qg_program.specs.declared.status.Status.TheVariants as status
 use Rattle.qg_program.specs.Following.{StopsBefore}
 use Rattle.qg_program.specs.Generating.{is_refused, lines_of}
 use Rattle.qg_program.specs.Loading.{AreRun, IsAnswered, StopsWithin, counted}
@@ -101,15 +98,15 @@ script-length seed count = let drawn = lines-length count seed in omega (arith, 
 
 -- of all commands some are given, which were run, and the rest is still to come
 pub record HasRun (state : State) (all rest : List Command) (tally : Tally) (store : Stored) (events : List Event)
-    (history : Option (List Event)) : Type 0 where
+    (history : History) : Type 0 where
   pub given : List Command
   pub parted : all ≡ given ++ rest
   pub run : AreRun state (lines_of given) tally store events history
 
 -- at the beginning
 pub run-none : (state : State) (all : List Command) (store : Stored) (events : List Event)
-    (history : Option (List Event)) → IsStoreOf store state history
-    → history ≡ Some events → HasRun state all all (record { done = 0; refused = 0 }) store events history
+    (history : History) → IsStoreOf store state history
+    → history ≡ Recorded events → HasRun state all all (record { done = 0; refused = 0 }) store events history
 run-none state all store events history stands told = record {
   given = [];
   parted = refl;
@@ -136,7 +133,7 @@ replies-snoc answers answer = map-append reply_text answers (answer ∷ [])
 
 -- one line more
 run-answered : (state : State) (lines : List (List ℕ)) (line : List ℕ) (tally : Tally)
-    (done : Bool) {before store : Stored} {events : List Event} {mid history : Option (List Event)}
+    (done : Bool) {before store : Stored} {events : List Event} {mid history : History}
     → (so_far : AreRun state lines tally before events mid)
     → IsAnswered so_far.after so_far.made.after line done store history
     → AreRun state (lines ++ line ∷ []) (counted done tally) store events history
@@ -164,7 +161,7 @@ run-answered state lines line tally done {before} {store} {events} {mid} {histor
 
 pub run-more : (state : State) (all rest : List Command) (command : Command) (later : List Command) (tally : Tally)
     (done : Bool) {before store : Stored} {events : List Event}
-    {mid history : Option (List Event)} → rest ≡ command ∷ later
+    {mid history : History} → rest ≡ command ∷ later
     → (so_far : HasRun state all rest tally before events mid)
     → IsAnswered so_far.run.after so_far.run.made.after (command_text command) done store history
     → HasRun state all later (counted done tally) store events history
@@ -179,7 +176,7 @@ run-more state all rest command later tally done {before} {store} {events} {mid}
 
 -- all lines
 pub run-all : (state : State) (all rest : List Command) (tally : Tally) {store : Stored} {events : List Event}
-    {history : Option (List Event)} → rest ≡ []
+    {history : History} → rest ≡ []
     → HasRun state all rest tally store events history → AreRun state (lines_of all) tally store events history
 run-all state all rest tally {store} {events} {history} none so_far =
     let same : so_far.given ≡ all = sym (append-nil so_far.given)
@@ -190,7 +187,7 @@ run-all state all rest tally {store} {events} {history} none so_far =
 
 -- behind some lines
 pub stops-behind : (state : State) (lines later : List (List ℕ)) (tally : Tally) {store : Stored} {events : List Event}
-    {mid history : Option (List Event)}
+    {mid history : History}
     → (so_far : AreRun state lines tally store events mid) → StopsBefore so_far.after later so_far.made.after history
     → StopsWithin state (lines ++ later) events history
 stops-behind state lines later tally {store} {events} {mid} {history} so_far stops = record {
@@ -209,7 +206,7 @@ stops-behind state lines later tally {store} {events} {mid} {history} so_far sto
 
 -- before a line, in whose midst it stops
 pub stops-line : (state : State) (line : List ℕ) (later : List (List ℕ)) (events : List Event)
-    (history : Option (List Event)) → IsLineSoFar state line events history
+    (history : History) → IsLineSoFar state line events history
     → StopsBefore state (line ∷ later) events history
 stops-line state line later events history (inl none) = inl none
 stops-line state line later events history (inr starts) =
@@ -217,7 +214,7 @@ stops-line state line later events history (inr starts) =
 
 pub run-stopped : (state : State) (all rest : List Command) (command : Command) (later : List Command)
     (tally : Tally) {store : Stored} {events : List Event}
-    {mid : Option (List Event)} (history : Option (List Event)) → rest ≡ command ∷ later
+    {mid : History} (history : History) → rest ≡ command ∷ later
     → (so_far : HasRun state all rest tally store events mid)
     → IsLineSoFar so_far.run.after (command_text command) so_far.run.made.after history
     → StopsWithin state (lines_of all) events history
@@ -231,7 +228,7 @@ run-stopped state all rest command later tally {store} {events} {mid} history is
     (stops-line so_far.run.after (command_text command) (lines_of later) so_far.run.made.after history line)))
 
 -- within some lines it stops within these and more
-stops-longer : (state : State) (lines more : List (List ℕ)) (events : List Event) (history : Option (List Event))
+stops-longer : (state : State) (lines more : List (List ℕ)) (events : List Event) (history : History)
     → StopsBefore state lines events history
     → StopsBefore state (lines ++ more) events history
 stops-longer state lines more events history (inl none) = inl none
@@ -242,7 +239,7 @@ stops-longer state lines more events history (inr breaks) = inr (record {
   starts = breaks.starts;
 })
 
-pub stopped-early : (state : State) (lines more : List (List ℕ)) (events : List Event) (history : Option (List Event))
+pub stopped-early : (state : State) (lines more : List (List ℕ)) (events : List Event) (history : History)
     → StopsWithin state lines events history
     → StopsWithin state (lines ++ more) events history
 stopped-early state lines more events history stops = record {
@@ -258,22 +255,4 @@ stopped-early state lines more events history stops = record {
   stops = subst (λ (some : List (List ℕ)). StopsBefore stops.after some stops.mid history)
       (sym (drop-append-le stops.count lines more stops.within))
       (stops-longer stops.after (drop stops.count lines) more stops.mid history stops.stops);
-}
-
--- ---- why it stops
-
-err-other : (A B : Type 0) (end : Status) → IsErrOf {T = A} (Err end) status.Disk
-    → IsErrOf {T = B} (Err end) status.Disk
-err-other A B end is =
-    let that : ◌≡◌ {A = Result A Status} (Err end) (Err status.Disk) = is in
-    let same : end ≡ status.Disk = cc in
-    ap (λ (e : Status). Err e) same
-
--- a fault of a later call that is handed on
-pub cause-handed : (A B : Type 0) (before mid now : ℕ) (end : Status) → before ≤ mid
-    → HasCause {T = A} status.Disk mid now (Err end)
-    → HasCause {T = B} status.Disk before now (Err end)
-cause-handed A B before mid now end order cause = record {
-  later = let later = cause.later in omega (arith, order, later);
-  rose = λ is. let rose = cause.rose (err-other B A end is) in omega (arith, order, rose);
 }

@@ -2,8 +2,8 @@
 use Rattle.std.proofs.Common.{◌≡◌, ◌∙◌, inl, inr, ℕ, zero, suc, ◌+◌, ◌<◌, List, [], ◌∷◌, ◌++◌, length, map, take, drop}
 use Rattle.std.proofs.Common.{Option, Some, None, refl, sym, ap, subst, arith, append_assoc}
 use Rattle.std.proofs.lemmas.List.{append-nil}
-use Rattle.std.proofs.lemmas.Option.{same_Some}
-use Rattle.qg_device.specs.History.{Event, Wrote, Synced, content}
+use Rattle.qg_device.specs.History.{Event, Recorded, Wrote, Synced, content}
+use Rattle.qg_device.proofs.Histories.{same_Recorded}
 use Rattle.qg_super.specs.declared.superblock.Super.{Super}
 use Rattle.qg_super.specs.Places.{first_place, second_place}
 use Rattle.qg_super.specs.SuperText.{super_text}
@@ -156,7 +156,7 @@ module _ (base : State) (commits : List State) (before after : List Event) (rest
 
 -- an image that stands for a state was opened, and the disk rests in that state
 pub record HasOpened (state : State) (events opened : List Event) : Type 0 where
-  pub opens : IsOpened events (Some opened)
+  pub opens : IsOpened events (Recorded opened)
   pub stands : StateOf (content events) state
   pub rests : Rests state opened
 
@@ -230,14 +230,14 @@ module _ (state : State) (events opened after : List Event) (commits : List Stat
       → LeavesOneOf (length events + 1) state commits after
   leaves-repaired place stale shape =
       let super = is.opens.super in
-      let repairing : IsRepairing events (Some opened) =
+      let repairing : IsRepairing events (Recorded opened) =
       record {
         sound = is.stands.sound;
         super = super;
         chosen = is.opens.chosen;
         place = place;
         stale = stale;
-        written = inr (inr (ap Some shape));
+        written = inr (inr (ap (λ (list : List Event). Recorded list) shape));
       } in
       let long = (sound_places (content events) super is.opens.chosen is.stands.sound).long in
       elim (opening_repairs events opened repairing long) [
@@ -250,7 +250,7 @@ module _ (state : State) (events opened after : List Event) (commits : List Stat
   opened-by : (place : Option ℕ) → stale_of (content events) ≡ place
       → opened ≡ with_repair is.opens.super place (Synced ∷ events)
   opened-by place stale =
-      same_Some opened (with_repair is.opens.super (stale_of (content events)) (Synced ∷ events)) is.opens.repaired
+      same_Recorded opened (with_repair is.opens.super (stale_of (content events)) (Synced ∷ events)) is.opens.repaired
       ∙ ap (λ (found : Option ℕ). with_repair is.opens.super found (Synced ∷ events)) stale
 
   leaves-by : (place : Option ℕ) → stale_of (content events) ≡ place
@@ -314,7 +314,8 @@ module _ (state final : State) (lines replies : List (List ℕ)) (commits begun 
       run = parts.run;
       moment = length halves.middle;
       by_now = grown-longer halves.middle after grown;
-      made = made-all is.opens (ap Some (grown-by halves.middle after grown)) halves.made;
+      made = made-all is.opens
+          (ap (λ (list : List Event). Recorded list) (grown-by halves.middle after grown)) halves.made;
       kept =
           subst (λ (generation : ℕ). LeavesNoOlder (length halves.middle) generation after) lead.last.generation
           (none-older (last_commit state parts.earlier) (parts.more ++ begun) halves.middle after rests others);

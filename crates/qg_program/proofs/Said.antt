@@ -2,7 +2,7 @@
 use Rattle.std.proofs.Common.{◌≡◌, ◌≢◌, inl, inr, ℕ, Bool, true, false, List, Option, IsTrue, refl, sym, ap, ◌∙◌, subst}
 use Rattle.std.specs.Io.KnownBytes.{append_known}
 use Rattle.std.proofs.lemmas.Bool.{true≢false}
-use Rattle.qg_device.specs.History.{Event}
+use Rattle.qg_device.specs.History.{History}
 use Rattle.qg_store.specs.Types.{Report}
 use Rattle.qg_store.specs.Types.{Sound, Broken, Differs}
 use Rattle.qg_program.specs.declared.status.Status.{Status}
@@ -71,7 +71,7 @@ pub says-no-sink : (report : Report) (end : Status) → end ≡ report_end repor
 says-no-sink report end ends = λ is. other-end status.Sink report refl (sym ends ∙ is)
 
 -- a right report was said
-pub checks-said : (end : Status) (report : Report) (history : Option (List Event)) (old new : Option (List ℕ))
+pub checks-said : (end : Status) (report : Report) (history : History) (old new : Option (List ℕ))
     → IsRightOver history report
     → Says end report old new → Checks end history old new
 checks-said status.Done report history old new right says = record {
@@ -96,7 +96,7 @@ checks-said status.Sizes report history old new right says = absurd (other-end s
 checks-said status.TooLong report history old new right says = absurd (other-end status.TooLong report refl says.0)
 
 -- and so it ends
-pub checks-ends : (end : Status) (history : Option (List Event)) (old new : Option (List ℕ))
+pub checks-ends : (end : Status) (history : History) (old new : Option (List ℕ))
     → Checks end history old new → IsTrue (is_checkers end)
 checks-ends status.Done history old new checks = refl
 checks-ends status.Found history old new checks = refl

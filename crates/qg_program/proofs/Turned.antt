@@ -1,8 +1,8 @@
 -- A line is answered.
-use Rattle.std.proofs.Common.{◌≡◌, ◌≢◌, true, ℕ, List, [], Option, Some, None, refl, sym, subst, inl, inr, IsTrue}
+use Rattle.std.proofs.Common.{◌≡◌, ◌≢◌, true, ℕ, List, [], Option, None, refl, sym, subst, inl, inr, IsTrue}
 use Rattle.std.specs.Prelude.{Bool, Result, Err, IfErr}
 use Rattle.std.specs.Io.KnownBytes.{append_known}
-use Rattle.qg_device.specs.History.{Event}
+use Rattle.qg_device.specs.History.{Event, History, Recorded}
 use Rattle.qg_num.specs.declared.answer.Answer.{Answer}
 use Rattle.qg_num.specs.declared.command.Command.{Command}
 use Rattle.qg_grammar.specs.ReplyText.{reply_text, no_line}
@@ -19,7 +19,7 @@ use Rattle.qg_program.specs.Turning.{FailsToTurn, IsLineSoFar, IsReply, IsTurn, 
 
 -- a command was done or refused
 pub reply-command : (old : State) (events : List Event) (line reply : List ℕ) (store : Stored)
-    (history : Option (List Event)) (command : Command) (answer : Answer)
+    (history : History) (command : Command) (answer : Answer)
     → IsLineOf line command → AnswersOn old command answer store.kept events history → store.stopped ≡ None
     → reply ≡ reply_text answer
     → IsReply old events line reply store history
@@ -39,8 +39,8 @@ reply-command old events line reply store history command answer asked does runn
 
 -- the line is no command's
 pub reply-no_line : (old : State) (events : List Event) (line reply : List ℕ) (store : Stored)
-    (history : Option (List Event))
-    → ((command : Command) → IsLineOf line command → ⊥) → IsStoreOf store old history → history ≡ Some events
+    (history : History)
+    → ((command : Command) → IsLineOf line command → ⊥) → IsStoreOf store old history → history ≡ Recorded events
     → reply ≡ no_line
     → IsReply old events line reply store history
 reply-no_line old events line reply store history none stands known told = record {
@@ -56,7 +56,7 @@ reply-no_line old events line reply store history none stands known told = recor
 }
 
 -- what the command of a line has done
-pub so_far-command : (old : State) (events : List Event) (line : List ℕ) (history : Option (List Event))
+pub so_far-command : (old : State) (events : List Event) (line : List ℕ) (history : History)
     (command : Command)
     → IsLineOf line command → IsDoneSoFar old command events history → IsLineSoFar old line events history
 so_far-command old events line history command asked (inl none) = inl none
@@ -65,7 +65,7 @@ so_far-command old events line history command asked (inr starts) =
 
 -- a line that was taken is the one that is not answered
 stops-line : (old : State) (events : List Event) (before taken : Option (List ℕ)) (line : List ℕ)
-    (history : Option (List Event)) → TakesLine before taken line
+    (history : History) → TakesLine before taken line
     → IsLineSoFar old line events history → StopsLine old before events history
 stops-line old events before taken line history takes (inl none) = inl none
 stops-line old events before taken line history takes (inr starts) =
@@ -74,7 +74,7 @@ stops-line old events before taken line history takes (inr starts) =
 -- where it was not answered
 pub fails-answer : (end : Status) (old : State) (events : List Event) (before taken after : Option (List ℕ))
     (line : List ℕ) (store : Stored)
-    (history : Option (List Event)) (held : Option (List ℕ)) → TakesLine before taken line
+    (history : History) (held : Option (List ℕ)) → TakesLine before taken line
     → IsLineSoFar old line events history
     → IsTrue (is_stop end) → end ≢ status.Image → FailsToTurn end old events before after store history held held
 fails-answer status.NoMemory old events before taken after line store history held takes so_far stops sound =
@@ -93,7 +93,7 @@ fails-answer status.TooLong old events before taken after line store history hel
 
 -- and that was handed on
 pub fails-handed : (end : Status) (result : Result Bool Status) (old : State) (events : List Event)
-    (before after : Option (List ℕ)) (store : Stored) (history : Option (List Event)) (held now : Option (List ℕ))
+    (before after : Option (List ℕ)) (store : Stored) (history : History) (held now : Option (List ℕ))
     → result ≡ Err end → now ≡ held → FailsToTurn end old events before after store history held held
     → IfErr result (λ status. FailsToTurn status old events before after store history held now)
 fails-handed end result old events before after store history held now handed same fails =
@@ -105,7 +105,7 @@ fails-handed end result old events before after store history held now handed sa
 -- where the reply was put
 pub turns-reply : (old : State) (events : List Event) (before taken : Option (List ℕ)) (line reply : List ℕ)
     (store : Stored)
-    (history : Option (List Event)) (held now : Option (List ℕ)) → TakesLine before taken line
+    (history : History) (held now : Option (List ℕ)) → TakesLine before taken line
     → IsReply old events line reply store history
     → now ≡ append_known held reply → IsTurn true old events before taken store history held now
 turns-reply old events before taken line reply store history held now takes is put = record {
@@ -117,7 +117,7 @@ turns-reply old events before taken line reply store history held now takes is p
 -- where the reply was not put whole
 pub fails-reply : (end : Status) (old : State) (events : List Event) (before taken after : Option (List ℕ))
     (line reply : List ℕ) (store : Stored)
-    (history : Option (List Event)) (held now : Option (List ℕ)) → TakesLine before taken line
+    (history : History) (held now : Option (List ℕ)) → TakesLine before taken line
     → IsReply old events line reply store history
     → IsLineSoFar old line events history → FailsToPut end reply held now
     → FailsToTurn end old events before after store history held now

@@ -1,7 +1,7 @@
 -- What is said of an image that is judged (this project's own).
-use Rattle.std.specs.Prelude.{◌≡◌, ℕ, List, Option, Some}
+use Rattle.std.specs.Prelude.{◌≡◌, ℕ, List, Option}
 use Rattle.std.specs.Io.KnownBytes.{append_known}
-use Rattle.qg_device.specs.History.{Event, content}
+use Rattle.qg_device.specs.History.{Event, History, Recorded, content}
 use Rattle.qg_edge.specs.Appended.{AppendsFront}
 use Rattle.qg_grammar.specs.FailureText.{broken_text, differs_text}
 use Rattle.qg_script.specs.ReportText.{sound_text}
@@ -30,18 +30,18 @@ Says status.NoMemory report old new = new ≡ old
 Says end report old new = (report_end report ≡ end) × (new ≡ append_known old (report_text report))
 
 -- a report is right of what a disk with this history holds, where the disk tells it
-abbrev pub IsRightOver : Option (List Event) → Report → Type 0
-IsRightOver history report = (events : List Event) → history ≡ Some events → IsReportOn (content events) report
+abbrev pub IsRightOver : History → Report → Type 0
+IsRightOver history report = (events : List Event) → history ≡ Recorded events → IsReportOn (content events) report
 
 -- such a report ends with this status, and its line was put
-pub record Reports (end : Status) (history : Option (List Event)) (old new : Option (List ℕ)) : Type 0 where
+pub record Reports (end : Status) (history : History) (old new : Option (List ℕ)) : Type 0 where
   pub report : Report
   pub right : IsRightOver history report
   pub ends : report_end report ≡ end
   pub put : new ≡ append_known old (report_text report)
 
 -- a front of its line was put
-pub record ReportsPart (history : Option (List Event)) (old new : Option (List ℕ)) : Type 0 where
+pub record ReportsPart (history : History) (old new : Option (List ℕ)) : Type 0 where
   pub report : Report
   pub right : IsRightOver history report
   pub put : AppendsFront old new (report_text report)
@@ -49,7 +49,7 @@ pub record ReportsPart (history : Option (List Event)) (old new : Option (List �
 -- An image is judged, by how that ended: the line that says what it is was put, at Done where it is sound, at Found
 -- where it is not; a front of it where the sink failed; nothing where memory was refused or the disk failed. It ends in
 -- no other way.
-abbrev pub Checks : Status → Option (List Event) → Option (List ℕ) → Option (List ℕ) → Type 0
+abbrev pub Checks : Status → History → Option (List ℕ) → Option (List ℕ) → Type 0
 Checks status.Done history old new = Reports status.Done history old new
 Checks status.Found history old new = Reports status.Found history old new
 Checks status.Sink history old new = ReportsPart history old new

@@ -2,7 +2,7 @@
 use Rattle.std.specs.Prelude.{◌≡◌, ◌⊎◌, ℕ, ◌≤◌, List, length, Option, Some, String}
 use Rattle.std.specs.declared.alloc.Global.{Global}
 use Rattle.qg_super.specs.declared.sizes.Sizes.{Sizes}
-use Rattle.qg_device.specs.History.{Event, content}
+use Rattle.qg_device.specs.History.{Event, History, Recorded, content, one_more}
 use Rattle.qg_grammar.specs.ScriptText.{longest_script}
 use Rattle.qg_image.specs.Verdict.{IsSound}
 use Rattle.qg_program.specs.Ends.{HasCauses}
@@ -10,11 +10,11 @@ use Rattle.qg_program.specs.declared.status.Status.{Status}
 use Rattle.qg_program.specs.declared.status.Status.TheVariants.{Done, NoMemory, Image, Found}
 use Rattle.qg_program.specs.Words.{AskServed, AskToCheck, AskToGenerate, AskToOpen, AskToRun}
 
--- no count of faults rose
-pub record NothingFails (SourceFails SinkFails DiskFails : Type 0) : Type 0 where
-  pub source : SourceFails → ⊥
-  pub sink : SinkFails → ⊥
-  pub disk : DiskFails → ⊥
+-- no count of faults rose by one, or stands at its last value
+pub record NothingFails (source_before source_now sink_before sink_now disk_before disk_now : ℕ) : Type 0 where
+  pub source : source_now ≡ one_more source_before → ⊥
+  pub sink : sink_now ≡ one_more sink_before → ⊥
+  pub disk : disk_now ≡ one_more disk_before → ⊥
 
 -- it ended so, or memory was refused
 abbrev pub EndsIn : Status → Status → Type 0
@@ -38,11 +38,12 @@ pub record IsComplete (words : List (String Global)) (end : Status) (image : Lis
   pub finds : AskToCheck words → (IsSound image → ⊥) → EndsIn Found end
   pub makes : (sizes : Sizes) → AskServed words sizes → EndsIn Done end
 
--- a fault of source, sink or disk is told only where its count rose; and over a disk that tells, where none rose, what
+-- source, sink or disk met a fault exactly where the call ends for it; and over a disk that tells, where none did, what
 -- was asked is done
-pub record EndsForCause (words : List (String Global)) (end : Status) (before : Option (List Event))
+pub record EndsForCause (words : List (String Global)) (end : Status) (before : History)
     (left : Option (List ℕ))
-    (SourceFails SinkFails DiskFails : Type 0) : Type 0 where
-  pub causes : HasCauses end SourceFails SinkFails DiskFails
-  pub complete : (events : List Event) → before ≡ Some events → NothingFails SourceFails SinkFails DiskFails
+    (source_before source_now sink_before sink_now disk_before disk_now : ℕ) : Type 0 where
+  pub causes : HasCauses end source_before source_now sink_before sink_now disk_before disk_now
+  pub complete : (events : List Event) → before ≡ Recorded events
+      → NothingFails source_before source_now sink_before sink_now disk_before disk_now
       → IsComplete words end (content events) left

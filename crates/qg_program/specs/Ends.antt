@@ -1,5 +1,6 @@
 -- How a call of the program may end (this project's own).
-use Rattle.std.specs.Prelude.{◌≡◌, ℕ, Bool, true, false}
+use Rattle.std.specs.Prelude.{ℕ, Bool, true, false}
+use Rattle.qg_device.specs.Cause.{HasEndCause}
 use Rattle.qg_script.specs.declared.fault.LineFault.{LineFault}
 use Rattle.qg_script.specs.declared.fault.LineFault.TheVariants as fault
 use Rattle.qg_program.specs.declared.status.Status.{Status}
@@ -104,8 +105,10 @@ is_generators Disk = true
 is_generators Sizes = true
 is_generators _ = false
 
--- an end that tells of a fault has its cause
-pub record HasCauses (status : Status) (SourceFails SinkFails DiskFails : Type 0) : Type 0 where
-  pub source : status ≡ Source → SourceFails
-  pub sink : status ≡ Sink → SinkFails
-  pub disk : status ≡ Disk → DiskFails
+-- Source, sink or disk met a fault exactly where the call ends for it, and then it alone and once: its count of faults
+-- rose by one. Each other count is as it was, and so is each at every other end
+pub record HasCauses (end : Status) (source_before source_now sink_before sink_now disk_before disk_now : ℕ)
+    : Type 0 where
+  pub source : HasEndCause Source source_before source_now end
+  pub sink : HasEndCause Sink sink_before sink_now end
+  pub disk : HasEndCause Disk disk_before disk_now end

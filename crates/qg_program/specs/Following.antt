@@ -1,9 +1,9 @@
 -- What a run does to the disk and to the sink, side by side (this project's own): the commits and the replies of a run
 -- of the machine over the script's lines.
-use Rattle.std.specs.Prelude.{◌≡◌, ◌⊎◌, ℕ, List, [], ◌∷◌, ◌++◌, take, drop, Option, Some}
+use Rattle.std.specs.Prelude.{◌≡◌, ◌⊎◌, ℕ, List, [], ◌∷◌, ◌++◌, take, drop, Option}
 use Rattle.std.specs.List.{concat}
 use Rattle.std.specs.Io.KnownBytes.{append_known}
-use Rattle.qg_device.specs.History.{Event, synced}
+use Rattle.qg_device.specs.History.{Event, History, Recorded, synced}
 use Rattle.qg_edge.specs.Appended.{AppendsFront}
 use Rattle.qg_num.specs.declared.command.Command.{Command}
 use Rattle.qg_grammar.specs.ScriptText.{IsLineOf, script_lines, longest_script}
@@ -21,20 +21,20 @@ use Rattle.qg_program.specs.Running.{ended_lines}
 -- The calls of opening, and then those of these commits, where so much was held before them, and no others. Each commit
 -- made sure of what the disk holds three times, and the third time that is the state committed.
 pub record MakesAll (held : Committed) (commits : List State) (events : List Event)
-    (history : Option (List Event)) : Type 0 where
+    (history : History) : Type 0 where
   pub opened : List Event
-  pub opens : IsOpened events (Some opened)
+  pub opens : IsOpened events (Recorded opened)
   pub made : MadeCommits held commits opened history
   pub synced : AreSynced commits (synced opened) (synced made.after)
 
 -- a line asks for a command, and the calls of its commits came so far
-pub record StartsLine (old : State) (line : List ℕ) (events : List Event) (history : Option (List Event)) : Type 0 where
+pub record StartsLine (old : State) (line : List ℕ) (events : List Event) (history : History) : Type 0 where
   pub command : Command
   pub asked : IsLineOf line command
   pub starts : StartsCommits old command events history
 
 -- the first of some lines is broken off in the midst of its commits
-pub record BreaksOff (old : State) (lines : List (List ℕ)) (events : List Event) (history : Option (List Event)) : Type
+pub record BreaksOff (old : State) (lines : List (List ℕ)) (events : List Event) (history : History) : Type
     0 where
   pub line : List ℕ
   pub later : List (List ℕ)
@@ -43,13 +43,13 @@ pub record BreaksOff (old : State) (lines : List (List ℕ)) (events : List Even
 
 -- before some lines, which are not answered any more, nothing else was done to the disk, or calls of the commits that
 -- the first of them makes
-abbrev pub StopsBefore : State → List (List ℕ) → List Event → Option (List Event) → Type 0
-StopsBefore old lines events history = (history ≡ Some events) ⊎ BreaksOff old lines events history
+abbrev pub StopsBefore : State → List (List ℕ) → List Event → History → Type 0
+StopsBefore old lines events history = (history ≡ Recorded events) ⊎ BreaksOff old lines events history
 
 -- ---- the lines
 
 -- these lines are answered from this state on; all replies were put, and the disk was made to hold what was committed
-pub record FollowsAll (state : State) (lines : List (List ℕ)) (events : List Event) (history : Option (List Event))
+pub record FollowsAll (state : State) (lines : List (List ℕ)) (events : List Event) (history : History)
     (old new : Option (List ℕ)) : Type 0 where
   pub replies : List (List ℕ)
   pub commits : List State
@@ -59,13 +59,13 @@ pub record FollowsAll (state : State) (lines : List (List ℕ)) (events : List E
   pub made : MakesAll state.held commits events history
 
 -- so are some of these lines, from the first on
-pub record FollowsSome (state : State) (lines : List (List ℕ)) (events : List Event) (history : Option (List Event))
+pub record FollowsSome (state : State) (lines : List (List ℕ)) (events : List Event) (history : History)
     (old new : Option (List ℕ)) : Type 0 where
   pub count : ℕ
   pub follows : FollowsAll state (take count lines) events history old new
 
 -- some of these lines are answered, from the first on; all replies but the last were put, and a front of that one
-pub record FollowsPart (state : State) (lines : List (List ℕ)) (events : List Event) (history : Option (List Event))
+pub record FollowsPart (state : State) (lines : List (List ℕ)) (events : List Event) (history : History)
     (old new : Option (List ℕ)) : Type 0 where
   pub count : ℕ
   pub replies : List (List ℕ)
@@ -77,7 +77,7 @@ pub record FollowsPart (state : State) (lines : List (List ℕ)) (events : List 
   pub made : MakesAll state.held commits events history
 
 -- some of these lines are answered, from the first on, and all their replies were put; the run stops before the others
-pub record FollowsUntil (state : State) (lines : List (List ℕ)) (events : List Event) (history : Option (List Event))
+pub record FollowsUntil (state : State) (lines : List (List ℕ)) (events : List Event) (history : History)
     (old new : Option (List ℕ)) : Type 0 where
   pub count : ℕ
   pub replies : List (List ℕ)
@@ -86,11 +86,11 @@ pub record FollowsUntil (state : State) (lines : List (List ℕ)) (events : List
   pub run : Run state (take count lines) replies commits after
   pub put : new ≡ append_known old (concat replies)
   pub mid : List Event
-  pub made : MakesAll state.held commits events (Some mid)
+  pub made : MakesAll state.held commits events (Recorded mid)
   pub stops : StopsBefore after (drop count lines) mid history
 
 -- the image was not opened: at most what opening does was done by then, and nothing was put
-pub record StaysUnopened (events : List Event) (history : Option (List Event)) (old new : Option (List ℕ)) : Type
+pub record StaysUnopened (events : List Event) (history : History) (old new : Option (List ℕ)) : Type
     0 where
   pub touched : IsOpening events history
   pub silent : new ≡ old
@@ -102,7 +102,7 @@ pub record StaysUnopened (events : List Event) (history : Option (List Event)) (
 -- up to a fault of the source; where the sink failed, with a front of the last reply. Where memory was refused or the
 -- disk failed, the image was not opened, or the run stops before some line. No run over a sound image ends in another
 -- way.
-abbrev pub Follows : Status → State → List ℕ → List Event → Option (List Event) → Option (List ℕ) → Option (List ℕ)
+abbrev pub Follows : Status → State → List ℕ → List Event → History → Option (List ℕ) → Option (List ℕ)
     → Type 0
 Follows Done state input events history old new = FollowsAll state (script_lines input) events history old new
 Follows TooLong state input events history old new =

@@ -5,7 +5,7 @@ use Rattle.std.specs.Prelude.{Some, String}
 use Rattle.std.specs.declared.alloc.Global.{Global}
 use Rattle.std.specs.List.{count_by}
 use Rattle.std.specs.Io.KnownBytes.{append_known}
-use Rattle.qg_device.specs.History.{Event}
+use Rattle.qg_device.specs.History.{Event, History, Recorded}
 use Rattle.qg_edge.specs.Appended.{AppendsFront}
 use Rattle.qg_num.specs.declared.answer.Answer.{Answer}
 use Rattle.qg_num.specs.declared.answer.Answer.TheVariants.{Refused}
@@ -50,28 +50,28 @@ pub record TellsRun (state : State) (seed count : ℕ) (commits : List State) (t
   pub told : text ≡ generated_text count answers shown
 
 -- so they are, and the disk was made to hold what was committed
-pub record GeneratesAll (state : State) (seed count : ℕ) (events : List Event) (history : Option (List Event))
+pub record GeneratesAll (state : State) (seed count : ℕ) (events : List Event) (history : History)
     (text : List ℕ) : Type 0 where
   pub commits : List State
   pub tells : TellsRun state seed count commits text
   pub made : MakesAll state.held commits events history
 
 -- that text was put
-pub record PutsGenerated (state : State) (seed count : ℕ) (events : List Event) (history : Option (List Event))
+pub record PutsGenerated (state : State) (seed count : ℕ) (events : List Event) (history : History)
     (old new : Option (List ℕ)) : Type 0 where
   pub text : List ℕ
   pub generates : GeneratesAll state seed count events history text
   pub put : new ≡ append_known old text
 
 -- a front of that text was put
-pub record PutsFrontOfGenerated (state : State) (seed count : ℕ) (events : List Event) (history : Option (List Event))
+pub record PutsFrontOfGenerated (state : State) (seed count : ℕ) (events : List Event) (history : History)
     (old new : Option (List ℕ)) : Type 0 where
   pub text : List ℕ
   pub generates : GeneratesAll state seed count events history text
   pub put : AppendsFront old new text
 
 -- some of these lines are answered, from the first on; the run stops before the others, and nothing was put
-pub record GeneratesUntil (state : State) (lines : List (List ℕ)) (events : List Event) (history : Option (List Event))
+pub record GeneratesUntil (state : State) (lines : List (List ℕ)) (events : List Event) (history : History)
     (old new : Option (List ℕ)) : Type 0 where
   pub count : ℕ
   pub replies : List (List ℕ)
@@ -80,13 +80,13 @@ pub record GeneratesUntil (state : State) (lines : List (List ℕ)) (events : Li
   pub run : Run state (take count lines) replies commits after
   pub silent : new ≡ old
   pub mid : List Event
-  pub made : MakesAll state.held commits events (Some mid)
+  pub made : MakesAll state.held commits events (Recorded mid)
   pub stops : StopsBefore after (drop count lines) mid history
 
 -- The generator's lines are run from this state on, by how that ended: over all lines, with the text put, where it was
 -- done; with a front of it where the sink failed. Where memory was refused or the disk failed, the image was not
 -- opened, or the run stops before some line. No run over a sound image ends in another way.
-abbrev pub Generates : Status → State → ℕ → ℕ → List Event → Option (List Event) → Option (List ℕ) → Option (List ℕ)
+abbrev pub Generates : Status → State → ℕ → ℕ → List Event → History → Option (List ℕ) → Option (List ℕ)
     → Type 0
 Generates Done state seed count events history old new = PutsGenerated state seed count events history old new
 Generates Sink state seed count events history old new = PutsFrontOfGenerated state seed count events history old new
@@ -101,6 +101,6 @@ Generates _ state seed count events history old new = ⊥
 -- the lines of the input are answered where a run was asked for, where the source tells them; and the generator's where
 -- those were
 pub record FollowsAsAsked (words : List (String Global)) (end : Status) (state : State) (left : Option (List ℕ))
-    (events : List Event) (history : Option (List Event)) (old new : Option (List ℕ)) : Type 0 where
+    (events : List Event) (history : History) (old new : Option (List ℕ)) : Type 0 where
   pub run : AskToRun words → (input : List ℕ) → left ≡ Some input → Follows end state input events history old new
   pub lines : (seed count : ℕ) → AskToGenerate words seed count → Generates end state seed count events history old new

@@ -5,7 +5,7 @@ use Rattle.std.specs.Prelude.{◌≡◌, ◌⊎◌, ℕ, ◌+◌, ◌<◌, ◌�
 use Rattle.std.specs.declared.alloc.Global.{Global}
 use Rattle.std.specs.List.{concat}
 use Rattle.std.specs.Io.KnownBytes.{append_known}
-use Rattle.qg_device.specs.History.{Event}
+use Rattle.qg_device.specs.History.{Event, Recorded}
 use Rattle.qg_device.specs.Crash.{Leaves}
 use Rattle.qg_device.specs.CrashSince.{LeavesSince, events_by}
 use Rattle.qg_super.specs.NoChance.{NoChanceSince}
@@ -146,7 +146,7 @@ LeavesACommit since state commits after =
 abbrev pub AreAcknowledged : State → List State → List Event → List Event → Type 0
 AreAcknowledged state commits events after =
     (first : List State) (commit : State) (later : List State) (moment : ℕ) → commits ≡ first ++ commit ∷ later
-    → moment ≤ length after → MakesAll state.held (first ++ commit ∷ []) events (Some (events_by moment after))
+    → moment ≤ length after → MakesAll state.held (first ++ commit ∷ []) events (Recorded (events_by moment after))
     → LeavesNoOlder moment commit.generation after
 
 -- These replies of the machine to these lines are kept. By some moment of the run the disk had the calls of opening and
@@ -158,7 +158,7 @@ pub record AreKept (state : State) (lines replies : List (List ℕ)) (events aft
   pub run : Run state lines replies commits present
   pub moment : ℕ
   pub by_now : moment ≤ length after
-  pub made : MakesAll state.held commits events (Some (events_by moment after))
+  pub made : MakesAll state.held commits events (Recorded (events_by moment after))
   pub kept : LeavesNoOlder moment present.generation after
 
 -- ---- the run

@@ -1,7 +1,7 @@
 -- How far the generator's lines were answered over a store that is open (this project's own).
-use Rattle.std.specs.Prelude.{◌≡◌, ℕ, ◌+◌, ◌≤◌, Bool, true, false, List, length, drop, map, not, take, Option, Some}
+use Rattle.std.specs.Prelude.{◌≡◌, ℕ, ◌+◌, ◌≤◌, Bool, true, false, List, length, drop, map, not, take}
 use Rattle.std.specs.List.{count_by}
-use Rattle.qg_device.specs.History.{Event}
+use Rattle.qg_device.specs.History.{Event, History, Recorded}
 use Rattle.qg_num.specs.declared.answer.Answer.{Answer}
 use Rattle.qg_grammar.specs.ReplyText.{reply_text}
 use Rattle.qg_image.specs.State.{State}
@@ -16,7 +16,7 @@ use Rattle.qg_program.specs.Turning.{IsReply}
 -- the machine answers a line, whose command so is done or refused; the store stands for the state that it comes to, and
 -- the disk was made to hold what it commits
 pub record IsAnswered (old : State) (events : List Event) (line : List ℕ) (done : Bool) (store : Stored)
-    (history : Option (List Event)) : Type 0 where
+    (history : History) : Type 0 where
   pub answer : Answer
   pub answered : IsReply old events line (reply_text answer) store history
   pub judged : is_refused answer ≡ not done
@@ -29,7 +29,7 @@ counted false tally = record tally { refused = tally.refused + 1 }
 -- these lines are answered from this state on, so many done and so many refused; the store stands for the state that
 -- this comes to, and the disk was made to hold what was committed
 pub record AreRun (state : State) (lines : List (List ℕ)) (tally : Tally) (store : Stored) (events : List Event)
-    (history : Option (List Event)) : Type 0 where
+    (history : History) : Type 0 where
   pub answers : List Answer
   pub commits : List State
   pub after : State
@@ -42,14 +42,14 @@ pub record AreRun (state : State) (lines : List (List ℕ)) (tally : Tally) (sto
 -- all lines that `gen` asks are answered from this state on, this text tells it, and the disk was made to hold what was
 -- committed
 pub record IsLoaded (state : State) (seed count : ℕ) (text : List ℕ) (events : List Event)
-    (history : Option (List Event)) : Type 0 where
+    (history : History) : Type 0 where
   pub commits : List State
   pub tells : TellsRun state seed count commits text
   pub made : MadeCommits state.held commits events history
 
 -- some of these lines are answered, from the first on, and then it stops before the others
 pub record StopsWithin (state : State) (lines : List (List ℕ)) (events : List Event)
-    (history : Option (List Event)) : Type 0 where
+    (history : History) : Type 0 where
   pub count : ℕ
   pub within : count ≤ length lines
   pub replies : List (List ℕ)
@@ -57,5 +57,5 @@ pub record StopsWithin (state : State) (lines : List (List ℕ)) (events : List 
   pub after : State
   pub run : Run state (take count lines) replies commits after
   pub mid : List Event
-  pub made : MadeCommits state.held commits events (Some mid)
+  pub made : MadeCommits state.held commits events (Recorded mid)
   pub stops : StopsBefore after (drop count lines) mid history

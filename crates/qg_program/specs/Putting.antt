@@ -2,12 +2,16 @@
 -- one line alone.
 use Rattle.std.specs.Prelude.{◌≡◌, ◌⊎◌, ℕ, All, List, ◌∷◌, Option, Some, IsTrue, String, codes}
 use Rattle.std.specs.List.{concat}
-use Rattle.std.specs.Option.{option_map}
 use Rattle.std.specs.declared.alloc.Global.{Global}
 use Rattle.std.specs.Io.KnownBytes.{append_known}
-use Rattle.qg_device.specs.History.{Event, Synced, content}
+use Rattle.qg_device.specs.History.{Event, History, Recorded, Synced, history_after, content}
 use Rattle.qg_edge.specs.Appended.{AppendsFront}
 use Rattle.qg_num.specs.declared.answer.Answer.{Answer}
+use Rattle.qg_num.specs.declared.fault.BlockFault.{BlockFault}
+use Rattle.qg_num.specs.declared.fault.BlockFault.TheVariants as fault
+use Rattle.qg_num.specs.declared.fault.Stop.{Stop}
+use Rattle.qg_num.specs.declared.fault.Stop.TheVariants as stop
+use Rattle.qg_num.specs.declared.rule.Rule.{Rule}
 use Rattle.qg_grammar.specs.ReplyText.{line, no_line, reply_text}
 use Rattle.qg_grammar.specs.FailureText.{broken_text, differs_text}
 use Rattle.qg_image.specs.Verdict.{IsSound, verdict}
@@ -79,6 +83,18 @@ pub record TellsFailure (bytes : List ℕ) : Type 0 where
   pub failure : Failure
   pub told : bytes ≡ failure_text failure
 
+-- these bytes are the line of the rule that a stop names, and of its address
+abbrev pub TellsStop : Stop → List ℕ → Type 0
+TellsStop (stop.Image rule address) bytes = bytes ≡ broken_text rule address
+TellsStop _ bytes = ⊥
+
+-- these bytes are the line of the rule that a store stopped for, and of its address
+pub record TellsWhy (stopped : Option BlockFault) (bytes : List ℕ) : Type 0 where
+  pub rule : Rule
+  pub address : ℕ
+  pub cause : stopped ≡ Some (fault.Image rule address)
+  pub told : bytes ≡ broken_text rule address
+
 -- the line of some failure was put, and nothing else
 pub record SaysFailure (old new : Option (List ℕ)) : Type 0 where
   pub failure : Failure
@@ -100,26 +116,26 @@ EndsByFailure words old new =
 
 -- A run refuses an image by its first failure: it says so, and at most a sync was asked of the disk, just one where the
 -- line was to be put.
-pub record RefusesImage (status : Status) (failure : Failure) (events : List Event) (history : Option (List Event))
+pub record RefusesImage (status : Status) (failure : Failure) (events : List Event) (history : History)
     (old new : Option (List ℕ)) : Type 0 where
   pub put : Refuses status (failure_text failure) old new
   pub looked_at : IsLookedAt events history
-  pub unwritten : IsTrue (is_judged status) → history ≡ Some (Synced ∷ events)
+  pub unwritten : IsTrue (is_judged status) → history ≡ Recorded (Synced ∷ events)
 
 -- Where a run or the generator's lines were asked for, an image that is not sound is refused by its first failure, and
 -- the source stays as it is. And what ends so has put the line of some failure, and opened no image that is sound.
-pub record RefusesAsAsked (words : List (String Global)) (end : Status) (before after : Option (List Event))
+pub record RefusesAsAsked (words : List (String Global)) (end : Status) (before after : History)
     (old new : Option (List ℕ)) (SourceStays : Type 0) : Type 0 where
-  pub refuses : (events : List Event) (failure : Failure) → AskToOpen words → before ≡ Some events
+  pub refuses : (events : List Event) (failure : Failure) → AskToOpen words → before ≡ Recorded events
       → verdict (content events) ≡ Some failure → RefusesImage end failure events after old new × SourceStays
   pub told : end ≡ Image → EndsByFailure words old new
-  pub unsound : (events : List Event) → end ≡ Image → before ≡ Some events → IsSound (content events) → ⊥
+  pub unsound : (events : List Event) → end ≡ Image → before ≡ Recorded events → IsSound (content events) → ⊥
 
 -- An image of these sizes was asked for, and they are served: the calls where it was made; what the disk holds then,
 -- where it tells it; and what was put.
-pub record MakesImage (status : Status) (sizes : Sizes) (before after : Option (List Event))
+pub record MakesImage (status : Status) (sizes : Sizes) (before after : History)
     (old new : Option (List ℕ)) : Type 0 where
   pub calls : IsTrue (is_made status)
-      → after ≡ option_map (with_image (fresh_super sizes (slot_at sizes 0)) (fresh_nodes sizes)) before
-  pub fresh : (events : List Event) → before ≡ Some events → IsTrue (is_made status) → HoldsFreshImage sizes after
+      → after ≡ history_after (with_image (fresh_super sizes (slot_at sizes 0)) (fresh_nodes sizes)) before
+  pub fresh : (events : List Event) → before ≡ Recorded events → IsTrue (is_made status) → HoldsFreshImage sizes after
   pub said : SaysMade status old new

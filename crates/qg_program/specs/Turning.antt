@@ -1,8 +1,8 @@
 -- One turn of a run (this project's own): the next line is taken and answered.
-use Rattle.std.specs.Prelude.{◌≡◌, ◌⊎◌, ℕ, ◌<◌, Bool, true, false, List, [], Option, Some, Result, Ok, Err, OnOk}
+use Rattle.std.specs.Prelude.{◌≡◌, ◌⊎◌, ℕ, ◌<◌, Bool, true, false, List, [], Option, Result, Ok, Err, OnOk}
 use Rattle.std.specs.Io.KnownBytes.{IsAtEnd, append_known}
 use Rattle.qg_device.specs.Cause.{HasCause}
-use Rattle.qg_device.specs.History.{Event}
+use Rattle.qg_device.specs.History.{Event, History, Recorded}
 use Rattle.qg_edge.specs.Appended.{AppendsFront}
 use Rattle.qg_script.specs.Feeding.{Feeding, IsTooLong, IsWithinLimit}
 use Rattle.qg_script.specs.Lines.{CountsTaken, TakesLine}
@@ -22,16 +22,16 @@ pub record IsBlankOf (name parts ledger shares : ℕ) : Type 0 where
   pub some : 0 < parts
 
 -- a store stands for some state over a disk that tells
-pub record StandsOver (store : Stored) (history : Option (List Event)) : Type 0 where
+pub record StandsOver (store : Stored) (history : History) : Type 0 where
   pub state : State
   pub events : List Event
-  pub told : history ≡ Some events
+  pub told : history ≡ Recorded events
   pub stands : IsStoreOf store state history
 
 -- the machine answers a line by this reply; the store stands for the state that it comes to, and the disk was made to
 -- hold what it commits
 pub record IsReply (old : State) (events : List Event) (line reply : List ℕ) (store : Stored)
-    (history : Option (List Event)) : Type 0 where
+    (history : History) : Type 0 where
   pub new : State
   pub commits : List State
   pub turn : Turn old line reply commits new
@@ -40,56 +40,56 @@ pub record IsReply (old : State) (events : List Event) (line reply : List ℕ) (
 
 -- the first line of what was pending, where that is told, has this reply
 pub record Replies (old : State) (events : List Event) (before after : Option (List ℕ)) (reply : List ℕ)
-    (store : Stored) (history : Option (List Event)) : Type 0 where
+    (store : Stored) (history : History) : Type 0 where
   pub line : List ℕ
   pub takes : TakesLine before after line
   pub answered : IsReply old events line reply store history
 
 -- and the reply was put
 pub record Turns (old : State) (events : List Event) (before after : Option (List ℕ)) (store : Stored)
-    (history : Option (List Event)) (held now : Option (List ℕ)) : Type 0 where
+    (history : History) (held now : Option (List ℕ)) : Type 0 where
   pub reply : List ℕ
   pub replies : Replies old events before after reply store history
   pub put : now ≡ append_known held reply
 
 -- and a front of it was put
 pub record TurnsPart (old : State) (events : List Event) (before : Option (List ℕ)) (store : Stored)
-    (history : Option (List Event)) (held now : Option (List ℕ)) : Type 0 where
+    (history : History) (held now : Option (List ℕ)) : Type 0 where
   pub after : Option (List ℕ)
   pub reply : List ℕ
   pub replies : Replies old events before after reply store history
   pub put : AppendsFront held now reply
 
 -- a line was answered; where there was none, nothing was put and nothing was done to the disk
-abbrev pub IsTurn : Bool → State → List Event → Option (List ℕ) → Option (List ℕ) → Stored → Option (List Event)
+abbrev pub IsTurn : Bool → State → List Event → Option (List ℕ) → Option (List ℕ) → Stored → History
     → Option (List ℕ) → Option (List ℕ) → Type 0
 IsTurn true old events before after store history held now = Turns old events before after store history held now
 IsTurn false old events before after store history held now = IsAtEnd before × (after ≡ before)
-    × (history ≡ Some events) × (now ≡ held)
+    × (history ≡ Recorded events) × (now ≡ held)
 
 -- what a line that is not answered to its end has done to the disk: nothing, or calls of the commits that it makes
-abbrev pub IsLineSoFar : State → List ℕ → List Event → Option (List Event) → Type 0
-IsLineSoFar old line events history = (history ≡ Some events) ⊎ StartsLine old line events history
+abbrev pub IsLineSoFar : State → List ℕ → List Event → History → Type 0
+IsLineSoFar old line events history = (history ≡ Recorded events) ⊎ StartsLine old line events history
 
 -- the first line of what was pending, where that is told, is broken off in the midst of its commits
 pub record BreaksLine (old : State) (before : Option (List ℕ)) (events : List Event)
-    (history : Option (List Event)) : Type 0 where
+    (history : History) : Type 0 where
   pub line : List ℕ
   pub after : Option (List ℕ)
   pub takes : TakesLine before after line
   pub starts : StartsLine old line events history
 
 -- nothing was done to the disk, or the next line is broken off so
-abbrev pub StopsLine : State → Option (List ℕ) → List Event → Option (List Event) → Type 0
-StopsLine old before events history = (history ≡ Some events) ⊎ BreaksLine old before events history
+abbrev pub StopsLine : State → Option (List ℕ) → List Event → History → Type 0
+StopsLine old before events history = (history ≡ Recorded events) ⊎ BreaksLine old before events history
 
 -- A turn that fails. Where the sink failed, the line was answered but for its reply. Where no line was read, nothing
 -- was done; else perhaps calls of the commits that the line makes.
-abbrev pub FailsToTurn : Status → State → List Event → Option (List ℕ) → Option (List ℕ) → Stored → Option (List Event)
+abbrev pub FailsToTurn : Status → State → List Event → Option (List ℕ) → Option (List ℕ) → Stored → History
     → Option (List ℕ) → Option (List ℕ) → Type 0
 FailsToTurn Sink old events before after store history held now = TurnsPart old events before store history held now
-FailsToTurn Source old events before after store history held now = (history ≡ Some events) × (now ≡ held)
-FailsToTurn TooLong old events before after store history held now = (after ≡ before) × (history ≡ Some events)
+FailsToTurn Source old events before after store history held now = (history ≡ Recorded events) × (now ≡ held)
+FailsToTurn TooLong old events before after store history held now = (after ≡ before) × (history ≡ Recorded events)
     × (now ≡ held)
 FailsToTurn NoMemory old events before after store history held now = StopsLine old before events history × (now ≡ held)
 FailsToTurn Disk old events before after store history held now = StopsLine old before events history × (now ≡ held)
@@ -110,7 +110,7 @@ pub record TakesTurn (result : Result Bool Status) (old new : Feeding) (before a
   pub counted : CountsTaken before after old.taken new.taken
   pub within : IsWithinLimit new
 
--- a fault of source, sink or disk is told only where the count of its faults rose
+-- source, sink or disk met a fault exactly where the turn ends for it, and then it alone and once
 pub record HaveCauses (result : Result Bool Status)
     (source_before source_after sink_before sink_after disk_before disk_after : ℕ)
     : Type 0 where

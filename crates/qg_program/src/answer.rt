@@ -1,7 +1,7 @@
 // A line is answered.
-ghost use Rattle.std.specs.Prelude.{◌≡◌, ◌≢◌, List, Some, IfErr, OnOk, IsTrue};
+ghost use Rattle.std.specs.Prelude.{◌≡◌, ◌≢◌, List, IfErr, OnOk, IsTrue};
 ghost use Rattle.qg_device.specs.Cause.{HasCause};
-ghost use Rattle.qg_device.specs.History.{Event};
+ghost use Rattle.qg_device.specs.History.{Event, Recorded};
 ghost use Rattle.qg_image.specs.State.{State};
 ghost use Rattle.qg_store.specs.Stored.{IsReady, IsStoreOf};
 ghost use Rattle.qg_program.specs.Ends.{is_stop};
@@ -26,13 +26,13 @@ pub(crate) fn answer_line<D: Disk, L: Ledger, M: Ledger>(
 ) -> Result<(), Status>
     requires { IsReady session.old.store (D.history disk.old) (D.size disk.old) }
     ensures reply { (state : State) (events : List Event) → IsStoreOf session.old.store state (D.history disk.old)
-        → D.history disk.old ≡ Some events
+        → D.history disk.old ≡ Recorded events
         → OnOk result (IsReply state events line.now text.new session.new.store (D.history disk.new)) }
     ensures so_far { (state : State) (events : List Event) → IsStoreOf session.old.store state (D.history disk.old)
-        → D.history disk.old ≡ Some events
+        → D.history disk.old ≡ Recorded events
         → IsLineSoFar state line.now events (D.history disk.new) }
     ensures sound { (state : State) (events : List Event) → IsStoreOf session.old.store state (D.history disk.old)
-        → D.history disk.old ≡ Some events
+        → D.history disk.old ≡ Recorded events
         → IfErr result (λ status. status ≢ Status.Image) }
     ensures ready { OnOk result (IsReady session.new.store (D.history disk.new) (D.size disk.new)) }
     ensures ends { IfErr result (λ status. IsTrue (is_stop status)) }

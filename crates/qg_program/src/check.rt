@@ -1,6 +1,6 @@
 // An image is judged.
 ghost use Rattle.std.specs.Prelude.{◌≡◌, IsTrue};
-ghost use Rattle.qg_device.specs.Cause.{Rose};
+ghost use Rattle.qg_device.specs.Cause.{HasEndCause};
 ghost use Rattle.qg_script.specs.Added.{Adds};
 ghost use Rattle.qg_program.specs.Ends.{is_checkers};
 ghost use Rattle.qg_program.specs.Checking.{Checks, Says, report_end, report_text};
@@ -19,8 +19,8 @@ pub(crate) fn check<D: Disk, K: Sink>(alloc: Global, disk: &mut D, sink: &mut K)
     ensures checks { Checks result (D.history disk.old) (K.bytes_held sink.old) (K.bytes_held sink.new) }
     ensures unwritten { (D.history disk.new ≡ D.history disk.old) × (D.size disk.new ≡ D.size disk.old) }
     ensures ends { IsTrue (is_checkers result) }
-    ensures sink_fault { result ≡ Status.Sink → Rose (K.faults sink.old) (K.faults sink.new) }
-    ensures disk_fault { result ≡ Status.Disk → Rose (D.faults disk.old) (D.faults disk.new) }
+    ensures sink_fault { HasEndCause Status.Sink (K.faults sink.old) (K.faults sink.new) result }
+    ensures disk_fault { HasEndCause Status.Disk (D.faults disk.old) (D.faults disk.new) result }
 {
     match count_image(alloc, disk) {
         Ok(report) => say(alloc, &report, sink),
@@ -32,7 +32,7 @@ pub(crate) fn check<D: Disk, K: Sink>(alloc: Global, disk: &mut D, sink: &mut K)
 // Says what an image is.
 fn say<K: Sink>(alloc: Global, report: &Report, sink: &mut K) -> Status
     ensures says { Says result report.now (K.bytes_held sink.old) (K.bytes_held sink.new) }
-    ensures sink_fault { result ≡ Status.Sink → Rose (K.faults sink.old) (K.faults sink.new) }
+    ensures sink_fault { HasEndCause Status.Sink (K.faults sink.old) (K.faults sink.new) result }
 {
     let mut text = Text::new(alloc);
     let Ok(()) = write_report(report, &mut text) else {

@@ -1,8 +1,8 @@
 // The generator's lines are run over an image.
 ghost use Rattle.std.specs.Prelude.{◌≡◌, ◌≢◌, ◌↔◌, ◌<◌, ◌≤◌, ◌+◌, ◌^◌, [], List, length, not, Some, IfOk, IfErr, OnOk};
 ghost use Rattle.std.specs.Prelude.{IsTrue};
-ghost use Rattle.qg_device.specs.Cause.{HasCause, Rose};
-ghost use Rattle.qg_device.specs.History.{Event, content};
+ghost use Rattle.qg_device.specs.Cause.{HasCause, HasEndCause};
+ghost use Rattle.qg_device.specs.History.{Event, Recorded, content};
 ghost use Rattle.qg_grammar.specs.ScriptText.{IsLineOf, command_text};
 ghost use Rattle.qg_image.specs.State.{State};
 ghost use Rattle.qg_image.specs.StateOf.{StateOf};
@@ -70,24 +70,26 @@ pub(crate) fn generate<D: Disk, K: Sink>(
 ) -> Status
     ensures sizes { (result ≡ Status.Sizes) ↔ (most_lines < count) }
     ensures untouched { result ≡ Status.Sizes → (disk.new ≡ disk.old) × (sink.new ≡ sink.old) }
-    ensures generates { (events : List Event) (state : State) → count ≤ most_lines → D.history disk.old ≡ Some events
+    ensures generates { (events : List Event) (state : State) → count ≤ most_lines
+        → D.history disk.old ≡ Recorded events
         → StateOf (content events) state
         → Generates result state seed count events (D.history disk.new) (K.bytes_held sink.old)
         (K.bytes_held sink.new) }
     ensures crashes { (events after : List Event) (state : State) → count ≤ most_lines
-        → D.history disk.old ≡ Some events
-        → D.history disk.new ≡ Some after → StateOf (content events) state
+        → D.history disk.old ≡ Recorded events
+        → D.history disk.new ≡ Recorded after → StateOf (content events) state
         → LeavesBehind result state (Drawn seed count) events after (K.bytes_held sink.old) (K.bytes_held sink.new) }
-    ensures refuses { (events : List Event) (failure : Failure) → count ≤ most_lines → D.history disk.old ≡ Some events
+    ensures refuses { (events : List Event) (failure : Failure) → count ≤ most_lines
+        → D.history disk.old ≡ Recorded events
         → verdict (content events) ≡ Some failure
         → RefusesImage result failure events (D.history disk.new) (K.bytes_held sink.old) (K.bytes_held sink.new) }
-    ensures unsound { (events : List Event) → D.history disk.old ≡ Some events → result ≡ Status.Image
+    ensures unsound { (events : List Event) → D.history disk.old ≡ Recorded events → result ≡ Status.Image
         → IsSound (content events) → ⊥ }
     ensures told { result ≡ Status.Image
         → (count ≤ most_lines) × SaysFailure (K.bytes_held sink.old) (K.bytes_held sink.new) }
     ensures ends { IsTrue (is_generators result) }
-    ensures sink_fault { result ≡ Status.Sink → Rose (K.faults sink.old) (K.faults sink.new) }
-    ensures disk_fault { result ≡ Status.Disk → Rose (D.faults disk.old) (D.faults disk.new) }
+    ensures sink_fault { HasEndCause Status.Sink (K.faults sink.old) (K.faults sink.new) result }
+    ensures disk_fault { HasEndCause Status.Disk (D.faults disk.old) (D.faults disk.new) result }
 {
     if count > MOST_LINES {
         return Status::Sizes;
@@ -124,18 +126,18 @@ fn run_generated<L: Ledger, M: Ledger, D: Disk, K: Sink>(
     requires reads { IsBlankOf reads.name reads.parts M.name M.parts }
     requires few { count ≤ most_lines }
     ensures generates { (state : State) (events opened : List Event) → IsStoreOf store state (D.history disk.old)
-        → IsOpened events (Some opened) → D.history disk.old ≡ Some opened
+        → IsOpened events (Recorded opened) → D.history disk.old ≡ Recorded opened
         → Generates result state seed count events (D.history disk.new) (K.bytes_held sink.old)
         (K.bytes_held sink.new) }
     ensures crashes { (state : State) (events opened after : List Event) → IsStoreOf store state (D.history disk.old)
-        → IsOpened events (Some opened) → D.history disk.old ≡ Some opened → D.history disk.new ≡ Some after
+        → IsOpened events (Recorded opened) → D.history disk.old ≡ Recorded opened → D.history disk.new ≡ Recorded after
         → StateOf (content events) state → Rests state opened
         → LeavesBehind result state (Drawn seed count) events after (K.bytes_held sink.old) (K.bytes_held sink.new) }
     ensures sound { StandsOver store (D.history disk.old) → result ≢ Status.Image }
     ensures told { result ≡ Status.Image → SaysFailure (K.bytes_held sink.old) (K.bytes_held sink.new) }
     ensures ends { IsTrue (is_generators result) × (result ≢ Status.Sizes) }
-    ensures sink_fault { result ≡ Status.Sink → Rose (K.faults sink.old) (K.faults sink.new) }
-    ensures disk_fault { result ≡ Status.Disk → Rose (D.faults disk.old) (D.faults disk.new) }
+    ensures sink_fault { HasEndCause Status.Sink (K.faults sink.old) (K.faults sink.new) result }
+    ensures disk_fault { HasEndCause Status.Disk (D.faults disk.old) (D.faults disk.new) result }
 {
     let mut session = Session {
         store,
@@ -164,13 +166,13 @@ fn load<D: Disk, L: Ledger, M: Ledger>(
     requires few { count ≤ most_lines }
     requires blank { text.old ≡ [] }
     ensures loaded { (state : State) (events : List Event) → IsStoreOf session.old.store state (D.history disk.old)
-        → D.history disk.old ≡ Some events
+        → D.history disk.old ≡ Recorded events
         → OnOk result (IsLoaded state seed count text.new events (D.history disk.new)) }
     ensures stopped { (state : State) (events : List Event) → IsStoreOf session.old.store state (D.history disk.old)
-        → D.history disk.old ≡ Some events
+        → D.history disk.old ≡ Recorded events
         → IfErr result (λ status. StopsWithin state (asked_lines seed count) events (D.history disk.new)) }
     ensures sound { (state : State) (events : List Event) → IsStoreOf session.old.store state (D.history disk.old)
-        → D.history disk.old ≡ Some events
+        → D.history disk.old ≡ Recorded events
         → IfErr result (λ status. status ≢ Status.Image) }
     ensures ends { IfErr result (λ status. IsTrue (is_stop status)) }
     ensures told { IfErr result (λ status. status ≡ Status.Image → TellsFailure text.new) }
@@ -195,13 +197,13 @@ fn answer_generated<D: Disk, L: Ledger, M: Ledger>(
     requires few { length generator < 2 ^ 64 }
     requires blank { text.old ≡ [] }
     ensures run { (state : State) (events : List Event) → IsStoreOf session.old.store state (D.history disk.old)
-        → D.history disk.old ≡ Some events
+        → D.history disk.old ≡ Recorded events
         → IfOk result (λ tally. AreRun state (lines_of generator) tally session.new.store events (D.history disk.new)) }
     ensures stopped { (state : State) (events : List Event) → IsStoreOf session.old.store state (D.history disk.old)
-        → D.history disk.old ≡ Some events
+        → D.history disk.old ≡ Recorded events
         → IfErr result (λ status. StopsWithin state (lines_of generator) events (D.history disk.new)) }
     ensures sound { (state : State) (events : List Event) → IsStoreOf session.old.store state (D.history disk.old)
-        → D.history disk.old ≡ Some events
+        → D.history disk.old ≡ Recorded events
         → IfErr result (λ status. status ≢ Status.Image) }
     ensures ready { OnOk result (IsReady session.new.store (D.history disk.new) (D.size disk.new)) }
     ensures ends { IfErr result (λ status. IsTrue (is_stop status)) }
@@ -233,14 +235,14 @@ fn is_done<D: Disk, L: Ledger, M: Ledger>(
     requires line { IsLineOf (command_text command.now) command.now }
     requires blank { text.old ≡ [] }
     ensures answered { (state : State) (events : List Event) → IsStoreOf session.old.store state (D.history disk.old)
-        → D.history disk.old ≡ Some events
+        → D.history disk.old ≡ Recorded events
         → IfOk result (λ done. IsAnswered state events (command_text command.now) done session.new.store
         (D.history disk.new)) }
     ensures so_far { (state : State) (events : List Event) → IsStoreOf session.old.store state (D.history disk.old)
-        → D.history disk.old ≡ Some events
+        → D.history disk.old ≡ Recorded events
         → IsLineSoFar state (command_text command.now) events (D.history disk.new) }
     ensures sound { (state : State) (events : List Event) → IsStoreOf session.old.store state (D.history disk.old)
-        → D.history disk.old ≡ Some events
+        → D.history disk.old ≡ Recorded events
         → IfErr result (λ status. status ≢ Status.Image) }
     ensures ready { OnOk result (IsReady session.new.store (D.history disk.new) (D.size disk.new)) }
     ensures ends { IfErr result (λ status. IsTrue (is_stop status)) }

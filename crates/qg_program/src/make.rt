@@ -1,8 +1,7 @@
 // An image is made.
-ghost use Rattle.std.specs.Prelude.{◌≡◌, ◌≢◌, ◌↔◌, ◌⊎◌, List, Some, false, IsTrue};
-ghost use Rattle.std.specs.Option.{option_map};
-ghost use Rattle.qg_device.specs.Cause.{Rose};
-ghost use Rattle.qg_device.specs.History.{Event};
+ghost use Rattle.std.specs.Prelude.{◌≡◌, ◌≢◌, ◌↔◌, ◌⊎◌, List, false, IsTrue};
+ghost use Rattle.qg_device.specs.Cause.{HasEndCause};
+ghost use Rattle.qg_device.specs.History.{Event, Recorded, history_after};
 ghost use Rattle.qg_super.specs.Places.{is_served, slot_at};
 ghost use Rattle.qg_store.specs.Calls.{with_image};
 ghost use Rattle.qg_store.specs.Fresh.{fresh_nodes, fresh_super};
@@ -29,12 +28,12 @@ pub(crate) fn make<D: Disk, K: Sink>(
     ensures sizes { (result ≡ Status.Sizes) ↔ (is_served sizes ≡ false) }
     ensures untouched { result ≡ Status.Sizes → (disk.new ≡ disk.old) × (sink.new ≡ sink.old) }
     ensures calls { IsTrue (is_made result) → D.history disk.new
-        ≡ option_map (with_image (fresh_super sizes (slot_at sizes 0)) (fresh_nodes sizes)) (D.history disk.old) }
-    ensures fresh { (before : List Event) → D.history disk.old ≡ Some before → IsTrue (is_made result)
+        ≡ history_after (with_image (fresh_super sizes (slot_at sizes 0)) (fresh_nodes sizes)) (D.history disk.old) }
+    ensures fresh { (before : List Event) → D.history disk.old ≡ Recorded before → IsTrue (is_made result)
         → HoldsFreshImage sizes (D.history disk.new) }
     ensures put { SaysMade result (K.bytes_held sink.old) (K.bytes_held sink.new) }
-    ensures sink_fault { result ≡ Status.Sink → Rose (K.faults sink.old) (K.faults sink.new) }
-    ensures disk_fault { result ≡ Status.Disk → Rose (D.faults disk.old) (D.faults disk.new) }
+    ensures sink_fault { HasEndCause Status.Sink (K.faults sink.old) (K.faults sink.new) result }
+    ensures disk_fault { HasEndCause Status.Disk (D.faults disk.old) (D.faults disk.new) result }
 {
     match mkfs(alloc, disk, sizes) {
         Ok(()) => match put(sink, b"ok mkfs\n") {

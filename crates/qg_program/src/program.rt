@@ -1,7 +1,6 @@
 // The top call.
-ghost use Rattle.std.specs.Prelude.{◌≡◌, ◌↔◌, List, Some, IsTrue};
-ghost use Rattle.qg_device.specs.Cause.{Rose};
-ghost use Rattle.qg_device.specs.History.{Event, content};
+ghost use Rattle.std.specs.Prelude.{◌≡◌, ◌↔◌, List, IsTrue};
+ghost use Rattle.qg_device.specs.History.{Event, Recorded, content};
 ghost use Rattle.qg_super.specs.declared.sizes.Sizes.{Sizes};
 ghost use Rattle.qg_image.specs.State.{State};
 ghost use Rattle.qg_image.specs.StateOf.{StateOf};
@@ -57,7 +56,7 @@ pub fn run_program<D: Disk, S: Source, K: Sink>(
     // A run over a sound image follows the machine from the state that the image stands for, and so does one of the
     // generator's lines. Over any other they say the first failure; nothing else but `check` says that an image is not
     // sound.
-    ensures follows { (events : List Event) (state : State) → D.history disk.old ≡ Some events
+    ensures follows { (events : List Event) (state : State) → D.history disk.old ≡ Recorded events
         → StateOf (content events) state
         → FollowsAsAsked words.now.items result state (S.bytes_left source.old) events (D.history disk.new)
         (K.bytes_held sink.old) (K.bytes_held sink.new) }
@@ -66,8 +65,8 @@ pub fn run_program<D: Disk, S: Source, K: Sink>(
 
     // What a crash leaves at any moment of either over a sound image: a state that was committed, or the opened one,
     // and none that is older than what was acknowledged by then.
-    ensures crashes { (events after : List Event) (state : State) → D.history disk.old ≡ Some events
-        → D.history disk.new ≡ Some after → StateOf (content events) state
+    ensures crashes { (events after : List Event) (state : State) → D.history disk.old ≡ Recorded events
+        → D.history disk.new ≡ Recorded after → StateOf (content events) state
         → LeavesAsAsked words.now.items result state (S.bytes_left source.old) events after (K.bytes_held sink.old)
         (K.bytes_held sink.new) }
 
@@ -75,10 +74,11 @@ pub fn run_program<D: Disk, S: Source, K: Sink>(
     ensures takes { (AskToRun words.now.items → IsTaken result (S.bytes_left source.old) (S.bytes_left source.new))
         × ((AskToRun words.now.items → ⊥) → source.new ≡ source.old) }
 
-    // A fault has its cause, and where nothing fails what was asked is done.
+    // A fault of source, sink or disk is met once where the program ends for it, and none is at any other end; and
+    // where nothing fails what was asked is done.
     ensures causes { EndsForCause words.now.items result (D.history disk.old) (S.bytes_left source.old)
-        (Rose (S.faults source.old) (S.faults source.new)) (Rose (K.faults sink.old) (K.faults sink.new))
-        (Rose (D.faults disk.old) (D.faults disk.new)) }
+        (S.faults source.old) (S.faults source.new) (K.faults sink.old) (K.faults sink.new) (D.faults disk.old)
+        (D.faults disk.new) }
 {
     match read_words(words) {
         Some(Form::Mkfs(sizes)) => make(alloc, sizes, disk, sink),

@@ -1,7 +1,7 @@
 // Bytes are put.
-ghost use Rattle.std.specs.Prelude.{◌≡◌, ◌≢◌, ◌⊎◌, ◌≤◌, IfErr, OnOk};
+ghost use Rattle.std.specs.Prelude.{◌≡◌, ◌≢◌, ◌⊎◌, IfErr, OnOk};
 ghost use Rattle.std.specs.Io.KnownBytes.{append_known};
-ghost use Rattle.qg_device.specs.Cause.{HasCause, Rose};
+ghost use Rattle.qg_device.specs.Cause.{HasCause, HasEndCause};
 ghost use Rattle.qg_program.specs.Putting.{FailsToPut, IsPutFault, PutsAndEnds};
 
 use crate::Status;
@@ -26,7 +26,7 @@ pub(crate) fn put<K: Sink>(sink: &mut K, bytes: &[u8]) -> Result<(), Status>
 pub(crate) fn put_and_end<K: Sink>(end: Status, bytes: &[u8], sink: &mut K) -> Status
     ensures put { PutsAndEnds end result bytes.now (K.bytes_held sink.old) (K.bytes_held sink.new) }
     ensures ends { (result ≡ end) ⊎ IsPutFault result }
-    ensures cause { end ≢ Status.Sink → result ≡ Status.Sink → Rose (K.faults sink.old) (K.faults sink.new) }
+    ensures cause { end ≢ Status.Sink → HasEndCause Status.Sink (K.faults sink.old) (K.faults sink.new) result }
 {
     match put(sink, bytes) {
         Ok(()) => end,
@@ -42,8 +42,7 @@ pub(crate) fn end<K: Sink>(status: Status, text: &Text, sink: &mut K) -> Status
     ensures fails { status ≡ Status.Image → result ≢ Status.Image
         → FailsToPut result text.now (K.bytes_held sink.old) (K.bytes_held sink.new) }
     ensures ends { (result ≡ status) ⊎ IsPutFault result }
-    ensures later { K.faults sink.old ≤ K.faults sink.new }
-    ensures cause { status ≢ Status.Sink → result ≡ Status.Sink → Rose (K.faults sink.old) (K.faults sink.new) }
+    ensures cause { status ≢ Status.Sink → HasEndCause Status.Sink (K.faults sink.old) (K.faults sink.new) result }
 {
     if status != Status::Image {
         return status;

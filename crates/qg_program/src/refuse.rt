@@ -1,6 +1,6 @@
 // An image that is not sound is refused.
-ghost use Rattle.std.specs.Prelude.{◌≡◌, ◌⊎◌, Some, None, IsTrue};
-ghost use Rattle.qg_device.specs.Cause.{Rose};
+ghost use Rattle.std.specs.Prelude.{◌≡◌, ◌↔◌, ◌⊎◌, Some, None, IsTrue};
+ghost use Rattle.qg_device.specs.Cause.{HasEndCause};
 ghost use Rattle.qg_image.specs.declared.failure.Failure.{Failure};
 ghost use Rattle.qg_walk.specs.declared.fault.OpenFault.TheVariants as opening;
 ghost use Rattle.qg_walk.specs.Fault.{TellsFailure};
@@ -22,9 +22,9 @@ pub(crate) fn refuse<K: Sink>(alloc: Global, fault: OpenFault, sink: &mut K) -> 
         → ((result ≡ Status.Disk) ⊎ (result ≡ Status.NoMemory)) × (K.bytes_held sink.new ≡ K.bytes_held sink.old) }
     ensures told { result ≡ Status.Image → SaysFailure (K.bytes_held sink.old) (K.bytes_held sink.new) }
     ensures ends { IsTrue (is_refusers result) }
-    ensures disk { result ≡ Status.Disk → fault ≡ opening.Disk }
+    ensures disk { (result ≡ Status.Disk) ↔ (fault ≡ opening.Disk) }
     ensures judged { IsTrue (is_judged result) → (fault ≡ opening.Disk → ⊥) × (fault ≡ opening.NoMemory → ⊥) }
-    ensures sink_fault { result ≡ Status.Sink → Rose (K.faults sink.old) (K.faults sink.new) }
+    ensures sink_fault { HasEndCause Status.Sink (K.faults sink.old) (K.faults sink.new) result }
 {
     let mut text = Text::new(alloc);
     let written = match fault {

@@ -1,16 +1,16 @@
 // An open store with the counts of its steps.
-ghost use Rattle.std.specs.Prelude.{◌≡◌, ◌≢◌, ◌⊎◌, ◌++◌, [], false, List, Some, IfOk, IfErr, OnOk, IsTrue};
+ghost use Rattle.std.specs.Prelude.{◌≡◌, ◌≢◌, ◌↔◌, ◌⊎◌, ◌++◌, [], false, List, IfOk, IfErr, OnOk, IsTrue};
 ghost use Rattle.qg_device.specs.Cause.{HasCause};
-ghost use Rattle.qg_device.specs.History.{Event};
+ghost use Rattle.qg_device.specs.History.{Event, Recorded};
 ghost use Rattle.qg_num.specs.declared.fault.BlockFault.{BlockFault};
 ghost use Rattle.qg_num.specs.declared.fault.Stop.TheVariants.{Aborted};
 ghost use Rattle.qg_grammar.specs.FailureText.{broken_text};
 ghost use Rattle.qg_grammar.specs.ScriptText.{is_in_grammar};
 ghost use Rattle.qg_image.specs.State.{State};
 ghost use Rattle.qg_store.specs.Answering.{AnswersOn, IsDoneSoFar};
-ghost use Rattle.qg_store.specs.Stored.{IsReady, IsStoreOf, is_of_image};
+ghost use Rattle.qg_store.specs.Stored.{IsIntact, IsReady, IsStoreOf, is_of_image};
 ghost use Rattle.qg_program.specs.Ends.{is_stop};
-ghost use Rattle.qg_program.specs.Putting.{TellsFailure};
+ghost use Rattle.qg_program.specs.Putting.{TellsFailure, TellsStop, TellsWhy};
 
 use crate::Status;
 use qg_disk::Disk;
@@ -40,18 +40,22 @@ impl<L: Ledger, M: Ledger> Session<L, M> {
         requires numbers { IsTrue (is_in_grammar command.now) }
         requires blank { text.old ≡ [] }
         ensures step { (state : State) (events : List Event) → IsStoreOf self.old.store state (D.history disk.old)
-            → D.history disk.old ≡ Some events
+            → D.history disk.old ≡ Recorded events
             → IfOk result (λ answer. AnswersOn state command.now answer self.new.store.kept events (D.history
             disk.new)) }
         ensures so_far { (state : State) (events : List Event) → IsStoreOf self.old.store state (D.history disk.old)
-            → D.history disk.old ≡ Some events
+            → D.history disk.old ≡ Recorded events
             → IsDoneSoFar state command.now events (D.history disk.new) }
         ensures sound { (state : State) (events : List Event) → IsStoreOf self.old.store state (D.history disk.old)
-            → D.history disk.old ≡ Some events
+            → D.history disk.old ≡ Recorded events
             → IfErr result (λ status. status ≢ Status.Image) }
         ensures ready { OnOk result (IsReady self.new.store (D.history disk.new) (D.size disk.new)) }
         ensures ends { IfErr result (λ status. IsTrue (is_stop status)) }
         ensures told { IfErr result (λ status. status ≡ Status.Image → TellsFailure text.new) }
+        ensures why { IfErr result (λ status. status ≡ Status.Image → TellsWhy self.new.store.stopped text.new) }
+        ensures intact { IfErr result (λ status. status ≡ Status.Image
+            → IsIntact command.now self.old.store.kept self.new.store.kept (D.history disk.old)
+            (D.history disk.new)) }
         ensures blank { OnOk result (text.new ≡ []) }
         ensures cause { HasCause Status.Disk (D.faults disk.old) (D.faults disk.new) result }
     {
@@ -70,9 +74,9 @@ fn end_of(stop: &Stop, text: &mut Text) -> Status
     requires running { (cause : BlockFault) → stop.now ≡ Aborted cause → ⊥ }
     requires blank { text.old ≡ [] }
     ensures ends { IsTrue (is_stop result) }
-    ensures disk { result ≡ Status.Disk → stop.now ≡ Stop.Disk }
+    ensures disk { (result ≡ Status.Disk) ↔ (stop.now ≡ Stop.Disk) }
     ensures sound { is_of_image stop.now ≡ false → result ≢ Status.Image }
-    ensures told { result ≡ Status.Image → TellsFailure text.new }
+    ensures told { result ≡ Status.Image → TellsStop stop.now text.new }
 {
     match stop {
         Stop::NoMemory => Status::NoMemory,

@@ -1,7 +1,6 @@
 // One line after the other.
 ghost use Rattle.std.specs.Prelude.{◌≡◌, ◌≢◌, ◌<◌, List, ℕ, Some, Ok, Err, true, IfOk, IfErr, OnOk, IsTrue};
-ghost use Rattle.qg_device.specs.Cause.{Rose};
-ghost use Rattle.qg_device.specs.History.{Event, content};
+ghost use Rattle.qg_device.specs.History.{Event, Recorded, content};
 ghost use Rattle.qg_script.specs.Feeding.{most_to_come};
 ghost use Rattle.qg_script.specs.Lines.{pending};
 ghost use Rattle.qg_image.specs.State.{State};
@@ -42,13 +41,13 @@ fn turn<L: Ledger, M: Ledger, D: Disk, S: Source, K: Sink>(
 ) -> Result<bool, Status>
     requires { IsReady session.old.store (D.history disk.old) (D.size disk.old) }
     ensures ok { (state : State) (events : List Event) → IsStoreOf session.old.store state (D.history disk.old)
-        → D.history disk.old ≡ Some events
+        → D.history disk.old ≡ Recorded events
         → IfOk result (λ more.
         IsTurn more state events (pending feed.old (S.bytes_left source.old))
         (pending feed.new (S.bytes_left source.new))
         session.new.store (D.history disk.new) (K.bytes_held sink.old) (K.bytes_held sink.new)) }
     ensures err { (state : State) (events : List Event) → IsStoreOf session.old.store state (D.history disk.old)
-        → D.history disk.old ≡ Some events
+        → D.history disk.old ≡ Recorded events
         → IfErr result (λ status.
         FailsToTurn status state events (pending feed.old (S.bytes_left source.old))
         (pending feed.new (S.bytes_left source.new))
@@ -93,10 +92,11 @@ pub(crate) fn answer_lines<L: Ledger, M: Ledger, D: Disk, S: Source, K: Sink>(
     requires reads { IsBlankOf reads.name reads.parts M.name M.parts }
     ensures follows { (state : State) (events opened : List Event) (input : List ℕ)
         → IsStoreOf store state (D.history disk.old)
-        → IsOpened events (Some opened) → D.history disk.old ≡ Some opened → S.bytes_left source.old ≡ Some input
+        → IsOpened events (Recorded opened) → D.history disk.old ≡ Recorded opened
+        → S.bytes_left source.old ≡ Some input
         → Follows result state input events (D.history disk.new) (K.bytes_held sink.old) (K.bytes_held sink.new) }
     ensures crashes { (state : State) (events opened after : List Event) → IsStoreOf store state (D.history disk.old)
-        → IsOpened events (Some opened) → D.history disk.old ≡ Some opened → D.history disk.new ≡ Some after
+        → IsOpened events (Recorded opened) → D.history disk.old ≡ Recorded opened → D.history disk.new ≡ Recorded after
         → StateOf (content events) state → Rests state opened
         → LeavesBehind result state (Input (S.bytes_left source.old)) events after (K.bytes_held sink.old)
         (K.bytes_held sink.new) }
@@ -104,9 +104,8 @@ pub(crate) fn answer_lines<L: Ledger, M: Ledger, D: Disk, S: Source, K: Sink>(
     ensures told { result ≡ Status.Image → PutsFailure (K.bytes_held sink.old) (K.bytes_held sink.new) }
     ensures takes { IsTaken result (S.bytes_left source.old) (S.bytes_left source.new) }
     ensures ends { IsTrue (is_answerers result) }
-    ensures causes { HasCauses result (Rose (S.faults source.old) (S.faults source.new)) (Rose (K.faults sink.old)
-        (K.faults sink.new))
-        (Rose (D.faults disk.old) (D.faults disk.new)) }
+    ensures causes { HasCauses result (S.faults source.old) (S.faults source.new) (K.faults sink.old)
+        (K.faults sink.new) (D.faults disk.old) (D.faults disk.new) }
 {
     let mut session = Session {
         store,

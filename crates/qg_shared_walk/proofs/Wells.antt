@@ -6,8 +6,8 @@ use Rattle.std.specs.List.{Contains}
 use Rattle.std.proofs.lemmas.Bool.{and_from, and_parts, eqb-true}
 use Rattle.std.proofs.lemmas.List.{length-map}
 use Rattle.std.proofs.lemmas.List.Elements.{Contains-append_cases}
-use Rattle.std.proofs.lemmas.Option.{same_Some}
-use Rattle.qg_device.specs.History.{Event, content}
+use Rattle.qg_device.specs.History.{Event, Recorded, content}
+use Rattle.qg_device.proofs.Histories.{same_Recorded}
 use Rattle.qg_num.specs.declared.key.Key.{Key}
 use Rattle.qg_node.specs.declared.item.Item.{Item}
 use Rattle.qg_node.specs.declared.pointer.Pointer.{Pointer}
@@ -46,7 +46,7 @@ use Rattle.qg_shared_walk.proofs.Walks.{walk_formed, walk_under}
 shifted : (super : Super) (events : List Event) (from to : Option Key) (below : List ℕ → BelowAddress)
     (parts : List FilePart) (nodes : List Node) (whole : Whole)
     → AreBelow super events from to below whole
-    → HasAdded Files file_part AreThese super (Some events) from to below (found_of parts nodes)
+    → HasAdded Files file_part AreThese super (Recorded events) from to below (found_of parts nodes)
     (found_of (parts ++ whole.parts) (nodes ++ whole.nodes))
 shifted super events from to below parts nodes whole added = record {
   items = added.items;
@@ -67,9 +67,9 @@ shifted super events from to below parts nodes whole added = record {
 -- what an image holds, said of each way to tell its events
 told_so : (super : Super) (events : List Event) (address : ℕ) (node : Node)
     → node_found super (content events) address ≡ Ok node
-    → (other : List Event) → Some events ≡ Some other → node_found super (content other) address ≡ Ok node
+    → (other : List Event) → Recorded events ≡ Recorded other → node_found super (content other) address ≡ Ok node
 told_so super events address node found other told =
-    subst (λ (e : List Event). node_found super (content e) address ≡ Ok node) (same_Some events other told) found
+    subst (λ (e : List Event). node_found super (content e) address ≡ Ok node) (same_Recorded events other told) found
 
 -- what was said has ascending keys
 pub parts_ascend : (super : Super) (events : List Event) (from to : Option Key) (below : List ℕ → BelowAddress)
@@ -158,7 +158,8 @@ module _ (super : Super) (events : List Event) (given : Expected) (address : ℕ
             (form_fits super node digest expected told keeps)
             (ap (ends_by expected.to) last ∙ ends_so expected.to ∙ keeps.ends);
         below = λ expected fit.
-            HasAdded-leaf Files file_part AreThese super (Some events) expected address header items (found_of [] [])
+            HasAdded-leaf Files file_part AreThese super (Recorded events) expected address header items
+            (found_of [] [])
             (found_of read.parts (node ∷ []))
             (record { stands = judged.stands; formed = formed expected fit }) (told_so super events address node found)
             read.held read.bytes
@@ -242,7 +243,8 @@ module _ (super : Super) (events : List Event) (given : Expected) (address : ℕ
         let spaced = AreSpaced-within expected.from expected.to pointers
         (AreWithin-own expected.from expected.to keys judged.stands.sound.ascending keeps.begins keeps.ends) in
         let ends : ends_by expected.to below.last ≡ true = ap (ends_by expected.to) (sym last) ∙ parts.1 in
-        HasAdded-inner Files file_part AreThese super (Some events) expected address header pointers (found_of [] [])
+        HasAdded-inner Files file_part AreThese super (Recorded events) expected address header pointers
+        (found_of [] [])
         (found_of [] (node ∷ [])) (found_of whole.parts (node ∷ whole.nodes))
         (record { stands = judged.stands; formed = formed expected fit }) (told_so super events address node found) refl
         (λ before given. ap (λ front. front ++ node ∷ []) given)
@@ -287,8 +289,8 @@ none_well super events kept level below last row = record {
   only = λ to depth low none. rw last refl;
   stand = λ from to spaced ends.
       let nothing = found_of [] [] in
-      HasPassed-all Files file_part AreThese super (Some events) from to level [] [] nothing nothing refl
-      (HasPassed-none Files file_part AreThese super (Some events) from to level [] nothing);
+      HasPassed-all Files file_part AreThese super (Recorded events) from to level [] [] nothing nothing refl
+      (HasPassed-none Files file_part AreThese super (Recorded events) from to level [] nothing);
   row = row;
   remembered = λ n has. absurd (none_contained n has);
 }
@@ -326,7 +328,8 @@ module _ (super : Super) (events : List Event) (kept : List Node) (level : ℕ) 
       (and_parts (told && generation) begins
       (and_parts (told && generation && begins) (has_shape (Some pointer.key) digest) alone).0).0).0
 
-  level_there : (other : List Event) → Some events ≡ Some other → level_in super (content other) pointer.child ≡ level
+  level_there : (other : List Event) → Recorded events ≡ Recorded other
+      → level_in super (content other) pointer.child ≡ level
   level_there other told =
       let found = told_so super events pointer.child here.node here.found other told in
       rw found (sym here.told.level ∙ sym level_is)
@@ -339,7 +342,7 @@ module _ (super : Super) (events : List Event) (kept : List Node) (level : ℕ) 
       let middle = found_of whole.parts whole.nodes in
       let new = found_of (whole.parts ++ lower.parts) (whole.nodes ++ lower.nodes) in
       let last = spaced_last from to front pointer spaced in
-      let passed : HasPassed Files file_part AreThese super (Some events) from to level all
+      let passed : HasPassed Files file_part AreThese super (Recorded events) from to level all
       (pointer ∷ []) nothing middle =
       record {
         front = front;
@@ -348,8 +351,8 @@ module _ (super : Super) (events : List Event) (kept : List Node) (level : ℕ) 
       } in
       let more = shifted super events (Some pointer.key) to (below_node super pointer.child) whole.parts whole.nodes
       lower (here.below (expected_below level to pointer []) (refit to ends)) in
-      HasPassed-all Files file_part AreThese super (Some events) from to level all [] nothing new refl
-      (HasPassed-more Files file_part AreThese super (Some events) from to level all pointer [] nothing middle new
+      HasPassed-all Files file_part AreThese super (Recorded events) from to level all [] nothing new refl
+      (HasPassed-more Files file_part AreThese super (Recorded events) from to level all pointer [] nothing middle new
       passed more level_there last.0 last.1)
 
   pub more_well : (from0 : Option Key) (after : Below) → AreSpaced from0 (next_key to0 others) (front ++ pointer ∷ [])

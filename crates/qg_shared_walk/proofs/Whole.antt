@@ -7,7 +7,7 @@ use Rattle.std.specs.List.{Contains}
 use Rattle.std.proofs.lemmas.List.{take-append-drop, take_more}
 use Rattle.std.proofs.lemmas.List.Elements.{Contains-append_cases, Contains-append_left, Contains-append_right}
 use Rattle.std.proofs.lemmas.Option.{IfSome_then}
-use Rattle.qg_device.specs.History.{Event, content}
+use Rattle.qg_device.specs.History.{Event, Recorded, content}
 use Rattle.qg_num.specs.Fields.{IsBytes}
 use Rattle.qg_num.specs.declared.rule.Rule.TheVariants as rule
 use Rattle.qg_node.specs.declared.item.Item.{Item}
@@ -89,7 +89,7 @@ module _ {N : Type 0} (super : Super) (events : List Event) (keeps : N → List 
   walk : IsWalk Files file_part AreThese super (content events) (root_told root) root.bytenr walks.whole.parts
       walks.whole.nodes
   walk =
-      IsWalk-added Files file_part AreThese super (Some events) events None None (root_told root) root.bytenr
+      IsWalk-added Files file_part AreThese super (Recorded events) events None None (root_told root) root.bytenr
       (found_of [] []) (found_of walks.whole.parts walks.whole.nodes)
       refl refl refl sound (walks.well.below (root_told root) walks.fitting)
 

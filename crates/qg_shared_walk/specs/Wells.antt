@@ -2,7 +2,7 @@
 use Rattle.std.specs.Prelude.{◌≡◌, ◌≤◌, ◌-◌, All, ℕ, true, List, [], length, map, slice_get, Option, Some, None}
 use Rattle.std.specs.Prelude.{Ok, IsTrue}
 use Rattle.std.specs.List.{Contains, list_all}
-use Rattle.qg_device.specs.History.{Event, content}
+use Rattle.qg_device.specs.History.{Event, Recorded, content}
 use Rattle.qg_num.specs.Fields.{IsBytes}
 use Rattle.qg_num.specs.declared.key.Key.{Key}
 use Rattle.qg_node.specs.declared.item.Item.{Item}
@@ -48,7 +48,7 @@ AreThese all nodes = all ≡ nodes
 -- this stands below in the image, and its keys lie within a range
 abbrev pub AreBelow : Super → List Event → Option Key → Option Key → (List ℕ → BelowAddress) → Whole → Type 0
 AreBelow super events from to below whole =
-    HasAdded Files file_part AreThese super (Some events) from to below (found_of [] [])
+    HasAdded Files file_part AreThese super (Recorded events) from to below (found_of [] [])
     (found_of whole.parts whole.nodes)
 
 -- The node at an address has this digest, and below it all is well: where the digest fits what is expected no rule is

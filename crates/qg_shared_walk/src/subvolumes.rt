@@ -1,7 +1,7 @@
 // The trees of all subvolumes.
-ghost use Rattle.std.specs.Prelude.{◌≡◌, ◌≤◌, [], List, map, Some, IfOk, IsTrue};
+ghost use Rattle.std.specs.Prelude.{◌≡◌, ◌≤◌, [], List, map, IfOk, IsTrue};
 ghost use Rattle.qg_device.specs.Cause.{HasCause};
-ghost use Rattle.qg_device.specs.History.{Event, content};
+ghost use Rattle.qg_device.specs.History.{Event, Recorded, content};
 ghost use Rattle.qg_super.specs.Places.{is_served, total_bytes};
 ghost use Rattle.qg_super.specs.SuperText.{sizes_of};
 ghost use Rattle.qg_image.specs.Failure.{first_failure};
@@ -36,10 +36,10 @@ pub fn read_subvolumes<N: NodeList, D: Disk>(
     requires none { N.keeps nodes [] }
 
     // Over a disk that tells what it holds.
-    ensures failure { (events : List Event) → D.history disk.old ≡ Some events
+    ensures failure { (events : List Event) → D.history disk.old ≡ Recorded events
         → FailsAs result (first_failure (map (λ entry. subvolume_failure superblock.now (content events) entry.1)
         roots.now)) }
-    ensures found { (events : List Event) → D.history disk.old ≡ Some events
+    ensures found { (events : List Event) → D.history disk.old ≡ Recorded events
         → IfOk result (λ nodes. AreFound superblock.now (content events) roots.now N.keeps nodes) }
 
     // Over any disk.

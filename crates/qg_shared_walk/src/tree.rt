@@ -1,7 +1,7 @@
 // The tree of one subvolume.
-ghost use Rattle.std.specs.Prelude.{◌≡◌, ◌≤◌, List, length, None, Some, ◌*◌, OnOk, IsTrue};
-ghost use Rattle.qg_device.specs.Cause.{HasCause, Rose};
-ghost use Rattle.qg_device.specs.History.{Event, content};
+ghost use Rattle.std.specs.Prelude.{◌≡◌, ◌≤◌, List, length, None, ◌*◌, OnOk, IsTrue};
+ghost use Rattle.qg_device.specs.Cause.{HasCause, HasEndCause};
+ghost use Rattle.qg_device.specs.History.{Event, Recorded, content};
 ghost use Rattle.qg_node.specs.declared.node.Node.{Node as NodeValue};
 ghost use Rattle.qg_super.specs.Places.{is_served, total_bytes};
 ghost use Rattle.qg_super.specs.SuperText.{sizes_of};
@@ -37,10 +37,10 @@ pub(crate) fn read_tree<N: NodeList, D: Disk>(
     requires served { IsTrue (is_served (sizes_of superblock.now)) }
     requires inside { total_bytes (sizes_of superblock.now) ≤ D.size disk.old }
     requires buffer { length buffer.old ≡ superblock.now.nodesize }
-    ensures failure { (events : List Event) (kept : List NodeValue) → D.history disk.old ≡ Some events
+    ensures failure { (events : List Event) (kept : List NodeValue) → D.history disk.old ≡ Recorded events
         → Remembers superblock.now events N.keeps kept memo.old.digests.entries memo.old.nodes
         → FailsAs result (subvolume_failure superblock.now (content events) root.now) }
-    ensures read { (events : List Event) (kept : List NodeValue) → D.history disk.old ≡ Some events
+    ensures read { (events : List Event) (kept : List NodeValue) → D.history disk.old ≡ Recorded events
         → Remembers superblock.now events N.keeps kept memo.old.digests.entries memo.old.nodes
         → OnOk result (HasTree superblock.now events N.keeps kept memo.new.digests.entries memo.new.nodes root.now) }
     ensures slots { AreInSlots (sizes_of superblock.now) N.keeps memo.old.nodes
@@ -101,13 +101,12 @@ fn first_fault<D: Disk>(
     requires inside { total_bytes (sizes_of superblock.now) ≤ D.size disk.old }
     requires root { (expected.now.from ≡ None) × (expected.now.to ≡ None) }
     requires known { known ≡ OpenFault.Disk → ⊥ }
-    ensures first { (events : List Event) → D.history disk.old ≡ Some events
+    ensures first { (events : List Event) → D.history disk.old ≡ Recorded events
         → Denies known (tree_failure Files superblock.now (content events) expected.now root)
         → TellsFailure result (tree_failure Files superblock.now (content events) expected.now root) }
     ensures history { D.history disk.new ≡ D.history disk.old }
     ensures size { D.size disk.new ≡ D.size disk.old }
-    ensures later { D.faults disk.old ≤ D.faults disk.new }
-    ensures rose { result ≡ OpenFault.Disk → Rose (D.faults disk.old) (D.faults disk.new) }
+    ensures cause { HasEndCause OpenFault.Disk (D.faults disk.old) (D.faults disk.new) result }
 {
     match walk_plainly::<D>(alloc, disk, superblock, expected, root) {
         Ok(()) => known,
@@ -126,7 +125,7 @@ fn walk_plainly<D: Disk>(
     requires served { IsTrue (is_served (sizes_of superblock.now)) }
     requires inside { total_bytes (sizes_of superblock.now) ≤ D.size disk.old }
     requires root { (expected.now.from ≡ None) × (expected.now.to ≡ None) }
-    ensures failure { (events : List Event) → D.history disk.old ≡ Some events
+    ensures failure { (events : List Event) → D.history disk.old ≡ Recorded events
         → FailsAs result (tree_failure Files superblock.now (content events) expected.now root) }
     ensures history { D.history disk.new ≡ D.history disk.old }
     ensures size { D.size disk.new ≡ D.size disk.old }

@@ -1,8 +1,8 @@
 // The walk from a node down, past what is remembered.
-ghost use Rattle.std.specs.Prelude.{◌≡◌, ◌≤◌, ◌*◌, ℕ, [], List, length, Ok, Some, true, false};
+ghost use Rattle.std.specs.Prelude.{◌≡◌, ◌≤◌, ◌*◌, ℕ, [], List, length, Ok, true, false};
 ghost use Rattle.std.specs.Prelude.{IfOk, OnOk, OnErr, IsErrOf, IsTrue};
 ghost use Rattle.qg_device.specs.Cause.{HasCause};
-ghost use Rattle.qg_device.specs.History.{Event, content};
+ghost use Rattle.qg_device.specs.History.{Event, Recorded, content};
 ghost use Rattle.qg_node.specs.declared.node.Node.{Node as NodeValue};
 ghost use Rattle.qg_super.specs.Places.{is_served, total_bytes};
 ghost use Rattle.qg_super.specs.SuperText.{sizes_of};
@@ -44,11 +44,11 @@ pub(crate) fn walk<N: NodeList, D: Disk>(
     requires served { IsTrue (is_served (sizes_of superblock.now)) }
     requires inside { total_bytes (sizes_of superblock.now) ≤ D.size disk.old }
     requires buffer { length buffer.old ≡ superblock.now.nodesize }
-    ensures failure { (events : List Event) (kept : List NodeValue) (depth : ℕ) → D.history disk.old ≡ Some events
+    ensures failure { (events : List Event) (kept : List NodeValue) (depth : ℕ) → D.history disk.old ≡ Recorded events
         → Remembers superblock.now events N.keeps kept memo.old.digests.entries memo.old.nodes
         → levels_below expected.now.level ≤ depth
         → Refuses result (all_failure superblock.now events depth expected.now address) }
-    ensures walks { (events : List Event) (kept : List NodeValue) → D.history disk.old ≡ Some events
+    ensures walks { (events : List Event) (kept : List NodeValue) → D.history disk.old ≡ Recorded events
         → Remembers superblock.now events N.keeps kept memo.old.digests.entries memo.old.nodes
         → IfOk result (λ digest. Walks superblock.now events N.keeps kept memo.new.digests.entries memo.new.nodes
         expected.now address digest) }
@@ -92,12 +92,12 @@ fn walk_under<N: NodeList, D: Disk>(
     requires inside { total_bytes (sizes_of superblock.now) ≤ D.size disk.old }
     requires buffer { length buffer.old ≡ superblock.now.nodesize }
     requires judged { IsJudged Files superblock.now expected.now address node.now }
-    ensures failure { (events : List Event) (kept : List NodeValue) (depth : ℕ) → D.history disk.old ≡ Some events
+    ensures failure { (events : List Event) (kept : List NodeValue) (depth : ℕ) → D.history disk.old ≡ Recorded events
         → node_found superblock.now (content events) address ≡ Ok node.now
         → Remembers superblock.now events N.keeps kept memo.old.digests.entries memo.old.nodes
         → levels_below expected.now.level ≤ depth
         → Refuses result (all_failure superblock.now events depth expected.now address) }
-    ensures walks { (events : List Event) (kept : List NodeValue) → D.history disk.old ≡ Some events
+    ensures walks { (events : List Event) (kept : List NodeValue) → D.history disk.old ≡ Recorded events
         → node_found superblock.now (content events) address ≡ Ok node.now
         → Remembers superblock.now events N.keeps kept memo.old.digests.entries memo.old.nodes
         → IfOk result (λ below. IsWellBelow superblock.now events N.keeps kept memo.new.digests.entries memo.new.nodes
@@ -142,11 +142,11 @@ fn walk_pointers<N: NodeList, D: Disk>(
     requires inside { total_bytes (sizes_of superblock.now) ≤ D.size disk.old }
     requires buffer { length buffer.old ≡ superblock.now.nodesize }
     requires spaced { AreSpaced expected.now.from expected.now.to pointers.now }
-    ensures failure { (events : List Event) (kept : List NodeValue) (depth : ℕ) → D.history disk.old ≡ Some events
+    ensures failure { (events : List Event) (kept : List NodeValue) (depth : ℕ) → D.history disk.old ≡ Recorded events
         → Remembers superblock.now events N.keeps kept memo.old.digests.entries memo.old.nodes
         → level ≤ depth
         → Refuses result (below_failure superblock.now events depth level expected.now.to pointers.now) }
-    ensures walks { (events : List Event) (kept : List NodeValue) → D.history disk.old ≡ Some events
+    ensures walks { (events : List Event) (kept : List NodeValue) → D.history disk.old ≡ Recorded events
         → Remembers superblock.now events N.keeps kept memo.old.digests.entries memo.old.nodes
         → IfOk result (λ below. WalksBelow superblock.now events N.keeps kept memo.new.digests.entries memo.new.nodes
         expected.now.to level pointers.now [] below) }

@@ -4,7 +4,7 @@ use Rattle.std.proofs.Common.{subst, ◌∙◌}
 use Rattle.std.specs.Prelude.{not}
 use Rattle.std.specs.Option.{option_map}
 use Rattle.std.proofs.lemmas.List.Elements.{All-nil}
-use Rattle.qg_device.specs.History.{Event}
+use Rattle.qg_device.specs.History.{History}
 use Rattle.qg_node.specs.declared.node.Node.{Node}
 use Rattle.qg_node.specs.Fits.{HeaderFits, ItemFits, NodeFits}
 use Rattle.qg_node.specs.Nodes.{header_of, is_ascending, used_bytes}
@@ -79,7 +79,7 @@ leaf-made land leaf generation sub address ground is =
 -- ---- the calls
 
 -- what the calls of a creation answer: an empty leaf was made
-pub record Calls (land new : Ground) (history : Option (List Event)) (old made : TreeRefs) (sub next now : ℕ) : Type 0
+pub record Calls (land new : Ground) (history : History) (old made : TreeRefs) (sub next now : ℕ) : Type 0
   where
     pub tree : old.tree ≡ sub
     pub to_come : next ≡ old.next
@@ -98,7 +98,7 @@ pub record Calls (land new : Ground) (history : Option (List Event)) (old made :
 
 -- ---- a state that is held
 
-module _ (state : State) (sub next now : ℕ) (land : Ground) (history : Option (List Event)) (old : TreeRefs)
+module _ (state : State) (sub next now : ℕ) (land : Ground) (history : History) (old : TreeRefs)
     (holds : HoldsState land history old state) (unused : not (has_subvolume state sub) ≡ true) (ground : IsGround land)
     (free : is_free_slot land.space now ≡ true) (new : Ground) (made : TreeRefs)
     (number : is_subvolume_number sub ≡ true) (calls : Calls land new history old made sub next now) where
@@ -215,13 +215,13 @@ module _ (state : State) (sub next now : ℕ) (land : Ground) (history : Option 
       })
 
   -- what is left is the machine's state, over a disk of the same history
-  pub created-then : (later : Option (List Event)) → later ≡ history → (answer : Root)
+  pub created-then : (later : History) → later ≡ history → (answer : Root)
       → answer ≡ record { address = now; height = 0; owner = sub; next = next }
       → (then : State) × CreatesSubvolume state sub then × HoldsState new later made then
       × (answer ≡ tree_of then sub)
   created-then later same answer given = (
     after,
     creation,
-    subst (λ (h : Option (List Event)). HoldsState new h made after) (sym same) held,
+    subst (λ (h : History). HoldsState new h made after) (sym same) held,
     tree_after answer given,
   )

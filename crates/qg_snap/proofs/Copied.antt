@@ -6,7 +6,7 @@ use Rattle.std.specs.Prelude.{◌||◌, IsTrue}
 use Rattle.std.specs.Option.{option_or}
 use Rattle.std.proofs.lemmas.Bool.Decides.{eqb_tells}
 use Rattle.std.proofs.lemmas.Option.{same_Some}
-use Rattle.qg_device.specs.History.{Event}
+use Rattle.qg_device.specs.History.{History}
 use Rattle.qg_items.specs.declared.extent.Reference.{Reference}
 use Rattle.qg_super.specs.Places.{is_slot}
 use Rattle.qg_super.specs.declared.sizes.Sizes.{Sizes}
@@ -90,7 +90,7 @@ module _ (old made given : Book) (book : TreeRefs) (now level : ℕ) (children :
   bare-then = marks-then now ∙ ap full_in (nothing-kept old now first done.first)
 
 module _ (before after : State) (sub : ℕ) (more : OneMore before after sub) (land new : Ground)
-    (history : Option (List Event)) (old given : TreeRefs) (holds : HoldsState land history old before)
+    (history : History) (old given : TreeRefs) (holds : HoldsState land history old before)
     (sizes : new.space.sizes ≡ land.space.sizes) (slot : IsTrue (is_slot before.sizes more.made.root))
     (others : (q : ℕ) → q ≢ more.made.root → told new.blocks.draft history q ≡ told land.blocks.draft history q)
     (here : told new.blocks.draft history more.made.root ≡ Some more.placed.node)
@@ -125,7 +125,7 @@ module _ (before after : State) (sub : ℕ) (more : OneMore before after sub) (l
   ]
 
 -- the book stays settled while children get references
-pub settled-then : (made given : TreeRefs) (land : Ground) (history : Option (List Event)) (children : List Owing)
+pub settled-then : (made given : TreeRefs) (land : Ground) (history : History) (children : List Owing)
     → IsBook (book_of made.refs) → IsBook (book_of given.refs) → given ≡ record made { refs = given.refs }
     → Gives (book_of made.refs) (book_of given.refs) children → IsSettled made land history
     → IsSettled given land history

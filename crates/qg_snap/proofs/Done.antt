@@ -4,7 +4,7 @@ use Rattle.std.proofs.Common.{ap, subst, ◌∙◌}
 use Rattle.std.specs.Prelude.{not}
 use Rattle.std.specs.Option.{option_map}
 use Rattle.std.proofs.lemmas.Option.{same_Some}
-use Rattle.qg_device.specs.History.{Event}
+use Rattle.qg_device.specs.History.{History}
 use Rattle.qg_node.specs.declared.node.Node.{Node}
 use Rattle.qg_node.specs.declared.node.Node.TheVariants.{Leaf, Inner}
 use Rattle.qg_node.specs.Fits.{HeaderFits, NodeFits}
@@ -93,7 +93,7 @@ generation-low copy node owner generation is fits =
     omega (arith, same, low)
 
 -- a node that was visited is the one that is told, if one is
-pub peeked-alone : (super : Super) (expected : Expected) (draft : Draft) (history : Option (List Event)) (held : Held)
+pub peeked-alone : (super : Super) (expected : Expected) (draft : Draft) (history : History) (held : Held)
     (address at : ℕ) (peeked : Node) → address ≡ at → IsVisited Files super expected draft history held address
     → held_at held address ≡ Some peeked → (node : Node) → told draft history at ≡ Some node → node ≡ peeked
 peeked-alone super expected draft history held address at peeked same visited here node there =
@@ -102,7 +102,7 @@ peeked-alone super expected draft history held address at peeked same visited he
 
 -- what the calls of a snapshot answer: the source's root was visited, its copy made, and its children given a
 -- reference each
-pub record Calls (land mid new : Ground) (history : Option (List Event)) (old made given : TreeRefs) (source : Root)
+pub record Calls (land mid new : Ground) (history : History) (old made given : TreeRefs) (source : Root)
     (copy now : ℕ) : Type 0 where
   pub tree : old.tree ≡ copy
   pub first : IsTable old.refs
@@ -127,7 +127,7 @@ pub record Calls (land mid new : Ground) (history : Option (List Event)) (old ma
 
 -- ---- a state that is held
 
-module _ (state : State) (sub copy now : ℕ) (land : Ground) (history : Option (List Event)) (old : TreeRefs)
+module _ (state : State) (sub copy now : ℕ) (land : Ground) (history : History) (old : TreeRefs)
     (holds : HoldsState land history old state) (has : has_subvolume state sub ≡ true)
     (unused : not (has_subvolume state copy) ≡ true) (ground : IsGround land)
     (free : is_free_slot land.space now ≡ true) where
@@ -299,13 +299,13 @@ module _ (state : State) (sub copy now : ℕ) (land : Ground) (history : Option 
         })
 
     -- so it is, over a disk of the same history
-    pub copied-then : (later : Option (List Event)) → later ≡ history → (answer : Root)
+    pub copied-then : (later : History) → later ≡ history → (answer : Root)
         → answer ≡ record source { address = now; owner = copy }
         → (then : State) × Snapshots state sub parents copy then × HoldsState new later given then
         × (answer ≡ tree_of then copy)
     copied-then later same answer given_is = (
       after,
       snapshot,
-      subst (λ (h : Option (List Event)). HoldsState new h given after) (sym same) held,
+      subst (λ (h : History). HoldsState new h given after) (sym same) held,
       tree-after answer given_is,
     )

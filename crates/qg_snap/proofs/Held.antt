@@ -1,7 +1,7 @@
 -- With one subvolume more, nodes, disk and book hold the state that has it.
-use Rattle.std.proofs.Common.{◌≡◌, ◌≢◌, ℕ, ◌+◌, List, [], ◌∷◌, Option, Some, None, sym, ap, subst, ◌∙◌}
+use Rattle.std.proofs.Common.{◌≡◌, ◌≢◌, ℕ, ◌+◌, List, [], ◌∷◌, Some, None, sym, ap, subst, ◌∙◌}
 use Rattle.std.specs.Prelude.{IsTrue, Contains}
-use Rattle.qg_device.specs.History.{Event}
+use Rattle.qg_device.specs.History.{History}
 use Rattle.qg_node.specs.Fits.{NodeFits}
 use Rattle.qg_node.specs.Nodes.{header_of}
 use Rattle.qg_node.specs.NodeText.{IsNode}
@@ -32,7 +32,7 @@ use Rattle.qg_snap.proofs.WholeAfter.{whole-then}
 
 -- what was done: a node was put into a free slot and told as made, and its children got a reference each
 pub record IsDone (before after : State) (sub : ℕ) (more : OneMore before after sub) (children : List Owing)
-    (land new : Ground) (history : Option (List Event)) (old made given : TreeRefs) : Type 0
+    (land new : Ground) (history : History) (old made given : TreeRefs) : Type 0
   where
     pub tree : old.tree ≡ sub
     pub level : ℕ
@@ -58,7 +58,7 @@ pub record IsDone (before after : State) (sub : ℕ) (more : OneMore before afte
     pub held_runs : new.space.held_runs ≡ land.space.held_runs
 
 module _ (before after : State) (sub : ℕ) (more : OneMore before after sub) (children : List Owing) (land new : Ground)
-    (history : Option (List Event)) (old made given : TreeRefs) (holds : HoldsState land history old before)
+    (history : History) (old made given : TreeRefs) (holds : HoldsState land history old before)
     (is : IsDone before after sub more children land new history old made given) where
   size_given : given.nodesize ≡ old.nodesize
   size_given = ap (λ (book : TreeRefs). book.nodesize) is.others ∙ ap (λ (book : TreeRefs). book.nodesize) is.noted

@@ -5,7 +5,7 @@ use Rattle.std.specs.Prelude.{◌==◌, ◌&&◌, is_some, not, nat_le, nat_lt}
 use Rattle.std.specs.Option.{option_map}
 use Rattle.std.proofs.lemmas.Bool.{and_parts, eqb-true, ltb-true, or_cases, true≢false}
 use Rattle.std.proofs.lemmas.List.Elements.{All-nil}
-use Rattle.qg_device.specs.History.{Event}
+use Rattle.qg_device.specs.History.{History}
 use Rattle.qg_items.specs.declared.extent.Reference.{Reference}
 use Rattle.qg_super.specs.declared.sizes.Sizes.{Sizes}
 use Rattle.qg_super.proofs.Served.{SizesFit-is_served}
@@ -47,7 +47,7 @@ no-value {A} (Some x) none = absurd (true≢false (sym none))
 
 -- ---- a state that is held
 
-module _ (state : State) (now : ℕ) (land : Ground) (history : Option (List Event)) (old : TreeRefs)
+module _ (state : State) (now : ℕ) (land : Ground) (history : History) (old : TreeRefs)
     (holds : HoldsState land history old state) (free : is_free_slot land.space now ≡ true) where
   pub no-node : node_at state.layout now ≡ None
   no-node =

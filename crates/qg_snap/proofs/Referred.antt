@@ -6,7 +6,7 @@ use Rattle.std.specs.List.{Contains, flat_map, list_any}
 use Rattle.std.specs.Option.{option_map}
 use Rattle.std.proofs.lemmas.Bool.{and_from, cases_Bool, eqb-true, lt-ltb, ltb-false, ltb-true, true≢false}
 use Rattle.std.proofs.lemmas.List.Elements.{Contains-append_cases, Contains-append_left, Contains-append_right}
-use Rattle.qg_device.specs.History.{Event}
+use Rattle.qg_device.specs.History.{History}
 use Rattle.qg_node.specs.declared.pointer.Pointer.{Pointer}
 use Rattle.qg_items.specs.declared.extent.Reference.{Reference}
 use Rattle.qg_super.specs.declared.sizes.Sizes.{Sizes}
@@ -157,7 +157,7 @@ module _ (layout : Layout) (at : ℕ) where
 
 -- ---- a state that is held
 
-module _ (land : Ground) (history : Option (List Event)) (book : TreeRefs) (state : State)
+module _ (land : Ground) (history : History) (book : TreeRefs) (state : State)
     (holds : HoldsState land history book state) where
   -- a node has a reference
   pub node-counted : (at : ℕ) (placed : Placed) → value_at at state.layout ≡ Some placed

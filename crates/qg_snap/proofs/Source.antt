@@ -3,7 +3,7 @@ use Rattle.std.proofs.Common.{◌≡◌, ℕ, ◌-◌, true, List, [], ◌∷◌
 use Rattle.std.specs.Prelude.{is_some}
 use Rattle.std.specs.Option.{option_map}
 use Rattle.std.proofs.lemmas.Bool.{eq-eqb, true≢false}
-use Rattle.qg_device.specs.History.{Event}
+use Rattle.qg_device.specs.History.{History}
 use Rattle.qg_node.specs.declared.node.Node.{Node}
 use Rattle.qg_node.specs.Nodes.{header_of, own_pointers}
 use Rattle.qg_super.specs.declared.superblock.Super.{Super}
@@ -128,7 +128,7 @@ module _ (state : State) (sub : ℕ) (root : HasRoot state sub) where
   pub root-reached : IsWhole state → IsReached state (root.source.root, root.placed)
   root-reached whole = each-there (IsReached state) root.source.root root.placed state.layout whole.reached root.here
 
-  module _ (land : Ground) (history : Option (List Event)) (book : TreeRefs)
+  module _ (land : Ground) (history : History) (book : TreeRefs)
       (holds : HoldsState land history book state)
       (tree : Root) (is : tree ≡ tree_of state sub) where
     pub address-is : tree.address ≡ root.source.root

@@ -1,7 +1,7 @@
 // A subvolume that begins without files.
-ghost use Rattle.std.specs.Prelude.{◌≡◌, ◌+◌, ◌<◌, ◌≤◌, List, Some, IfOk, IsTrue, not};
+ghost use Rattle.std.specs.Prelude.{◌≡◌, ◌+◌, ◌<◌, ◌≤◌, List, IfOk, IsTrue, not};
 ghost use Rattle.qg_device.specs.Cause.{HasCause};
-ghost use Rattle.qg_device.specs.History.{Event};
+ghost use Rattle.qg_device.specs.History.{Event, Recorded};
 ghost use Rattle.qg_node.specs.Fits.{HeaderFits};
 ghost use Rattle.qg_node.specs.Nodes.{header_of};
 ghost use Rattle.qg_image.specs.ItemMeaning.{is_subvolume_number};
@@ -51,7 +51,7 @@ pub fn create<D: Disk, L: Ledger>(
         → IsTrue (not (has_subvolume state sub))
         → IfOk result (λ tree. (after : MachineState) × CreatesSubvolume state sub after
         × HoldsState land.new (D.history disk.new) book.new after × (tree ≡ tree_of after sub)) }
-    ensures sound { (state : MachineState) (events : List Event) → D.history disk.old ≡ Some events
+    ensures sound { (state : MachineState) (events : List Event) → D.history disk.old ≡ Recorded events
         → HoldsState land.old (D.history disk.old) book.old state
         → IsTrue (not (has_subvolume state sub)) → BreaksNone result }
 

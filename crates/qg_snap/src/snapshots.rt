@@ -1,7 +1,7 @@
 // A subvolume that begins as another one is.
-ghost use Rattle.std.specs.Prelude.{◌≡◌, ◌+◌, ◌<◌, ◌≤◌, ℕ, List, Some, IfOk, IsTrue, not};
+ghost use Rattle.std.specs.Prelude.{◌≡◌, ◌+◌, ◌<◌, ◌≤◌, ℕ, List, IfOk, IsTrue, not};
 ghost use Rattle.qg_device.specs.Cause.{HasCause};
-ghost use Rattle.qg_device.specs.History.{Event};
+ghost use Rattle.qg_device.specs.History.{Event, Recorded};
 ghost use Rattle.qg_image.specs.ItemMeaning.{is_subvolume_number};
 ghost use Rattle.qg_super.specs.Places.{capacity};
 ghost use Rattle.qg_image.specs.State.{State as MachineState, has_subvolume};
@@ -52,7 +52,7 @@ pub fn snapshot<D: Disk, L: Ledger>(
         → IsTrue (not (has_subvolume state copy))
         → IfOk result (λ tree. (after : MachineState) × Snapshots state source.now.owner parents copy after
         × HoldsState land.new (D.history disk.new) book.new after × (tree ≡ tree_of after copy)) }
-    ensures sound { (state : MachineState) (events : List Event) → D.history disk.old ≡ Some events
+    ensures sound { (state : MachineState) (events : List Event) → D.history disk.old ≡ Recorded events
         → HoldsState land.old (D.history disk.old) book.old state
         → IsTrue (has_subvolume state source.now.owner) → source.now ≡ tree_of state source.now.owner
         → IsTrue (not (has_subvolume state copy)) → BreaksNone result }

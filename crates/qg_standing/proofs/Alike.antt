@@ -4,7 +4,7 @@ use Rattle.std.proofs.Common.{refl, sym, ap, subst, ◌∙◌, inl, inr}
 use Rattle.std.specs.Prelude.{◌⊎◌, ◌↔◌, ⊤, IsTrue, nat_lt, if◌then◌else◌}
 use Rattle.std.specs.List.{All, Contains, filter_map, flat_map, list_any}
 use Rattle.std.specs.Option.{option_map}
-use Rattle.qg_device.specs.History.{Event, Synced, Wrote, content}
+use Rattle.qg_device.specs.History.{Event, History, Recorded, Wrote, Synced, content}
 use Rattle.qg_num.specs.declared.piece.Piece.{Piece}
 use Rattle.qg_node.specs.declared.item.Item.{Item}
 use Rattle.qg_node.specs.declared.node.Node.{Node}
@@ -31,7 +31,8 @@ use Rattle.qg_fs_layout.specs.Counting.{ways}
 use Rattle.qg_fs_layout.specs.Rooting.{IsRooted}
 use Rattle.qg_fs_layout.specs.Types.{FsTree}
 use Rattle.qg_fs_layout.specs.Standing.{IsAtHome, IsBeside, IsKnownExtent, IsReachedBy, IsSubvolume, Stands, every_slot}
-use Rattle.qg_fs_layout.specs.Standing.{items_in, layout_in, name_told, names_elsewhere, names_times, nodes_of, roots_of}
+use Rattle.qg_fs_layout.specs.Standing.{items_in, layout_in, name_told, names_elsewhere, names_times, nodes_of}
+use Rattle.qg_fs_layout.specs.Standing.{roots_of}
 use Rattle.qg_fs_layout.specs.Standing.{trees_of}
 use Rattle.qg_standing.specs.Committing.{StandsStill}
 use Rattle.qg_standing.specs.Knowing.{IsSameButClean}
@@ -57,7 +58,7 @@ abbrev with_clean : FsTree → List (ℕ × Node) → FsTree
 with_clean fs clean = record fs { land = record fs.land { blocks = record fs.land.blocks { clean = clean } } }
 
 -- the items of a tree, where the same are told
-items_same : (a b : FsTree) (after before : Option (List Event)) (tree : Root)
+items_same : (a b : FsTree) (after before : History) (tree : Root)
     → items_below (nodes_of a after) tree.height tree.address
     ≡ items_below (nodes_of b before) tree.height tree.address
     → items_in a after tree ≡ items_in b before tree
@@ -65,7 +66,7 @@ items_same a b after before tree same = rw same refl
 
 -- ---- where the same is told
 
-module _ (fs : FsTree) (clean : List (ℕ × Node)) (before after : Option (List Event)) (items : List Item)
+module _ (fs : FsTree) (clean : List (ℕ × Node)) (before after : History) (items : List Item)
     (names : List (ℕ × Piece)) (alike : (q : ℕ) → nodes_of fs after q ≡ nodes_of fs before q)
     (stands : Stands fs before items names) where
   maps_alike : nodes_of fs after ≡ nodes_of fs before
@@ -107,7 +108,7 @@ module _ (fs : FsTree) (clean : List (ℕ × Node)) (before after : Option (List
 
   -- ---- names
 
-  abbrev told_by : Option (List Event) → Root → List (ℕ × Piece)
+  abbrev told_by : History → Root → List (ℕ × Piece)
   told_by history tree = filter_map name_told (items_in fs history tree)
 
   told_alike : told_by after ≡ told_by before
@@ -176,7 +177,7 @@ module _ (fs : FsTree) (clean : List (ℕ × Node)) (before after : Option (List
     layout = layout_alike;
   }
 
-pub stands-alike : (old new : FsTree) (before after : Option (List Event)) (items : List Item)
+pub stands-alike : (old new : FsTree) (before after : History) (items : List Item)
     (names : List (ℕ × Piece)) → IsSameButClean old new
     → ((q : ℕ) → nodes_of new after q ≡ nodes_of old before q)
     → Stands old before items names → StandsStill old new before after items names
@@ -187,7 +188,7 @@ stands-alike old new before after items names same alike stands =
 
 -- ---- over any disk
 
-pub subvolume-alike : (old new : FsTree) (before after : Option (List Event)) (bytes left : ℕ)
+pub subvolume-alike : (old new : FsTree) (before after : History) (bytes left : ℕ)
     → IsSubvolume old before bytes → IsSameButClean old new → IsBacked new.land.blocks after → bytes ≤ left
     → IsSubvolume new after left
 subvolume-alike old new before after bytes left subvolume same =
@@ -210,17 +211,18 @@ subvolume-alike old new before after bytes left subvolume same =
 
 -- ---- slots that stay
 
-pub told-alike : (old new : FsTree) (before : Option (List Event)) (later : List Event) → IsSameButClean old new
-    → Keeps old.land.blocks.draft.sizes before (Some later) (λ at. ⊤)
-    → (q : ℕ) → nodes_of new (Some later) q ≡ nodes_of old before q
+pub told-alike : (old new : FsTree) (before : History) (later : List Event) → IsSameButClean old new
+    → Keeps old.land.blocks.draft.sizes before (Recorded later) (λ at. ⊤)
+    → (q : ℕ) → nodes_of new (Recorded later) q ≡ nodes_of old before q
 told-alike old new before later same keeps q =
-    ap (λ (fs : FsTree). nodes_of fs (Some later) q) same
+    ap (λ (fs : FsTree). nodes_of fs (Recorded later) q) same
     ∙ told-keeps old.land.blocks.draft before later q
-    (Keeps-fewer old.land.blocks.draft.sizes before (Some later) (λ at. ⊤)
+    (Keeps-fewer old.land.blocks.draft.sizes before (Recorded later) (λ at. ⊤)
     (λ at. fresh_at old.land.blocks.draft at ≡ None) (λ at none. tt) keeps)
 
-pub syncs-keep : (sizes : Sizes) (events : List Event) → Keeps sizes (Some events) (Some (Synced ∷ events)) (λ at. ⊤)
-syncs-keep sizes events = Keeps-synced sizes (Some events) (Some (Synced ∷ events)) refl
+pub syncs-keep : (sizes : Sizes) (events : List Event)
+    → Keeps sizes (Recorded events) (Recorded (Synced ∷ events)) (λ at. ⊤)
+syncs-keep sizes events = Keeps-synced sizes (Recorded events) (Recorded (Synced ∷ events)) refl
 
 -- a superblock's place is in front of the slots, or behind them
 place_apart : (place : ℕ) → (place ≡ first_place) ⊎ (place ≡ second_place)
@@ -239,8 +241,8 @@ long_enough sizes place bytes low long = omega (arith, low, long)
 module _ (sizes : Sizes) (super : Super) (place : ℕ) (events : List Event) (served : IsTrue (is_served sizes))
     (long : total_bytes sizes ≤ length (content events))
     (either : (place ≡ first_place) ⊎ (place ≡ second_place)) where
-  abbrev written : Option (List Event)
-  written = Some (Wrote place (super_text place super) ∷ events)
+  abbrev written : History
+  written = Recorded (Wrote place (super_text place super) ∷ events)
 
   text_long : length (super_text place super) ≡ 4096
   text_long = length-super_text place super
@@ -253,16 +255,18 @@ module _ (sizes : Sizes) (super : Super) (place : ℕ) (events : List Event) (se
   text_apart = subst (λ (n : ℕ). (place + n ≤ slots_begin) ⊎ (second_place ≤ place)) (sym text_long)
       (place_apart place either)
 
-  text_keeps : Keeps sizes (Some events) written (λ at. ⊤)
-  text_keeps = Keeps-wrote sizes (length (content events)) place (super_text place super) (Some events) written served
+  text_keeps : Keeps sizes (Recorded events) written (λ at. ⊤)
+  text_keeps = Keeps-wrote sizes (length (content events)) place (super_text place super)
+      (Recorded events) written served
       refl (λ others told. ap (λ (es : List Event). length (content es)) (same_events others told)) text_inside
       text_apart where
-        same_events : (others : List Event) → Some events ≡ Some others → events ≡ others
+        same_events : (others : List Event) → Recorded events ≡ Recorded others → events ≡ others
         same_events others told = cc
 
-  written_keep : Keeps sizes (Some events) (Some (Synced ∷ Wrote place (super_text place super) ∷ events)) (λ at. ⊤)
-  written_keep = Keeps-then sizes (Some events) written
-      (Some (Synced ∷ Wrote place (super_text place super) ∷ events)) (λ at. ⊤) text_keeps
+  written_keep : Keeps sizes (Recorded events) (Recorded (Synced ∷ Wrote place (super_text place super) ∷ events))
+      (λ at. ⊤)
+  written_keep = Keeps-then sizes (Recorded events) written
+      (Recorded (Synced ∷ Wrote place (super_text place super) ∷ events)) (λ at. ⊤) text_keeps
       (syncs-keep sizes (Wrote place (super_text place super) ∷ events))
 
 -- what stands depends on nodes and slots alone
@@ -279,7 +283,7 @@ standing_alike a b image at size slots =
     ∙ ap (λ (n : ℕ). standing (record { nodesize = b.nodesize; slots = n; sectors = a.sectors }) image at) slots
     ∙ sectors_free b.nodesize b.slots a.sectors b.sectors image at
 
-keeps_alike : (a b : Sizes) (before after : Option (List Event)) → a.nodesize ≡ b.nodesize → a.slots ≡ b.slots
+keeps_alike : (a b : Sizes) (before after : History) → a.nodesize ≡ b.nodesize → a.slots ≡ b.slots
     → Keeps b before after (λ at. ⊤) → Keeps a before after (λ at. ⊤)
 keeps_alike a b before after size slots keeps later told =
     let was = keeps later told in (
@@ -292,7 +296,8 @@ keeps_alike a b before after size slots keeps later told =
 pub superblocks-keep : (sizes whole : Sizes) (super : Super) (place : ℕ) (events : List Event)
     → IsTrue (is_served whole) → sizes.nodesize ≡ whole.nodesize → sizes.slots ≡ whole.slots
     → total_bytes whole ≤ length (content events) → (place ≡ first_place) ⊎ (place ≡ second_place)
-    → Keeps sizes (Some events) (Some (Synced ∷ Wrote place (super_text place super) ∷ events)) (λ at. ⊤)
+    → Keeps sizes (Recorded events) (Recorded (Synced ∷ Wrote place (super_text place super) ∷ events)) (λ at. ⊤)
 superblocks-keep sizes whole super place events served size slots long either =
-    keeps_alike sizes whole (Some events) (Some (Synced ∷ Wrote place (super_text place super) ∷ events)) size slots
+    keeps_alike sizes whole (Recorded events) (Recorded (Synced ∷ Wrote place (super_text place super) ∷ events)) size
+    slots
     (written_keep whole super place events served long either)

@@ -6,7 +6,7 @@ use Rattle.std.specs.Prelude.{◌⊎◌, All}
 use Rattle.std.specs.List.{Contains, filter_map}
 use Rattle.std.proofs.lemmas.Bool.{cases_lt}
 use Rattle.std.proofs.lemmas.List.Elements.{Contains-append_left}
-use Rattle.qg_device.specs.History.{Event}
+use Rattle.qg_device.specs.History.{History}
 use Rattle.qg_num.specs.declared.piece.Piece.{Piece}
 use Rattle.qg_node.specs.declared.item.Item.{Item}
 use Rattle.qg_node.specs.declared.node.Node.{Node}
@@ -59,7 +59,7 @@ some_kept (Some kept) what is some = some kept refl
 
 -- ---- nodes
 
-module _ (fs : FsTree) (history : Option (List Event)) (bytes : ℕ) (items : List Item) (names : List (ℕ × Piece))
+module _ (fs : FsTree) (history : History) (bytes : ℕ) (items : List Item) (names : List (ℕ × Piece))
     (subvolume : IsSubvolume fs history bytes) (stands : Stands fs history items names) where
   drafted : IsDrafted fs.land fs.tree.next
   drafted = subvolume.editable.drafted
@@ -248,7 +248,7 @@ module _ (fs : FsTree) (history : Option (List Event)) (bytes : ℕ) (items : Li
         known-low (get_or fs.refs.refs i d).0 (get_or fs.refs.refs i d).1.what
         (ap what_in (entry-found fs.refs.refs i d table.ascend inside))
 
-pub no-later : (fs : FsTree) (history : Option (List Event)) (bytes : ℕ) (items : List Item)
+pub no-later : (fs : FsTree) (history : History) (bytes : ℕ) (items : List Item)
     (names : List (ℕ × Piece)) → IsTable fs.refs.refs → IsSubvolume fs history bytes → Stands fs history items names
     → All (λ (entry : ℕ × Kept). entry.1.what.generation ≤ fs.tree.next) fs.refs.refs
 no-later fs history bytes items names table subvolume stands =

@@ -8,7 +8,7 @@ use Rattle.std.specs.List.Sorted.{IsStrictlyIncreasing}
 use Rattle.std.proofs.lemmas.Bool.{cases_Bool, eq-eqb, eqb-true}
 use Rattle.std.proofs.lemmas.List.Elements.{All-from_recursion}
 use Rattle.std.proofs.lemmas.List.Kept.{IsStrictlyIncreasing-filter}
-use Rattle.qg_device.specs.History.{Event, content}
+use Rattle.qg_device.specs.History.{Event, History, Recorded, content}
 use Rattle.qg_node.specs.declared.item.Item.{Item}
 use Rattle.qg_node.specs.declared.node.Node.{Node}
 use Rattle.qg_node.specs.Nodes.{header_of}
@@ -71,7 +71,7 @@ differs_from a b differs same =
     cc
 
 -- the items that a tree has where these are told
-pub items-told : (fs : FsTree) (history : Option (List Event)) (tree : Root) (items : List Item)
+pub items-told : (fs : FsTree) (history : History) (tree : Root) (items : List Item)
     → items_below (nodes_of fs history) tree.height tree.address ≡ Some items → items_in fs history tree ≡ items
 items-told fs history tree items is = rw is refl
 
@@ -132,7 +132,7 @@ top_level : is_owner Files TOP_LEVEL ≡ true
 unfolding is_subvolume_number
 top_level = refl
 
-pub subvolume-opened : (fs : FsTree) (super : Super) (image : List ℕ) (history : Option (List Event)) (bytes : ℕ)
+pub subvolume-opened : (fs : FsTree) (super : Super) (image : List ℕ) (history : History) (bytes : ℕ)
     → IsOpened fs super image → IsTrue (is_served (sizes_of super))
     → IsBacked fs.land.blocks history → second_place ≤ bytes → IsSubvolume fs history bytes
 subvolume-opened fs super image history bytes opened served backed long = record {
@@ -193,16 +193,16 @@ module _ (fs : FsTree) (super : Super) (events : List Event) (sound : IsSoundIma
   }
 
   -- what is told is what the walk found
-  pub told-found : (q : ℕ) → nodes_of fs (Some events) q ≡ there q
+  pub told-found : (q : ℕ) → nodes_of fs (Recorded events) q ≡ there q
   told-found q = told-walked super fs.land.blocks.draft events q is_image
       (no-fresh-opened fs super (content events) opened q)
 
-  pub slot-opened : (q : ℕ) (node : Node) → nodes_of fs (Some events) q ≡ Some node
+  pub slot-opened : (q : ℕ) (node : Node) → nodes_of fs (Recorded events) q ≡ Some node
       → IsTrue (is_slot fs.land.space.sizes q)
-  slot-opened q node is = told-slot fs.land (Some events) fs.tree.next drafted-there q node is
+  slot-opened q node is = told-slot fs.land (Recorded events) fs.tree.next drafted-there q node is
 
-  pub lies-opened : (q : ℕ) (node : Node) → nodes_of fs (Some events) q ≡ Some node → (header_of node).address ≡ q
-  lies-opened q node is = (told-at fs.land (Some events) fs.tree.next drafted-there q node is).placed
+  pub lies-opened : (q : ℕ) (node : Node) → nodes_of fs (Recorded events) q ≡ Some node → (header_of node).address ≡ q
+  lies-opened q node is = (told-at fs.land (Recorded events) fs.tree.next drafted-there q node is).placed
 
   -- ---- one subvolume
 
@@ -234,19 +234,19 @@ module _ (fs : FsTree) (super : Super) (events : List Event) (sound : IsSoundIma
     level_is : level_in super (content events) root.bytenr ≡ root.level
     level_is = level_found super (content events) root.bytenr passed.node passed.is ∙ root_level
 
-    root_told_there : nodes_of fs (Some events) root.bytenr ≡ Some passed.node
+    root_told_there : nodes_of fs (Recorded events) root.bytenr ≡ Some passed.node
     root_told_there = told-found root.bytenr ∙ found_ok (node_found super (content events) root.bytenr) passed.is where
       found_ok : (o : Result Node Failure) → o ≡ Ok passed.node → found_nodes (λ at. o) 0 ≡ Some passed.node
       found_ok o is = rw is refl
 
     -- its root is told
-    pub root-opened : (node : Node) × (nodes_of fs (Some events) root.bytenr ≡ Some node)
+    pub root-opened : (node : Node) × (nodes_of fs (Recorded events) root.bytenr ≡ Some node)
         × ((header_of node).level ≡ root.level)
     root-opened = (passed.node, root_told_there, root_level)
 
     height_low : root.level ≤ deepest
     height_low =
-        let at = told-at fs.land (Some events) fs.tree.next drafted-there root.bytenr passed.node root_told_there in
+        let at = told-at fs.land (Recorded events) fs.tree.next drafted-there root.bytenr passed.node root_told_there in
         let low = at.level in
         let same = root_level in
         omega (arith, low, same)
@@ -271,63 +271,63 @@ module _ (fs : FsTree) (super : Super) (events : List Event) (sound : IsSoundIma
 
     -- ---- the tree
 
-    tells : TellsTree Files (opened_tree super entry) fs.land.blocks.draft (Some events) items
+    tells : TellsTree Files (opened_tree super entry) fs.land.blocks.draft (Recorded events) items
     tells = TellsTree-walked Files (opened_tree super entry) super
         fs.land.blocks.draft events (root_told root) items is_image
         (no-fresh-opened fs super (content events) opened) (omega arith) refl refl height_low high_found
         own-opened.walked items_are
 
     -- it is one of the image's own generation
-    tree_before : IsTree Files super (nodes_of fs (Some events)) root.level root.bytenr items
+    tree_before : IsTree Files super (nodes_of fs (Recorded events)) root.level root.bytenr items
     unfolding tree_failure
-    tree_before = IsTree-walked Files super super (node_found super (content events)) (nodes_of fs (Some events))
+    tree_before = IsTree-walked Files super super (node_found super (content events)) (nodes_of fs (Recorded events))
         (root_told root) root.level root.bytenr items told-found refl (omega arith) refl refl height_low high_found
         own-opened.walked items_are
 
-    pub branch-opened : IsBranch Files super (nodes_of fs (Some events)) root.level root.bytenr items
-    branch-opened = branch-under Files super (nodes_of fs (Some events)) root.level
+    pub branch-opened : IsBranch Files super (nodes_of fs (Recorded events)) root.level root.bytenr items
+    branch-opened = branch-under Files super (nodes_of fs (Recorded events)) root.level
         (root_expected (Some root.level) None) root.bytenr items
         (record { levelled = refl; walked = tree_before.walked; items_are = tree_before.items_are })
 
-    pub items-opened : items_in fs (Some events) (opened_tree super entry)
+    pub items-opened : items_in fs (Recorded events) (opened_tree super entry)
         ≡ items_of_root Files super (content events) entry.1
-    items-opened = items-told fs (Some events) (opened_tree super entry) items tree_before.items_are
+    items-opened = items-told fs (Recorded events) (opened_tree super entry) items tree_before.items_are
 
     -- each address that is reached has a node
-    pub node-opened : (q : ℕ) → IsReachedBy fs (Some events) (opened_tree super entry) q
-        → (node : Node) × (nodes_of fs (Some events) q ≡ Some node)
+    pub node-opened : (q : ℕ) → IsReachedBy fs (Recorded events) (opened_tree super entry) q
+        → (node : Node) × (nodes_of fs (Recorded events) q ≡ Some node)
     node-opened q reached =
-        let at = branch-level Files super (nodes_of fs (Some events)) root.level root.bytenr items branch-opened q
+        let at = branch-level Files super (nodes_of fs (Recorded events)) root.level root.bytenr items branch-opened q
         reached in
         (at.0, at.1)
 
     -- ---- what is listed is reached
 
-    to_found : (q : ℕ) → IsReachedBy fs (Some events) (opened_tree super entry) q
+    to_found : (q : ℕ) → IsReachedBy fs (Recorded events) (opened_tree super entry) q
         → Reaches there root.level root.bytenr q
     to_found q reached =
-        reach-on (nodes_of fs (Some events)) there root.level root.bytenr (λ r below. sym (told-found r)) q reached
+        reach-on (nodes_of fs (Recorded events)) there root.level root.bytenr (λ r below. sym (told-found r)) q reached
 
     from_found : (q : ℕ) → Reaches there root.level root.bytenr q
-        → IsReachedBy fs (Some events) (opened_tree super entry) q
+        → IsReachedBy fs (Recorded events) (opened_tree super entry) q
     from_found q reached =
-        reach-on there (nodes_of fs (Some events)) root.level root.bytenr (λ r below. told-found r) q reached
+        reach-on there (nodes_of fs (Recorded events)) root.level root.bytenr (λ r below. told-found r) q reached
 
-    reached_listed : (q : ℕ) → IsReachedBy fs (Some events) (opened_tree super entry) q → (node : Node)
-        → nodes_of fs (Some events) q ≡ Some node → Contains listed node
+    reached_listed : (q : ℕ) → IsReachedBy fs (Recorded events) (opened_tree super entry) q → (node : Node)
+        → nodes_of fs (Recorded events) q ≡ Some node → Contains listed node
     reached_listed q reached node is =
         met-listed there root.level root.bytenr listed nodes_are q (to_found q reached) node (sym (told-found q) ∙ is)
 
     listed_there : (node : Node) → Contains listed node
-        → IsReachedBy fs (Some events) (opened_tree super entry) (header_of node).address
-        × (nodes_of fs (Some events) (header_of node).address ≡ Some node)
+        → IsReachedBy fs (Recorded events) (opened_tree super entry) (header_of node).address
+        × (nodes_of fs (Recorded events) (header_of node).address ≡ Some node)
     listed_there node among =
         let met = listed-met there root.level root.bytenr listed nodes_are node among in
-        let is : nodes_of fs (Some events) met.q ≡ Some node = told-found met.q ∙ met.told in
+        let is : nodes_of fs (Recorded events) met.q ≡ Some node = told-found met.q ∙ met.told in
         let lies = lies-opened met.q node is in (
-          subst (λ (q : ℕ). IsReachedBy fs (Some events) (opened_tree super entry) q) (sym lies)
+          subst (λ (q : ℕ). IsReachedBy fs (Recorded events) (opened_tree super entry) q) (sym lies)
               (from_found met.q met.reached),
-          ap (λ (q : ℕ). nodes_of fs (Some events) q) lies ∙ is,
+          ap (λ (q : ℕ). nodes_of fs (Recorded events) q) lies ∙ is,
         )
 
   -- ---- the trees and the subvolumes
@@ -404,36 +404,36 @@ module _ (fs : FsTree) (super : Super) (events : List Event) (sound : IsSoundIma
   pub record IsMetBy (q : ℕ) : Type 0 where
     pub entry : ℕ × RootItem
     pub has : Contains (subvolume_roots (roots_in super (content events))) entry
-    pub reached : IsReachedBy fs (Some events) (opened_tree super entry) q
+    pub reached : IsReachedBy fs (Recorded events) (opened_tree super entry) q
 
-  pub met-by : (q : ℕ) → IsMet fs (Some events) q → IsMetBy q
+  pub met-by : (q : ℕ) → IsMet fs (Recorded events) q → IsMetBy q
   met-by q met =
       let own = tree-entry met.tree met.among in
       record {
         entry = own.0;
         has = own.1;
-        reached = subst (λ (t : Root). IsReachedBy fs (Some events) t q) (sym own.2) met.reached;
+        reached = subst (λ (t : Root). IsReachedBy fs (Recorded events) t q) (sym own.2) met.reached;
       }
 
-  pub by-met : (q : ℕ) → IsMetBy q → IsMet fs (Some events) q
+  pub by-met : (q : ℕ) → IsMetBy q → IsMet fs (Recorded events) q
   by-met q by = record {
     tree = opened_tree super by.entry;
     among = entry-tree by.entry by.has;
     reached = by.reached;
   }
 
-  pub node-met : (q : ℕ) → IsMet fs (Some events) q → (node : Node) × (nodes_of fs (Some events) q ≡ Some node)
+  pub node-met : (q : ℕ) → IsMet fs (Recorded events) q → (node : Node) × (nodes_of fs (Recorded events) q ≡ Some node)
   node-met q met =
       let by = met-by q met in
       node-opened by.entry by.has q by.reached
 
-  pub placed-opened : (q : ℕ) → IsMet fs (Some events) q → IsTrue (is_slot fs.land.space.sizes q)
+  pub placed-opened : (q : ℕ) → IsMet fs (Recorded events) q → IsTrue (is_slot fs.land.space.sizes q)
   placed-opened q met =
       let node = node-met q met in
       slot-opened q node.0 node.1
 
-  pub reached-listed : (q : ℕ) → IsMet fs (Some events) q → (node : Node)
-      → nodes_of fs (Some events) q ≡ Some node → Contains (opened_nodes super (content events)) node
+  pub reached-listed : (q : ℕ) → IsMet fs (Recorded events) q → (node : Node)
+      → nodes_of fs (Recorded events) q ≡ Some node → Contains (opened_nodes super (content events)) node
   reached-listed q met node is =
       let by = met-by q met in
       has-flat (λ (e : ℕ × RootItem). nodes_of_root Files super (content events) e.1)
@@ -442,8 +442,8 @@ module _ (fs : FsTree) (super : Super) (events : List Event) (sound : IsSoundIma
 
   -- a node that is listed is reached, and told where it lies
   pub record IsThere (node : Node) : Type 0 where
-    pub met : IsMet fs (Some events) (header_of node).address
-    pub is : nodes_of fs (Some events) (header_of node).address ≡ Some node
+    pub met : IsMet fs (Recorded events) (header_of node).address
+    pub is : nodes_of fs (Recorded events) (header_of node).address ≡ Some node
 
   pub listed-there : (node : Node) → Contains (opened_nodes super (content events)) node → IsThere node
   listed-there node has =
@@ -456,7 +456,7 @@ module _ (fs : FsTree) (super : Super) (events : List Event) (sound : IsSoundIma
         is = there.1;
       }
 
-  pub met-slot : (q : ℕ) → IsMet fs (Some events) q → Contains fs.land.space.slots q
+  pub met-slot : (q : ℕ) → IsMet fs (Recorded events) q → Contains fs.land.space.slots q
   met-slot q met =
       let node = node-met q met in
       let has = has-mapped (λ (n : Node). (header_of n).address) (opened_nodes super (content events)) node.0
@@ -464,17 +464,17 @@ module _ (fs : FsTree) (super : Super) (events : List Event) (sound : IsSoundIma
       (opened.slots q).1 (subst (λ (a : ℕ). Contains (addresses_of (opened_nodes super (content events))) a)
       (lies-opened q node.0 node.1) has)
 
-  pub slot-met : (q : ℕ) → Contains fs.land.space.slots q → IsMet fs (Some events) q
+  pub slot-met : (q : ℕ) → Contains fs.land.space.slots q → IsMet fs (Recorded events) q
   slot-met q has =
       let node = from-mapped (λ (n : Node). (header_of n).address) (opened_nodes super (content events)) q
       ((opened.slots q).0 has) in
-      subst (λ (a : ℕ). IsMet fs (Some events) a) node.2 (listed-there node.0 node.1).met
+      subst (λ (a : ℕ). IsMet fs (Recorded events) a) node.2 (listed-there node.0 node.1).met
 
   -- ---- each tree stands
 
   pub rooted-opened : (entry : ℕ × RootItem)
       → Contains (subvolume_roots (roots_in super (content events))) entry
-      → IsRooted Files (opened_tree super entry) fs.land (Some events)
+      → IsRooted Files (opened_tree super entry) fs.land (Recorded events)
       (items_of_root Files super (content events) entry.1)
   rooted-opened entry has = record {
     tells = tells entry has;

@@ -6,7 +6,7 @@ use Rattle.std.specs.List.{All, Contains, filter_map, find, flat_map}
 use Rattle.std.proofs.lemmas.Bool.{cases_Bool, cond-false, cond-true, eq-eqb, eqb-true, or_cases, true≢false}
 use Rattle.std.proofs.lemmas.List.Elements.{All-from_recursion, Contains-append_cases, Contains-append_left}
 use Rattle.std.proofs.lemmas.List.Elements.{Contains-append_right}
-use Rattle.qg_device.specs.History.{Event, content}
+use Rattle.qg_device.specs.History.{Event, Recorded, content}
 use Rattle.qg_num.specs.declared.piece.Piece.{Piece}
 use Rattle.qg_node.specs.declared.item.Item.{Item}
 use Rattle.qg_node.specs.declared.node.Node.{Node}
@@ -48,7 +48,8 @@ use Rattle.qg_fs_layout.proofs.Ways.{ways-some}
 use Rattle.qg_fs_layout.specs.Following.{references_to}
 use Rattle.qg_fs_layout.proofs.ForestExtents.{among-one}
 use Rattle.qg_fs_layout.proofs.Homes.{owner-reaches}
-use Rattle.qg_fs_layout.proofs.Referring.{OwesChild, OwesRoot, child-counted, extents-named, owed-referred, referred-owed}
+use Rattle.qg_fs_layout.proofs.Referring.{OwesChild, OwesRoot, child-counted, extents-named, owed-referred}
+use Rattle.qg_fs_layout.proofs.Referring.{referred-owed}
 use Rattle.qg_fs_layout.proofs.Referring.{root-counted}
 use Rattle.qg_fs_layout.specs.Types.{FsTree}
 use Rattle.qg_fs_layout.specs.Standing.{IsAtHome, IsKnownExtent, IsReachedBy, extents_named, items_in, layout_in}
@@ -127,16 +128,18 @@ module _ (fs : FsTree) (super : Super) (events : List Event) (table : IsTable fs
       (drafted-there fs super events sound opened).sizes.served).some
 
   -- it has its entry in the state's layout
-  pub value-opened : (q : ℕ) → IsMet fs (Some events) q → (node : Node) → nodes_of fs (Some events) q ≡ Some node
+  pub value-opened : (q : ℕ) → IsMet fs (Recorded events) q → (node : Node)
+      → nodes_of fs (Recorded events) q ≡ Some node
       → value_at q (layout_of (state_in super (content events))).nodes
       ≡ Some (record { node = node; full = full_in (book_of fs.refs.refs q) })
   value-opened q met node is =
       ap (λ (table : List (ℕ × Placed)). value_at q table) (sym (nodes-opened fs super events sound opened))
-      ∙ value-reached fs (Some events) some_bytes (placed-opened fs super events sound opened) q
+      ∙ value-reached fs (Recorded events) some_bytes (placed-opened fs super events sound opened) q
       (record { node = node; full = full_in (book_of fs.refs.refs q) })
       (record { met = met; told = is; full = refl })
 
-  pub known-opened : (q : ℕ) → IsMet fs (Some events) q → (node : Node) → nodes_of fs (Some events) q ≡ Some node
+  pub known-opened : (q : ℕ) → IsMet fs (Recorded events) q → (node : Node)
+      → nodes_of fs (Recorded events) q ≡ Some node
       → what_in (book_of fs.refs.refs q) ≡ Some (record {
         bytes = super.nodesize;
         level = Some (header_of node).level;
@@ -194,7 +197,8 @@ module _ (fs : FsTree) (super : Super) (events : List Event) (table : IsTable fs
   told_named : (run : Element) → IsToldBy run → Contains (layout_extents layout) run
   told_named run told =
       let entry = told.entry in
-      let leaf = in-leaf Files super (nodes_of fs (Some events)) told.item entry.1.level entry.1.bytenr (items_by entry)
+      let leaf = in-leaf Files super (nodes_of fs (Recorded events)) told.item entry.1.level entry.1.bytenr
+      (items_by entry)
       (branch-opened fs super events sound opened entry told.has) told.among in
       let met = by-met fs super events sound opened leaf.at
       (record { entry = entry; has = told.has; reached = leaf.reached }) in
@@ -212,7 +216,7 @@ module _ (fs : FsTree) (super : Super) (events : List Event) (table : IsTable fs
         entry = by.entry;
         has = by.has;
         item = found.2;
-        among = from-leaf Files super (nodes_of fs (Some events)) found.2 by.entry.1.level by.entry.1.bytenr
+        among = from-leaf Files super (nodes_of fs (Recorded events)) found.2 by.entry.1.level by.entry.1.bytenr
             (items_by by.entry) (branch-opened fs super events sound opened by.entry by.has) found.0.0 by.reached
             found.0.1.node entry.is found.3;
         tells = found.4;
@@ -280,8 +284,8 @@ module _ (fs : FsTree) (super : Super) (events : List Event) (table : IsTable fs
     abbrev laid_nodes : ℕ → Option Node
     laid_nodes = node_at (layout_of (state_in super (content events))).nodes
 
-    laid : (r : ℕ) → IsReachedBy fs (Some events) (opened_tree super entry) r
-        → laid_nodes r ≡ nodes_of fs (Some events) r
+    laid : (r : ℕ) → IsReachedBy fs (Recorded events) (opened_tree super entry) r
+        → laid_nodes r ≡ nodes_of fs (Recorded events) r
     laid r reached = node-laid fs super events sound opened r (by-met fs super events sound opened r
         (record { entry = entry; has = has; reached = reached }))
 
@@ -289,37 +293,37 @@ module _ (fs : FsTree) (super : Super) (events : List Event) (table : IsTable fs
     high =
         let top = root-opened fs super events sound opened entry has in
         let told : laid_nodes entry.1.bytenr ≡ Some top.0 =
-        laid entry.1.bytenr (reach-top (nodes_of fs (Some events)) entry.1.level entry.1.bytenr) ∙ top.1 in
+        laid entry.1.bytenr (reach-top (nodes_of fs (Recorded events)) entry.1.level entry.1.bytenr) ∙ top.1 in
         ap level_of told ∙ top.2
 
     -- a node that it reaches, or an extent that such a node names
-    own_slot : (at : ℕ) (node : Node) → IsReachedBy fs (Some events) (opened_tree super entry) at
-        → nodes_of fs (Some events) at ≡ Some node → (q : ℕ) → IsTrue (is_slot fs.land.space.sizes q)
+    own_slot : (at : ℕ) (node : Node) → IsReachedBy fs (Recorded events) (opened_tree super entry) at
+        → nodes_of fs (Recorded events) at ≡ Some node → (q : ℕ) → IsTrue (is_slot fs.land.space.sizes q)
         → is_among q (map extent_of (pieces_of node)) ≡ true → ⊥
     own_slot at node reached told q slot names =
         let element = among-one q (map extent_of (pieces_of node)) names in
         let item = own-extent node element.0 element.1 in
-        let member = from-leaf Files super (nodes_of fs (Some events)) item.0 entry.1.level entry.1.bytenr
+        let member = from-leaf Files super (nodes_of fs (Recorded events)) item.0 entry.1.level entry.1.bytenr
         (items_by entry) (branch-opened fs super events sound opened entry has) at reached node told item.1 in
         run_apart element.0 (told-present element.0
         (record { entry = entry; has = has; item = item.0; among = member; tells = item.2 })) q slot element.2
 
     own_reached : (q : ℕ) → reaches layout entry.0 q ≡ true → IsTrue (is_slot fs.land.space.sizes q)
-        → IsReachedBy fs (Some events) (opened_tree super entry) q
+        → IsReachedBy fs (Recorded events) (opened_tree super entry) q
     own_reached q is slot =
         let found = in-reaches layout entry.0 entry.1.bytenr entry.1.level there high q is in
-        let reached = reach-same (nodes_of fs (Some events)) laid_nodes entry.1.level entry.1.bytenr laid found.0
+        let reached = reach-same (nodes_of fs (Recorded events)) laid_nodes entry.1.level entry.1.bytenr laid found.0
         found.2 in
-        let told : nodes_of fs (Some events) found.0 ≡ Some found.1 = sym (laid found.0 reached) ∙ found.3 in
+        let told : nodes_of fs (Recorded events) found.0 ≡ Some found.1 = sym (laid found.0 reached) ∙ found.3 in
         elim (or_cases (found.0 == q) (is_among q (map extent_of (pieces_of found.1))) found.4) [
           | inl itself ↦
-              subst (λ (a : ℕ). IsReachedBy fs (Some events) (opened_tree super entry) a)
+              subst (λ (a : ℕ). IsReachedBy fs (Recorded events) (opened_tree super entry) a)
               (eqb-true found.0 q itself) reached
           | inr names ↦ absurd (own_slot found.0 found.1 reached told q slot names)
         ]
 
   owner_home : (number q : ℕ) → reaches layout number q ≡ true → IsTrue (is_slot fs.land.space.sizes q)
-      → IsAtHome fs (Some events) q number
+      → IsAtHome fs (Recorded events) q number
   owner_home number q is slot =
       let root = reaches-root layout number q is in
       let own = root-tree fs (others-ascend fs super events sound opened) (other-number fs super events sound opened)
@@ -342,10 +346,10 @@ module _ (fs : FsTree) (super : Super) (events : List Event) (table : IsTable fs
       }
 
   pub home-opened : (tree : Root) (q : ℕ) (node : Node) → Contains (trees_of fs) tree
-      → IsReachedBy fs (Some events) tree q → nodes_of fs (Some events) q ≡ Some node
-      → full_in (book_of fs.refs.refs q) ≡ false → IsAtHome fs (Some events) q (header_of node).owner
+      → IsReachedBy fs (Recorded events) tree q → nodes_of fs (Recorded events) q ≡ Some node
+      → full_in (book_of fs.refs.refs q) ≡ false → IsAtHome fs (Recorded events) q (header_of node).owner
   home-opened tree q node has reached is bare =
-      let met : IsMet fs (Some events) q = record { tree = tree; among = has; reached = reached } in
+      let met : IsMet fs (Recorded events) q = record { tree = tree; among = has; reached = reached } in
       let placed_so : Placed = record { node = node; full = full_in (book_of fs.refs.refs q) } in
       owner_home (header_of node).owner q
       (owner-reaches layout sound.home q placed_so (value-opened q met node is) bare)
@@ -358,13 +362,13 @@ module _ (fs : FsTree) (super : Super) (events : List Event) (table : IsTable fs
       opened.told
 
   pub owed-opened : (at : ℕ) (reference : Reference) → count_at (book_of fs.refs.refs) at reference
-      ≡ owed_count (layout_in fs (Some events)) at reference
+      ≡ owed_count (layout_in fs (Recorded events)) at reference
   owed-opened at reference =
       agrees at reference
       ∙ ap (λ (l : Layout). owed_count l at reference) (sym (layout-opened fs super events sound opened))
 
   -- where a reference leads to a slot, some tree reaches it
-  root_met : (at : ℕ) → OwesRoot layout at → IsMet fs (Some events) at
+  root_met : (at : ℕ) → OwesRoot layout at → IsMet fs (Recorded events) at
   root_met at owes =
       let entry = from-mapped root_told_by roots owes.entry
       (subst (λ (table : List (ℕ × ℕ)). Contains table owes.entry) (roots-are fs super events sound opened) owes.has) in
@@ -372,16 +376,16 @@ module _ (fs : FsTree) (super : Super) (events : List Event) (table : IsTable fs
       by-met fs super events sound opened at (record {
         entry = entry.0;
         has = entry.1;
-        reached = subst (λ (a : ℕ). IsReachedBy fs (Some events) (opened_tree super entry.0) a)
+        reached = subst (λ (a : ℕ). IsReachedBy fs (Recorded events) (opened_tree super entry.0) a)
             (ap (λ (e : ℕ × ℕ). e.1) entry.2 ∙ owes.here)
-            (reach-top (nodes_of fs (Some events)) tree.height tree.address);
+            (reach-top (nodes_of fs (Recorded events)) tree.height tree.address);
       })
 
-  child_met : (at : ℕ) → OwesChild layout at → IsMet fs (Some events) at
+  child_met : (at : ℕ) → OwesChild layout at → IsMet fs (Recorded events) at
   child_met at owes =
       let its = entry-is fs super events sound opened owes.entry owes.has in
       let by = met-by fs super events sound opened owes.entry.0 its.met in
-      let nodes = nodes_of fs (Some events) in
+      let nodes = nodes_of fs (Recorded events) in
       let level = by.entry.1.level in
       let top = by.entry.1.bytenr in
       by-met fs super events sound opened at (record {
@@ -394,7 +398,7 @@ module _ (fs : FsTree) (super : Super) (events : List Event) (table : IsTable fs
       })
 
   pub referred-met : (at : ℕ) → IsTrue (is_slot fs.land.space.sizes at) → 0 < references_to (book_of fs.refs.refs) at
-      → IsMet fs (Some events) at
+      → IsMet fs (Recorded events) at
   referred-met at slot some = elim (referred-owed layout (book_of fs.refs.refs) agrees at table.book some) [
     | inl root ↦ root_met at root
     | inr (inl child) ↦ child_met at child
@@ -404,11 +408,11 @@ module _ (fs : FsTree) (super : Super) (events : List Event) (table : IsTable fs
   ]
 
   -- and the other way round
-  pub met-referred : (q : ℕ) → IsMet fs (Some events) q → 0 < references_to (book_of fs.refs.refs) q
+  pub met-referred : (q : ℕ) → IsMet fs (Recorded events) q → 0 < references_to (book_of fs.refs.refs) q
   met-referred q met =
       let by = met-by fs super events sound opened q met in
       let entry = by.entry in
-      elim (last-step (nodes_of fs (Some events)) entry.1.level entry.1.bytenr q by.reached) [
+      elim (last-step (nodes_of fs (Recorded events)) entry.1.level entry.1.bytenr q by.reached) [
         | inl root ↦
             let owes : OwesRoot layout entry.1.bytenr = record {
               entry = root_told_by entry;
@@ -440,10 +444,11 @@ module _ (fs : FsTree) (super : Super) (events : List Event) (table : IsTable fs
       items = items_of_root Files super (content events) root
 
       abbrev all_names : List (ℕ × Piece)
-      all_names = names_in (items_of_root Files super (content events) root) ++ names_elsewhere fs (Some events)
+      all_names = names_in (items_of_root Files super (content events) root) ++ names_elsewhere fs (Recorded events)
 
-      pub rooted-hand : IsRooted Files fs.tree fs.land (Some events) (items_of_root Files super (content events) root)
-      rooted-hand = subst (λ (t : Root). IsRooted Files t fs.land (Some events)
+      pub rooted-hand : IsRooted Files fs.tree fs.land (Recorded events)
+          (items_of_root Files super (content events) root)
+      rooted-hand = subst (λ (t : Root). IsRooted Files t fs.land (Recorded events)
           (items_of_root Files super (content events) root))
           (hand-opened fs super events sound opened (TOP_LEVEL, root) top refl)
           (rooted-opened fs super events sound opened (TOP_LEVEL, root) top)
@@ -452,12 +457,12 @@ module _ (fs : FsTree) (super : Super) (events : List Event) (table : IsTable fs
       elsewhere_named : (entry : ℕ × RootItem)
           (has : Contains (subvolume_roots (roots_in super (content events))) entry)
           → Contains fs.others.items (opened_tree super entry) → (item : Item) → Contains (items_by entry) item
-          → (name : ℕ × Piece) → name_told item ≡ Some name → Contains (names_elsewhere fs (Some events)) name
+          → (name : ℕ × Piece) → name_told item ≡ Some name → Contains (names_elsewhere fs (Recorded events)) name
       unfolding names_elsewhere
       elsewhere_named entry has later item member name told =
-          has-flat (λ (tree : Root). filter_map name_told (items_in fs (Some events) tree)) fs.others.items
+          has-flat (λ (tree : Root). filter_map name_told (items_in fs (Recorded events) tree)) fs.others.items
           (opened_tree super entry) name later
-          (made-some name_told (items_in fs (Some events) (opened_tree super entry)) item name
+          (made-some name_told (items_in fs (Recorded events) (opened_tree super entry)) item name
           (subst (λ (xs : List Item). Contains xs item) (sym (items-opened fs super events sound opened entry has))
           member) told)
 
@@ -470,24 +475,25 @@ module _ (fs : FsTree) (super : Super) (events : List Event) (table : IsTable fs
             | inl same ↦
                 let number : entry.0 ≡ TOP_LEVEL = sym (ap (λ (t : Root). t.owner) same) ∙ opened.number in
                 let is = same-entry fs super events sound opened entry (TOP_LEVEL, root) has top number in
-                Contains-append_left (names_in items) (names_elsewhere fs (Some events)) name
+                Contains-append_left (names_in items) (names_elsewhere fs (Recorded events)) name
                 (made-some name_told items item name
                 (subst (λ (e : ℕ × RootItem). Contains (items_by e) item) is member) told)
             | inr later ↦
-                Contains-append_right (names_in items) (names_elsewhere fs (Some events)) name
+                Contains-append_right (names_in items) (names_elsewhere fs (Recorded events)) name
                 (elsewhere_named entry has later item member name told)
           ]
 
       -- each piece is told by an item
-      from_elsewhere : (name : ℕ × Piece) → Contains (names_elsewhere fs (Some events)) name
+      from_elsewhere : (name : ℕ × Piece) → Contains (names_elsewhere fs (Recorded events)) name
           → IsToldBy (extent_of name.1)
       unfolding names_elsewhere
       from_elsewhere name has =
-          let found = from-flat (λ (tree : Root). filter_map name_told (items_in fs (Some events) tree)) fs.others.items
+          let found = from-flat (λ (tree : Root). filter_map name_told (items_in fs (Recorded events) tree))
+          fs.others.items
           name has in
           let entry = tree-entry fs super events sound opened found.0
           (contains_later fs.tree fs.others.items found.0 found.1) in
-          let there = subst (λ (t : Root). Contains (filter_map name_told (items_in fs (Some events) t)) name)
+          let there = subst (λ (t : Root). Contains (filter_map name_told (items_in fs (Recorded events) t)) name)
           (sym entry.2) found.2 in
           let item = from-some name_told (items_by entry.0) name
           (subst (λ (xs : List Item). Contains (filter_map name_told xs) name)
@@ -501,18 +507,19 @@ module _ (fs : FsTree) (super : Super) (events : List Event) (table : IsTable fs
           }
 
       named_item : (name : ℕ × Piece) → Contains all_names name → IsToldBy (extent_of name.1)
-      named_item name has = elim (Contains-append_cases (names_in items) (names_elsewhere fs (Some events)) name has) [
-        | inl own ↦
-            let item = from-some name_told items name own in
-            record {
-              entry = (TOP_LEVEL, root);
-              has = top;
-              item = item.0;
-              among = item.1;
-              tells = record { name = name; told = item.2; is = refl };
-            }
-        | inr elsewhere ↦ from_elsewhere name elsewhere
-      ]
+      named_item name has = elim (Contains-append_cases (names_in items) (names_elsewhere fs (Recorded events)) name
+          has) [
+            | inl own ↦
+                let item = from-some name_told items name own in
+                record {
+                  entry = (TOP_LEVEL, root);
+                  has = top;
+                  item = item.0;
+                  among = item.1;
+                  tells = record { name = name; told = item.2; is = refl };
+                }
+            | inr elsewhere ↦ from_elsewhere name elsewhere
+          ]
 
       pub extents-opened : All (λ name. IsKnownExtent fs.land.space.sizes fs.tree.next (book_of fs.refs.refs) name.1)
           all_names
@@ -539,7 +546,8 @@ module _ (fs : FsTree) (super : Super) (events : List Event) (table : IsTable fs
           ((opened.runs (extent_of name.0.1)).1 (told-present (extent_of name.0.1) (named_item name.0 name.1)))
 
       pub runs-opened : (run : Element) → Contains fs.land.space.runs run
-          ↔ Contains (extents_named fs (Some events) (names_in (items_of_root Files super (content events) root))) run
+          ↔ Contains (extents_named fs (Recorded events) (names_in (items_of_root Files super (content events) root)))
+          run
       runs-opened run = (run_into run, run_back run)
 
       pub few-opened : (at : ℕ) (reference : Reference)
@@ -547,11 +555,11 @@ module _ (fs : FsTree) (super : Super) (events : List Event) (table : IsTable fs
           ≤ 4294967295
       few-opened at reference =
           let drafted = drafted-there fs super events sound opened in
-          names-few Files (super_of fs.tree fs.land.blocks.draft) (nodes_of fs (Some events)) fs.land.space.sizes
-          fs.tree.height fs.tree.address items (branch fs (Some events) fs.tree items rooted-hand drafted)
+          names-few Files (super_of fs.tree fs.land.blocks.draft) (nodes_of fs (Recorded events)) fs.land.space.sizes
+          fs.tree.height fs.tree.address items (branch fs (Recorded events) fs.tree items rooted-hand drafted)
           drafted.sizes.served
           (λ q reached. slot-once fs.land.space.sizes q some_bytes
           (placed-opened fs super events sound opened q
           (record { tree = fs.tree; among = contains_here fs.tree fs.others.items; reached = reached })))
-          (single-way fs (Some events) fs.tree items rooted-hand drafted)
-          (told-formed fs.land (Some events) fs.tree.next drafted) fs.tree.owner at reference
+          (single-way fs (Recorded events) fs.tree items rooted-hand drafted)
+          (told-formed fs.land (Recorded events) fs.tree.next drafted) fs.tree.owner at reference

@@ -3,7 +3,7 @@ use Rattle.std.proofs.Common.{◌≡◌, ℕ, ◌<◌, Bool, List, [], ◌∷◌
 use Rattle.std.specs.List.{Contains}
 use Rattle.std.specs.List.Sorted.{IsStrictlyIncreasing}
 use Rattle.std.specs.Option.{option_map}
-use Rattle.qg_device.specs.History.{Event, content}
+use Rattle.qg_device.specs.History.{Event, Recorded, content}
 use Rattle.qg_node.specs.declared.node.Node.{Node}
 use Rattle.qg_node.specs.Nodes.{header_of}
 use Rattle.qg_items.specs.declared.root.RootItem.{RootItem}
@@ -114,7 +114,7 @@ module _ (fs : FsTree) (super : Super) (events : List Event) (sound : IsSoundIma
     agree = λ a b has also same.
         let first = (listed-there fs super events sound opened a has).is in
         let second = (listed-there fs super events sound opened b also).is in
-        let e : Some a ≡ Some b = sym first ∙ ap (λ (q : ℕ). nodes_of fs (Some events) q) same ∙ second in
+        let e : Some a ≡ Some b = sym first ∙ ap (λ (q : ℕ). nodes_of fs (Recorded events) q) same ∙ second in
         cc;
   }
 
@@ -145,8 +145,8 @@ module _ (fs : FsTree) (super : Super) (events : List Event) (sound : IsSoundIma
   -- an entry of the state's layout is that of a node that the tree reaches
   pub record IsEntry (entry : ℕ × Placed) : Type 0 where
     pub here : (header_of entry.1.node).address ≡ entry.0
-    pub met : IsMet fs (Some events) entry.0
-    pub is : nodes_of fs (Some events) entry.0 ≡ Some entry.1.node
+    pub met : IsMet fs (Recorded events) entry.0
+    pub is : nodes_of fs (Recorded events) entry.0 ≡ Some entry.1.node
 
   pub entry-is : (entry : ℕ × Placed) → Contains (layout_of (state_in super (content events))).nodes entry
       → IsEntry entry
@@ -160,20 +160,20 @@ module _ (fs : FsTree) (super : Super) (events : List Event) (sound : IsSoundIma
   some_slots = (SlotsFit-is_served fs.land.space.sizes
       (drafted-there fs super events sound opened).sizes.served).some
 
-  own_ascend : IsStrictlyIncreasing (keys_of (nodes_in fs (Some events)))
-  own_ascend = nodes-ascend fs (Some events) some_slots (placed-opened fs super events sound opened)
+  own_ascend : IsStrictlyIncreasing (keys_of (nodes_in fs (Recorded events)))
+  own_ascend = nodes-ascend fs (Recorded events) some_slots (placed-opened fs super events sound opened)
 
-  own_entry : (entry : ℕ × Placed) → Contains (nodes_in fs (Some events)) entry
-      → IsMetAs fs (Some events) entry.0 entry.1
-  own_entry entry has = reached-by fs (Some events) entry.0 entry.1
-      (value_of_entry (nodes_in fs (Some events)) entry own_ascend has)
+  own_entry : (entry : ℕ × Placed) → Contains (nodes_in fs (Recorded events)) entry
+      → IsMetAs fs (Recorded events) entry.0 entry.1
+  own_entry entry has = reached-by fs (Recorded events) entry.0 entry.1
+      (value_of_entry (nodes_in fs (Recorded events)) entry own_ascend has)
 
   -- ---- keys
 
-  key_into : (q : ℕ) → Contains (keys_of (nodes_in fs (Some events))) q
+  key_into : (q : ℕ) → Contains (keys_of (nodes_in fs (Recorded events))) q
       → Contains (map (λ node. (header_of node).address) by_address.sorted) q
   key_into q has =
-      let entry = from-mapped (λ (entry : ℕ × Placed). entry.0) (nodes_in fs (Some events)) q has in
+      let entry = from-mapped (λ (entry : ℕ × Placed). entry.0) (nodes_in fs (Recorded events)) q has in
       let its = own_entry entry.0 entry.1 in
       let lies = lies-opened fs super events sound opened entry.0.0 entry.0.1.node its.told in
       let among = by_address.same.back entry.0.1.node
@@ -183,24 +183,24 @@ module _ (fs : FsTree) (super : Super) (events : List Event) (sound : IsSoundIma
       (has-mapped (λ (node : Node). (header_of node).address) by_address.sorted entry.0.1.node among)
 
   key_back : (q : ℕ) → Contains (map (λ node. (header_of node).address) by_address.sorted) q
-      → Contains (keys_of (nodes_in fs (Some events))) q
+      → Contains (keys_of (nodes_in fs (Recorded events))) q
   key_back q has =
       let node = from-mapped (λ (node : Node). (header_of node).address) by_address.sorted q has in
       let there = listed-there fs super events sound opened node.0
       (by_address.same.into node.0 node.1) in
       let address = (header_of node.0).address in
       let placed_so : Placed = record { node = node.0; full = full_in (book_of fs.refs.refs address) } in
-      let value = value-reached fs (Some events) some_slots (placed-opened fs super events sound opened)
+      let value = value-reached fs (Recorded events) some_slots (placed-opened fs super events sound opened)
       address placed_so (record { met = there.met; told = there.is; full = refl }) in
-      subst (λ (a : ℕ). Contains (keys_of (nodes_in fs (Some events))) a) node.2
-      (has-mapped (λ (entry : ℕ × Placed). entry.0) (nodes_in fs (Some events)) (address, placed_so)
-      (entry_of_value address placed_so (nodes_in fs (Some events)) value))
+      subst (λ (a : ℕ). Contains (keys_of (nodes_in fs (Recorded events))) a) node.2
+      (has-mapped (λ (entry : ℕ × Placed). entry.0) (nodes_in fs (Recorded events)) (address, placed_so)
+      (entry_of_value address placed_so (nodes_in fs (Recorded events)) value))
 
-  keys_are : keys_of (nodes_in fs (Some events)) ≡ keys_of (layout_of (state_in super (content events))).nodes
+  keys_are : keys_of (nodes_in fs (Recorded events)) ≡ keys_of (layout_of (state_in super (content events))).nodes
   keys_are =
-      same_ascending (keys_of (nodes_in fs (Some events)))
+      same_ascending (keys_of (nodes_in fs (Recorded events)))
       (map (λ (node : Node). (header_of node).address) by_address.sorted)
-      (ascends_of (keys_of (nodes_in fs (Some events))) own_ascend) by_address.ascends
+      (ascends_of (keys_of (nodes_in fs (Recorded events))) own_ascend) by_address.ascends
       (record { into = key_into; back = key_back })
       ∙ sym (keys_made (extent_parts super (content events)) by_address.sorted)
       ∙ ap keys_of (sym made_is)
@@ -212,14 +212,14 @@ module _ (fs : FsTree) (super : Super) (events : List Event) (sound : IsSoundIma
       → value_at entry.0 (layout_of (state_in super (content events))).nodes ≡ Some entry.1
   value-there entry has = value_of_entry (layout_of (state_in super (content events))).nodes entry layout_ascends has
 
-  each_same : (x y : ℕ × Placed) → Contains (nodes_in fs (Some events)) x
+  each_same : (x y : ℕ × Placed) → Contains (nodes_in fs (Recorded events)) x
       → Contains (layout_of (state_in super (content events))).nodes y → x.0 ≡ y.0 → x ≡ y
   each_same x y has also same =
       let mine = own_entry x has in
       let its = entry-is y also in
       let node : x.1.node ≡ y.1.node =
       (let e : Some x.1.node ≡ Some y.1.node = sym mine.told
-      ∙ ap (λ (q : ℕ). nodes_of fs (Some events) q) same ∙ its.is in cc) in
+      ∙ ap (λ (q : ℕ). nodes_of fs (Recorded events) q) same ∙ its.is in cc) in
       let mark = node-mark super.nodesize (layout_of (state_in super (content events)))
       (extent_parts super (content events)) (book_of fs.refs.refs) sound.agrees opened.told y.0 y.1
       (value-there y also) in
@@ -229,15 +229,15 @@ module _ (fs : FsTree) (super : Super) (events : List Event) (sound : IsSoundIma
       ∙ ap (λ (n : Node). let p : Placed = record { node = n; full = x.1.full } in (y.0, p)) node
       ∙ ap (λ (f : Bool). let p : Placed = record { node = y.1.node; full = f } in (y.0, p)) full
 
-  pub nodes-opened : nodes_in fs (Some events) ≡ (layout_of (state_in super (content events))).nodes
-  nodes-opened = pairs_same (nodes_in fs (Some events)) (layout_of (state_in super (content events))).nodes keys_are
+  pub nodes-opened : nodes_in fs (Recorded events) ≡ (layout_of (state_in super (content events))).nodes
+  nodes-opened = pairs_same (nodes_in fs (Recorded events)) (layout_of (state_in super (content events))).nodes keys_are
       each_same
 
-  size_in : (layout_in fs (Some events)).nodesize ≡ fs.land.space.sizes.nodesize
+  size_in : (layout_in fs (Recorded events)).nodesize ≡ fs.land.space.sizes.nodesize
   unfolding layout_in
   size_in = refl
 
-  roots_in_layout : (layout_in fs (Some events)).roots ≡ roots_of fs
+  roots_in_layout : (layout_in fs (Recorded events)).roots ≡ roots_of fs
   unfolding layout_in
   roots_in_layout = refl
 
@@ -281,19 +281,19 @@ module _ (fs : FsTree) (super : Super) (events : List Event) (sound : IsSoundIma
       root_into root_back
       ∙ sym roots-are
 
-  pub layout-opened : layout_in fs (Some events) ≡ layout_of (state_in super (content events))
-  layout-opened = layout_alike (layout_in fs (Some events)) (layout_of (state_in super (content events)))
+  pub layout-opened : layout_in fs (Recorded events) ≡ layout_of (state_in super (content events))
+  layout-opened = layout_alike (layout_in fs (Recorded events)) (layout_of (state_in super (content events)))
       (size_in ∙ ap (λ (sizes : Sizes). sizes.nodesize) opened.sizes ∙ sym size_is)
       (roots_in_layout ∙ roots-opened) nodes-opened
 
   -- what some tree reaches is told in the state's layout
-  pub node-laid : (q : ℕ) → IsMet fs (Some events) q
-      → node_at (layout_of (state_in super (content events))).nodes q ≡ nodes_of fs (Some events) q
+  pub node-laid : (q : ℕ) → IsMet fs (Recorded events) q
+      → node_at (layout_of (state_in super (content events))).nodes q ≡ nodes_of fs (Recorded events) q
   node-laid q met =
       let node = node-met fs super events sound opened q met in
       let placed_so : Placed = record { node = node.0; full = full_in (book_of fs.refs.refs q) } in
       ap (λ (table : List (ℕ × Placed)). node_at table q) (sym nodes-opened)
       ∙ ap (λ (o : Option Placed). option_map (λ (p : Placed). p.node) o)
-      (value-reached fs (Some events) some_slots (placed-opened fs super events sound opened) q placed_so
+      (value-reached fs (Recorded events) some_slots (placed-opened fs super events sound opened) q placed_so
       (record { met = met; told = node.1; full = refl }))
       ∙ sym node.1

@@ -4,7 +4,7 @@ use Rattle.std.proofs.Common.{ap, subst, ◌∙◌, inr}
 use Rattle.std.specs.Prelude.{IsTrue, nat_lt}
 use Rattle.std.specs.List.{Contains, filter_map}
 use Rattle.std.proofs.lemmas.Bool.{lt-ltb, ltb-true}
-use Rattle.qg_device.specs.History.{Event, content}
+use Rattle.qg_device.specs.History.{Event, Recorded, content}
 use Rattle.qg_node.specs.declared.item.Item.{Item}
 use Rattle.qg_node.specs.declared.node.Node.{Node}
 use Rattle.qg_node.specs.Nodes.{header_of}
@@ -61,7 +61,7 @@ module _ (fs : FsTree) (super : Super) (events : List Event) (table : IsTable fs
   size_is : fs.refs.nodesize ≡ super.nodesize
   size_is = ap (λ (refs : TreeRefs). refs.nodesize) opened.refs
 
-  known_node : (at : ℕ) (node : Node) → IsMet fs (Some events) at → nodes_of fs (Some events) at ≡ Some node
+  known_node : (at : ℕ) (node : Node) → IsMet fs (Recorded events) at → nodes_of fs (Recorded events) at ≡ Some node
       → what_in (book_of fs.refs.refs at) ≡ Some (what_of fs.refs.nodesize (header_of node).generation node)
   known_node at node met is =
       known-opened fs super events table sound opened at met node is
@@ -89,14 +89,14 @@ module _ (fs : FsTree) (super : Super) (events : List Event) (table : IsTable fs
       let next = next_is in
       absurd (omega (arith, low, next))
 
-  clean_there : (at : ℕ) (node : Node) → nodes_of fs (Some events) at ≡ Some node
+  clean_there : (at : ℕ) (node : Node) → nodes_of fs (Recorded events) at ≡ Some node
       → 0 < references_to (book_of fs.refs.refs) at
       → what_in (book_of fs.refs.refs at) ≡ Some (what_of fs.refs.nodesize (header_of node).generation node)
   clean_there at node is some =
       known_node at node
       (referred-met fs super events table sound opened at (slot-opened fs super events sound opened at node is) some) is
 
-  settled_there : IsSettled fs.refs fs.land (Some events)
+  settled_there : IsSettled fs.refs fs.land (Recorded events)
   settled_there = record {
     slots = slots_there;
     written = λ at has. inr (opened.held_slots at ((Contains-has_slot fs.land.space at).0 has));
@@ -108,12 +108,12 @@ module _ (fs : FsTree) (super : Super) (events : List Event) (table : IsTable fs
 
   -- ---- the others
 
-  beside_there : (tree : Root) → Contains fs.others.items tree → IsBeside fs (Some events) tree
+  beside_there : (tree : Root) → Contains fs.others.items tree → IsBeside fs (Recorded events) tree
   beside_there tree has =
       let entry = tree-entry fs super events sound opened tree (contains_later fs.tree fs.others.items tree has) in
       record {
         items = items_of_root Files super (content events) entry.0.1;
-        rooted = subst (λ (t : Root). IsRooted Files t fs.land (Some events)
+        rooted = subst (λ (t : Root). IsRooted Files t fs.land (Recorded events)
             (items_of_root Files super (content events) entry.0.1)) entry.2
             (rooted-opened fs super events sound opened entry.0 entry.1);
         next = sym (ap (λ (t : Root). t.next) entry.2) ∙ sym (next-opened fs super (content events) opened);
@@ -129,13 +129,13 @@ module _ (fs : FsTree) (super : Super) (events : List Event) (table : IsTable fs
 
       counts_there : (at : ℕ) (reference : Reference) → count_at (book_of fs.refs.refs) at reference
           + names_times fs.tree.owner (filter_map name_told items) at reference
-          ≡ owed_count (layout_in fs (Some events)) at reference
+          ≡ owed_count (layout_in fs (Recorded events)) at reference
           + names_times fs.tree.owner (names_in items) at reference
       counts_there at reference =
           let owed = owed-opened fs super events table sound opened at reference in
           ap (λ (n : ℕ). n + names_times fs.tree.owner (filter_map name_told items) at reference) owed
 
-      stands_there : Stands fs (Some events) (items_of_root Files super (content events) root)
+      stands_there : Stands fs (Recorded events) (items_of_root Files super (content events) root)
           (names_in (items_of_root Files super (content events) root))
       stands_there = record {
         book = record {

@@ -7,7 +7,7 @@ use Rattle.std.specs.List.Sorted.{IsStrictlyIncreasing}
 use Rattle.std.specs.Option.{option_map}
 use Rattle.std.proofs.lemmas.Bool.{lt-ltb, ltb-true}
 use Rattle.std.proofs.lemmas.List.Concat.{flat_map-cons}
-use Rattle.qg_device.specs.History.{Event}
+use Rattle.qg_device.specs.History.{Event, History, Recorded}
 use Rattle.qg_num.specs.declared.piece.Piece.{Piece}
 use Rattle.qg_node.specs.declared.item.Item.{Item}
 use Rattle.qg_node.specs.declared.node.Node.{Node}
@@ -91,7 +91,7 @@ entry_same true at a b full same = ap (λ (o : Option Node). option_map (entry_f
 entry_same false at a b full same = refl
 
 -- the items that a tree has where these are told
-items_told : (fs : FsTree) (history : Option (List Event)) (tree : Root) (items : List Item)
+items_told : (fs : FsTree) (history : History) (tree : Root) (items : List Item)
     → items_below (nodes_of fs history) tree.height tree.address ≡ Some items → items_in fs history tree ≡ items
 items_told fs history tree items is = rw is refl
 
@@ -153,7 +153,7 @@ module _ (old new : FsTree) (besides : List ℕ) (committed : IsCommitted old ne
         absurd (none_some (fresh_at new.land.blocks.draft at) node (no-fresh old new besides committed at) there);
   }
 
-pub subvolume-still : (old new : FsTree) (besides : List ℕ) (before after : Option (List Event)) (bytes left : ℕ)
+pub subvolume-still : (old new : FsTree) (besides : List ℕ) (before after : History) (bytes left : ℕ)
     → IsSubvolume old before bytes → IsCommitted old new besides → IsBacked new.land.blocks after → bytes ≤ left
     → IsSubvolume new after left
 subvolume-still old new besides before after bytes left subvolume committed backed long = record {
@@ -186,9 +186,9 @@ turns-still old new besides can committed = record {
 -- ---- where the disk tells
 
 module _ (old new : FsTree) (besides : List ℕ) (events later : List Event) (bytes : ℕ) (items : List Item)
-    (names : List (ℕ × Piece)) (table : IsTable old.refs.refs) (subvolume : IsSubvolume old (Some events) bytes)
-    (stands : Stands old (Some events) items names) (committed : IsCommitted old new besides)
-    (writes : WritesTree old (Some events) (Some later)) where
+    (names : List (ℕ × Piece)) (table : IsTable old.refs.refs) (subvolume : IsSubvolume old (Recorded events) bytes)
+    (stands : Stands old (Recorded events) items names) (committed : IsCommitted old new besides)
+    (writes : WritesTree old (Recorded events) (Recorded later)) where
   drafted : IsDrafted old.land old.tree.next
   drafted = subvolume.editable.drafted
 
@@ -228,46 +228,50 @@ module _ (old new : FsTree) (besides : List ℕ) (events later : List Event) (by
 
   -- what the present state has is told as before
   taken_told : (q : ℕ) → has_slot old.land.space q ≡ true
-      → nodes_of new (Some later) q ≡ nodes_of old (Some events) q
+      → nodes_of new (Recorded later) q ≡ nodes_of old (Recorded events) q
   taken_told q has = told-now old new besides events later committed writes q (stands.settled.written q has)
 
-  met_taken : (q : ℕ) → IsMet old (Some events) q → has_slot old.land.space q ≡ true
-  met_taken q met = met-taken old (Some events) bytes items names subvolume stands q met
+  met_taken : (q : ℕ) → IsMet old (Recorded events) q → has_slot old.land.space q ≡ true
+  met_taken q met = met-taken old (Recorded events) bytes items names subvolume stands q met
 
-  nodes_still : (q : ℕ) → IsMet old (Some events) q → nodes_of new (Some later) q ≡ nodes_of old (Some events) q
+  nodes_still : (q : ℕ) → IsMet old (Recorded events) q
+      → nodes_of new (Recorded later) q ≡ nodes_of old (Recorded events) q
   nodes_still q met = taken_told q (met_taken q met)
 
-  by_tree : (tree : Root) → Contains (trees_of old) tree → (q : ℕ) → IsReachedBy old (Some events) tree q
-      → nodes_of new (Some later) q ≡ nodes_of old (Some events) q
+  by_tree : (tree : Root) → Contains (trees_of old) tree → (q : ℕ) → IsReachedBy old (Recorded events) tree q
+      → nodes_of new (Recorded later) q ≡ nodes_of old (Recorded events) q
   by_tree tree has q reached = nodes_still q (record { tree = tree; among = has; reached = reached })
 
   ways_now : (tree : Root) → Contains (trees_of old) tree → (q : ℕ)
-      → ways_in new (Some later) tree q ≡ ways_in old (Some events) tree q
+      → ways_in new (Recorded later) tree q ≡ ways_in old (Recorded events) tree q
   ways_now tree has q =
-      ways-same (nodes_of old (Some events)) (nodes_of new (Some later)) tree.height tree.address (by_tree tree has) q
+      ways-same (nodes_of old (Recorded events)) (nodes_of new (Recorded later)) tree.height tree.address
+      (by_tree tree has) q
 
-  reach_now : (tree : Root) → Contains (trees_of old) tree → (q : ℕ) → IsReachedBy new (Some later) tree q
-      → IsReachedBy old (Some events) tree q
+  reach_now : (tree : Root) → Contains (trees_of old) tree → (q : ℕ) → IsReachedBy new (Recorded later) tree q
+      → IsReachedBy old (Recorded events) tree q
   reach_now tree has q reached =
-      reach-same (nodes_of old (Some events)) (nodes_of new (Some later)) tree.height tree.address (by_tree tree has) q
+      reach-same (nodes_of old (Recorded events)) (nodes_of new (Recorded later)) tree.height tree.address
+      (by_tree tree has) q
       reached
 
-  reach_still : (tree : Root) → Contains (trees_of old) tree → (q : ℕ) → IsReachedBy old (Some events) tree q
-      → IsReachedBy new (Some later) tree q
+  reach_still : (tree : Root) → Contains (trees_of old) tree → (q : ℕ) → IsReachedBy old (Recorded events) tree q
+      → IsReachedBy new (Recorded later) tree q
   reach_still tree has q reached =
-      reach-on (nodes_of old (Some events)) (nodes_of new (Some later)) tree.height tree.address (by_tree tree has) q
+      reach-on (nodes_of old (Recorded events)) (nodes_of new (Recorded later)) tree.height tree.address
+      (by_tree tree has) q
       reached
 
   -- what some tree reaches now it reached
-  met_now : (tree : Root) (q : ℕ) → Contains (trees_of new) tree → IsReachedBy new (Some later) tree q
-      → IsMet old (Some events) q
+  met_now : (tree : Root) (q : ℕ) → Contains (trees_of new) tree → IsReachedBy new (Recorded later) tree q
+      → IsMet old (Recorded events) q
   met_now tree q has reached =
       let back = tree_back tree has in
       record {
         tree = back.0;
         among = back.1;
         reached = reach_now back.0 back.1 q
-            (subst (λ (t : Root). IsReachedBy new (Some later) t q) (sym back.2) reached);
+            (subst (λ (t : Root). IsReachedBy new (Recorded later) t q) (sym back.2) reached);
       }
 
   marks_still : (q : ℕ) → mark_of new q ≡ mark_of old q
@@ -276,10 +280,10 @@ module _ (old new : FsTree) (besides : List ℕ) (events later : List Event) (by
   -- ---- the layout
 
   abbrev leads_new : ℕ → Root → Bool
-  leads_new s tree = nat_lt 0 (ways_in new (Some later) tree s)
+  leads_new s tree = nat_lt 0 (ways_in new (Recorded later) tree s)
 
   abbrev leads_old : ℕ → Root → Bool
-  leads_old s tree = nat_lt 0 (ways_in old (Some events) tree s)
+  leads_old s tree = nat_lt 0 (ways_in old (Recorded events) tree s)
 
   led_same : (s : ℕ) → list_any (leads_new s) (trees_of new) ≡ list_any (leads_old s) (trees_of old)
   led_same s =
@@ -288,20 +292,20 @@ module _ (old new : FsTree) (besides : List ℕ) (events later : List Event) (by
       (λ tree has. ap (λ (n : ℕ). nat_lt 0 n) (ways_now tree has s))
 
   led_told : (s : ℕ) → list_any (leads_old s) (trees_of old) ≡ true
-      → nodes_of new (Some later) s ≡ nodes_of old (Some events) s
+      → nodes_of new (Recorded later) s ≡ nodes_of old (Recorded events) s
   led_told s led =
       let found = one_passes (leads_old s) (trees_of old) led in
       by_tree found.0 found.1 s
-      (reached-some (nodes_of old (Some events)) found.0.height found.0.address s
-      (ltb-true 0 (ways_in old (Some events) found.0 s) found.2))
+      (reached-some (nodes_of old (Recorded events)) found.0.height found.0.address s
+      (ltb-true 0 (ways_in old (Recorded events) found.0 s) found.2))
 
-  placed_still : (s : ℕ) → placed_at new (Some later) s ≡ placed_at old (Some events) s
+  placed_still : (s : ℕ) → placed_at new (Recorded later) s ≡ placed_at old (Recorded events) s
   placed_still s =
-      ap (λ (led : Bool). entry_of led s (nodes_of new (Some later) s) (mark_of new s)) (led_same s)
-      ∙ ap (λ (full : Bool). entry_of (list_any (leads_old s) (trees_of old)) s (nodes_of new (Some later) s) full)
+      ap (λ (led : Bool). entry_of led s (nodes_of new (Recorded later) s) (mark_of new s)) (led_same s)
+      ∙ ap (λ (full : Bool). entry_of (list_any (leads_old s) (trees_of old)) s (nodes_of new (Recorded later) s) full)
       (marks_still s)
-      ∙ entry_same (list_any (leads_old s) (trees_of old)) s (nodes_of new (Some later) s)
-      (nodes_of old (Some events) s) (mark_of old s) (led_told s)
+      ∙ entry_same (list_any (leads_old s) (trees_of old)) s (nodes_of new (Recorded later) s)
+      (nodes_of old (Recorded events) s) (mark_of old s) (led_told s)
 
   abbrev root_pair : Root → ℕ × ℕ
   root_pair tree = (tree.owner, tree.address)
@@ -313,18 +317,18 @@ module _ (old new : FsTree) (besides : List ℕ) (events later : List Event) (by
       ∙ ap (λ (roots : List (ℕ × ℕ)). with_value old.tree.owner old.tree.address roots)
       (map_same anew root_pair old.others.items (λ tree. refl))
 
-  layout_still : layout_in new (Some later) ≡ layout_in old (Some events)
+  layout_still : layout_in new (Recorded later) ≡ layout_in old (Recorded events)
   unfolding layout_in
-  layout_still = layout_alike (layout_in new (Some later)) (layout_in old (Some events))
+  layout_still = layout_alike (layout_in new (Recorded later)) (layout_in old (Recorded events))
       (ap (λ (sizes : Sizes). sizes.nodesize) committed.sizes) roots_still
-      (ap (λ (sizes : Sizes). filter_map (placed_at new (Some later)) (every_slot sizes)) committed.sizes
-      ∙ filter_same (placed_at new (Some later)) (placed_at old (Some events)) (every_slot old.land.space.sizes)
+      (ap (λ (sizes : Sizes). filter_map (placed_at new (Recorded later)) (every_slot sizes)) committed.sizes
+      ∙ filter_same (placed_at new (Recorded later)) (placed_at old (Recorded events)) (every_slot old.land.space.sizes)
       placed_still)
 
   counts_now : (at : ℕ) (reference : Reference)
       → count_at (book_of new.refs.refs) at reference
       + names_times new.tree.owner (filter_map name_told items) at reference
-      ≡ owed_count (layout_in new (Some later)) at reference + names_times new.tree.owner names at reference
+      ≡ owed_count (layout_in new (Recorded later)) at reference + names_times new.tree.owner names at reference
   counts_now at reference =
       let was = stands.counts at reference in
       let count = ap (λ (t : List (ℕ × Kept)). count_at (book_of t) at reference) same_table in
@@ -338,7 +342,7 @@ module _ (old new : FsTree) (besides : List ℕ) (events later : List Event) (by
       ≡ Some (record { bytes = size; level = Some level; generation = old.tree.next + 1 }) → ⊥
   none_newer at level size known =
       let what : What = record { bytes = size; level = Some level; generation = old.tree.next + 1 } in
-      let low = known-low old (Some events) bytes items names subvolume stands table at what known in
+      let low = known-low old (Recorded events) bytes items names subvolume stands table at what known in
       absurd (omega (arith, low))
 
   -- ---- what is settled
@@ -354,17 +358,17 @@ module _ (old new : FsTree) (besides : List ℕ) (events later : List Event) (by
   held_of at has =
       (committed.held_slots at).1 (inl ((committed.slots at).0 ((Contains-has_slot new.land.space at).0 has)))
 
-  clean_now : (at : ℕ) (node : Node) → nodes_of new (Some later) at ≡ Some node
+  clean_now : (at : ℕ) (node : Node) → nodes_of new (Recorded later) at ≡ Some node
       → 0 < references_to (book_of new.refs.refs) at
       → what_in (book_of new.refs.refs at) ≡ Some (what_of new.refs.nodesize (header_of node).generation node)
   clean_now at node there some =
-      let slot = told-slot new.land (Some later) new.tree.next drafted_new at node there in
+      let slot = told-slot new.land (Recorded later) new.tree.next drafted_new at node there in
       let some_old = subst (λ (t : List (ℕ × Kept)). 0 < references_to (book_of t) at) same_table some in
       let has : has_slot old.land.space at ≡ true =
       stands.settled.slots at (subst (λ (sizes : Sizes). IsTrue (is_slot sizes at)) committed.sizes slot)
       ∙ lt-ltb 0 (references_to (book_of old.refs.refs) at) some_old in
       ap (λ (t : List (ℕ × Kept)). what_in (book_of t at)) same_table
-      ∙ known-node old (Some events) bytes items names subvolume stands at node (sym (taken_told at has) ∙ there)
+      ∙ known-node old (Recorded events) bytes items names subvolume stands at node (sym (taken_told at has) ∙ there)
       some_old
       ∙ ap (λ (n : ℕ). Some (what_of n (header_of node).generation node)) (sym book_size)
 
@@ -377,7 +381,7 @@ module _ (old new : FsTree) (besides : List ℕ) (events later : List Event) (by
       ∙ ap (λ (n : ℕ). Some (record { bytes = new.refs.nodesize; level = Some level; generation = n }))
       (ap (λ (refs : TreeRefs). refs.next) committed.refs)))
 
-  settled_now : IsSettled new.refs new.land (Some later)
+  settled_now : IsSettled new.refs new.land (Recorded later)
   settled_now = record {
     slots = slots_now;
     written = λ at has. inr (held_of at has);
@@ -391,14 +395,14 @@ module _ (old new : FsTree) (besides : List ℕ) (events later : List Event) (by
 
   -- a tree that stood stands in the generation to come
   rooted_anew : (tree : Root) → Contains (trees_of old) tree → (own : List Item)
-      → IsRooted Files tree old.land (Some events) own → IsRooted Files (anew tree) new.land (Some later) own
+      → IsRooted Files tree old.land (Recorded events) own → IsRooted Files (anew tree) new.land (Recorded later) own
   rooted_anew tree has own rooted = record {
-    tells = IsTree-same Files (super_of (anew tree) new.land.blocks.draft) (nodes_of old (Some events))
-        (nodes_of new (Some later)) tree.height tree.address own
+    tells = IsTree-same Files (super_of (anew tree) new.land.blocks.draft) (nodes_of old (Recorded events))
+        (nodes_of new (Recorded later)) tree.height tree.address own
         (IsTree-later Files (super_of tree old.land.blocks.draft) (super_of (anew tree) new.land.blocks.draft)
         (ap (λ (sizes : Sizes). sizes.nodesize) (draft_sizes old new besides committed))
-        (let next = next-same old (Some events) bytes items names subvolume stands tree has in omega (arith, next))
-        (nodes_of old (Some events)) tree.height tree.address own rooted.tells)
+        (let next = next-same old (Recorded events) bytes items names subvolume stands tree has in omega (arith, next))
+        (nodes_of old (Recorded events)) tree.height tree.address own rooted.tells)
         (by_tree tree has);
     apart = λ q free reached.
         free-apart new.land.space q free
@@ -408,25 +412,25 @@ module _ (old new : FsTree) (besides : List ℕ) (events later : List Event) (by
     short = rooted.short;
   }
 
-  rooted_now : IsRooted Files new.tree new.land (Some later) items
-  rooted_now = subst (λ (tree : Root). IsRooted Files tree new.land (Some later) items) (sym committed.tree)
+  rooted_now : IsRooted Files new.tree new.land (Recorded later) items
+  rooted_now = subst (λ (tree : Root). IsRooted Files tree new.land (Recorded later) items) (sym committed.tree)
       (rooted_anew old.tree (contains_here old.tree old.others.items) items stands.rooted)
 
   -- it has the same items
   each_still : (tree : Root) → Contains (trees_of old) tree
-      → items_in new (Some later) tree ≡ items_in old (Some events) tree
+      → items_in new (Recorded later) tree ≡ items_in old (Recorded events) tree
   each_still tree has =
-      let own = tree-stands old (Some events) bytes items names subvolume stands tree has in
+      let own = tree-stands old (Recorded events) bytes items names subvolume stands tree has in
       let now = rooted_anew tree has own.items own.rooted in
-      items_told new (Some later) tree own.items now.tells.items_are
-      ∙ sym (items_told old (Some events) tree own.items own.rooted.tells.items_are)
+      items_told new (Recorded later) tree own.items now.tells.items_are
+      ∙ sym (items_told old (Recorded events) tree own.items own.rooted.tells.items_are)
 
-  beside_now : (tree : Root) → Contains new.others.items tree → IsBeside new (Some later) tree
+  beside_now : (tree : Root) → Contains new.others.items tree → IsBeside new (Recorded later) tree
   beside_now tree has =
       let found = from-mapped anew old.others.items tree
       (subst (λ (trees : List Root). Contains trees tree) committed.others has) in
-      let was = other_stands old (Some events) items names stands drafted found.0 found.1 in
-      subst (λ (t : Root). IsBeside new (Some later) t) found.2 (record {
+      let was = other_stands old (Recorded events) items names stands drafted found.0 found.1 in
+      subst (λ (t : Root). IsBeside new (Recorded later) t) found.2 (record {
         items = was.items;
         rooted = rooted_anew found.0 (contains_later old.tree old.others.items found.0 found.1) was.items was.rooted;
         next = sym (next_is old new besides committed);
@@ -440,20 +444,20 @@ module _ (old new : FsTree) (besides : List ℕ) (events later : List Event) (by
 
   -- ---- names
 
-  elsewhere_still : names_elsewhere new (Some later) ≡ names_elsewhere old (Some events)
+  elsewhere_still : names_elsewhere new (Recorded later) ≡ names_elsewhere old (Recorded events)
   unfolding names_elsewhere
   elsewhere_still =
-      let told_new = λ (tree : Root). filter_map name_told (items_in new (Some later) tree) in
-      let told_old = λ (tree : Root). filter_map name_told (items_in old (Some events) tree) in
+      let told_new = λ (tree : Root). filter_map name_told (items_in new (Recorded later) tree) in
+      let told_old = λ (tree : Root). filter_map name_told (items_in old (Recorded events) tree) in
       ap (λ (trees : List Root). flat_map told_new trees) committed.others
       ∙ flat_same anew told_new told_old old.others.items
       (λ tree has. ap (λ (xs : List Item). filter_map name_told xs)
       (each_still tree (contains_later old.tree old.others.items tree has)))
 
-  known_name : (name : ℕ × Piece) → Contains (names ++ names_elsewhere old (Some events)) name
+  known_name : (name : ℕ × Piece) → Contains (names ++ names_elsewhere old (Recorded events)) name
       → IsKnownExtent new.land.space.sizes new.tree.next (book_of new.refs.refs) name.1
   known_name name has =
-      let was = known_of old (Some events) items names stands drafted name has in
+      let was = known_of old (Recorded events) items names stands drafted name has in
       let next = next_is old new besides committed in
       record {
         lies = subst (λ (sizes : Sizes). IsTrue (is_run sizes name.1.extent name.1.extent_bytes))
@@ -464,7 +468,7 @@ module _ (old new : FsTree) (besides : List ℕ) (events later : List Event) (by
       }
 
   abbrev names_now : List (ℕ × Piece)
-  names_now = names ++ names_elsewhere new (Some later)
+  names_now = names ++ names_elsewhere new (Recorded later)
 
   known_now : (i : ℕ) (d : ℕ × Piece) → i < length names_now
       → IsKnownExtent new.land.space.sizes new.tree.next (book_of new.refs.refs) (get_or names_now i d).1
@@ -473,9 +477,9 @@ module _ (old new : FsTree) (besides : List ℕ) (events later : List Event) (by
       (index_among names_now i d inside))
 
   runs_now : (run : Element) → Contains new.land.space.runs run
-      ↔ Contains (extents_named new (Some later) names) run
+      ↔ Contains (extents_named new (Recorded later) names) run
   runs_now run = subst
-      (λ (list : List Element). Contains list run ↔ Contains (extents_named new (Some later) names) run)
+      (λ (list : List Element). Contains list run ↔ Contains (extents_named new (Recorded later) names) run)
       (sym committed.runs)
       (subst (λ (ns : List (ℕ × Piece)). Contains old.land.space.runs run
       ↔ Contains (map (λ (name : ℕ × Piece). extent_of name.1) (names ++ ns)) run) (sym elsewhere_still)
@@ -483,9 +487,10 @@ module _ (old new : FsTree) (besides : List ℕ) (events later : List Event) (by
 
   -- ---- all of it
 
-  home_now : (tree : Root) (q : ℕ) (node : Node) → Contains (trees_of new) tree → IsReachedBy new (Some later) tree q
-      → nodes_of new (Some later) q ≡ Some node → mark_of new q ≡ false
-      → IsAtHome new (Some later) q (header_of node).owner
+  home_now : (tree : Root) (q : ℕ) (node : Node) → Contains (trees_of new) tree
+      → IsReachedBy new (Recorded later) tree q
+      → nodes_of new (Recorded later) q ≡ Some node → mark_of new q ≡ false
+      → IsAtHome new (Recorded later) q (header_of node).owner
   home_now tree q node has reached there bare =
       let met = met_now tree q has reached in
       let home = stands.home met.tree q node met.among met.reached (sym (nodes_still q met) ∙ there)
@@ -497,7 +502,7 @@ module _ (old new : FsTree) (besides : List ℕ) (events later : List Event) (by
         reached = reach_still home.tree home.among q home.reached;
       }
 
-  stands_now : Stands new (Some later) items names
+  stands_now : Stands new (Recorded later) items names
   stands_now = record {
     book = record {
       owner = ap (λ (refs : TreeRefs). refs.tree) committed.refs ∙ stands.book.owner ∙ sym same_owner;
@@ -524,7 +529,7 @@ module _ (old new : FsTree) (besides : List ℕ) (events later : List Event) (by
     runs = runs_now;
   }
 
-  pub stands-still : StandsStill old new (Some events) (Some later) items names
+  pub stands-still : StandsStill old new (Recorded events) (Recorded later) items names
   stands-still = record {
     stands = stands_now;
     reach = λ tree has q. (reach_now tree has q, reach_still tree has q);
@@ -535,18 +540,19 @@ module _ (old new : FsTree) (besides : List ℕ) (events later : List Event) (by
   }
 
 pub stands-committed : (old new : FsTree) (besides : List ℕ) (events later : List Event) (bytes : ℕ)
-    (items : List Item) (names : List (ℕ × Piece)) → IsTable old.refs.refs → IsSubvolume old (Some events) bytes
-    → Stands old (Some events) items names → IsCommitted old new besides
-    → WritesTree old (Some events) (Some later) → StandsStill old new (Some events) (Some later) items names
+    (items : List Item) (names : List (ℕ × Piece)) → IsTable old.refs.refs → IsSubvolume old (Recorded events) bytes
+    → Stands old (Recorded events) items names → IsCommitted old new besides
+    → WritesTree old (Recorded events) (Recorded later)
+    → StandsStill old new (Recorded events) (Recorded later) items names
 stands-committed old new besides events later bytes items names table subvolume stands committed writes =
     stands-still old new besides events later bytes items names table subvolume stands committed writes
 
 -- as the call says it
-pub stands-read : (old new : FsTree) (besides : List ℕ) (events : List Event) (after : Option (List Event)) (bytes : ℕ)
-    (items : List Item) (names : List (ℕ × Piece)) → IsTable old.refs.refs → IsSubvolume old (Some events) bytes
-    → Stands old (Some events) items names → IsCommitted old new besides → WritesTree old (Some events) after
-    → (later : List Event) → after ≡ Some later → StandsStill old new (Some events) after items names
+pub stands-read : (old new : FsTree) (besides : List ℕ) (events : List Event) (after : History) (bytes : ℕ)
+    (items : List Item) (names : List (ℕ × Piece)) → IsTable old.refs.refs → IsSubvolume old (Recorded events) bytes
+    → Stands old (Recorded events) items names → IsCommitted old new besides → WritesTree old (Recorded events) after
+    → (later : List Event) → after ≡ Recorded later → StandsStill old new (Recorded events) after items names
 stands-read old new besides events after bytes items names table subvolume stands committed writes later told =
-    subst (λ (history : Option (List Event)). StandsStill old new (Some events) history items names) (sym told)
+    subst (λ (history : History). StandsStill old new (Recorded events) history items names) (sym told)
     (stands-committed old new besides events later bytes items names table subvolume stands committed
-    (subst (λ (history : Option (List Event)). WritesTree old (Some events) history) told writes))
+    (subst (λ (history : History). WritesTree old (Recorded events) history) told writes))

@@ -1,7 +1,7 @@
 -- What a commit makes of subvolumes' trees (this project's own). Addresses are in bytes.
-use Rattle.std.specs.Prelude.{◌≡◌, ◌⊎◌, ◌↔◌, ℕ, ◌+◌, List, map, Option}
+use Rattle.std.specs.Prelude.{◌≡◌, ◌⊎◌, ◌↔◌, ℕ, ◌+◌, List, map}
 use Rattle.std.specs.List.{Contains}
-use Rattle.qg_device.specs.History.{Event}
+use Rattle.qg_device.specs.History.{History}
 use Rattle.qg_num.specs.declared.piece.Piece.{Piece}
 use Rattle.qg_node.specs.declared.item.Item.{Item}
 use Rattle.qg_blocks.specs.Held.{nothing_fresh}
@@ -15,7 +15,7 @@ use Rattle.qg_fs_layout.specs.Laying.{IsMet}
 
 -- A commit wrote each fresh node where it lies, and in the slots that the last commit holds stands what stood
 -- there
-pub record WritesTree (fs : FsTree) (before after : Option (List Event)) : Type 0 where
+pub record WritesTree (fs : FsTree) (before after : History) : Type 0 where
   pub fresh : AreWritten fs.land.blocks.draft after
   pub held : Keeps fs.land.blocks.draft.sizes before after (λ at. Contains fs.land.space.held_slots at)
 
@@ -41,7 +41,7 @@ pub record IsCommitted (old new : FsTree) (besides : List ℕ) : Type 0 where
 
 -- Trees stand still once the disk was written: with these items and names the one at hand stands, each tree reaches the
 -- same and has the same items, the same is told where some tree reaches, and marks and layout are the same
-pub record StandsStill (old new : FsTree) (before after : Option (List Event)) (items : List Item)
+pub record StandsStill (old new : FsTree) (before after : History) (items : List Item)
     (names : List (ℕ × Piece)) : Type 0 where
   pub stands : Stands new after items names
   pub reach : (tree : Root) → Contains (trees_of old) tree → (q : ℕ)

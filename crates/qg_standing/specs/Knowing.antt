@@ -1,6 +1,6 @@
 -- What is told alike of a subvolume's tree, and what its book knows (this project's own). Addresses are in bytes.
 use Rattle.std.specs.Prelude.{◌≡◌, ℕ, List, Option, Some, None}
-use Rattle.qg_device.specs.History.{Event}
+use Rattle.qg_device.specs.History.{History}
 use Rattle.qg_node.specs.declared.node.Node.{Node}
 use Rattle.qg_node.specs.Nodes.{header_of}
 use Rattle.qg_refs.specs.declared.kept.What.{What}
@@ -22,7 +22,7 @@ generation_in None = 0
 generation_in (Some what) = what.generation
 
 -- a tree's root is told, its level is the tree's height, and the book knows of it level and generation
-pub record KnowsRoot (fs : FsTree) (history : Option (List Event)) : Type 0 where
+pub record KnowsRoot (fs : FsTree) (history : History) : Type 0 where
   pub node : Node
   pub told : nodes_of fs history fs.tree.address ≡ Some node
   pub level : (header_of node).level ≡ fs.tree.height

@@ -2,7 +2,7 @@
 use Rattle.std.specs.Prelude.{◌≡◌, ◌↔◌, ℕ, ◌+◌, ◌≤◌, List, length, map, Some, None, IsTrue, ◌==◌, not}
 use Rattle.std.specs.List.{AllByRecursion, Contains, filter, flat_map, list_all}
 use Rattle.std.specs.List.Sorted.{IsStrictlyIncreasing}
-use Rattle.qg_device.specs.History.{Event, content}
+use Rattle.qg_device.specs.History.{Event, Recorded, content}
 use Rattle.qg_node.specs.declared.node.Node.{Node}
 use Rattle.qg_items.specs.declared.root.RootItem.{RootItem}
 use Rattle.qg_items.specs.declared.tree.TheConstants.{TOP_LEVEL}
@@ -102,8 +102,8 @@ pub record IsOpened (fs : FsTree) (super : Super) (image : List ℕ) : Type 0 wh
 -- its subvolume; and as a layout they are that of the state which the image stands for
 pub record StandsOpened (fs : FsTree) (super : Super) (events : List Event) : Type 0 where
   pub stands : (root : RootItem) → Contains (subvolume_roots (roots_in super (content events))) (TOP_LEVEL, root)
-      → Stands fs (Some events) (items_of_root Files super (content events) root)
+      → Stands fs (Recorded events) (items_of_root Files super (content events) root)
       (names_in (items_of_root Files super (content events) root))
   pub each : (entry : ℕ × RootItem) → Contains (subvolume_roots (roots_in super (content events))) entry
-      → items_in fs (Some events) (opened_tree super entry) ≡ items_of_root Files super (content events) entry.1
-  pub layout : layout_in fs (Some events) ≡ layout_of (state_in super (content events))
+      → items_in fs (Recorded events) (opened_tree super entry) ≡ items_of_root Files super (content events) entry.1
+  pub layout : layout_in fs (Recorded events) ≡ layout_of (state_in super (content events))

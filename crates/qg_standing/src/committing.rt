@@ -1,7 +1,7 @@
 // What a commit makes of subvolumes' trees.
-ghost use Rattle.std.specs.Prelude.{◌≡◌, ◌+◌, ◌^◌, ◌<◌, ◌≤◌, ℕ, List, Option, Some, IsTrue, OnErr, OnOk, map};
+ghost use Rattle.std.specs.Prelude.{◌≡◌, ◌+◌, ◌^◌, ◌<◌, ◌≤◌, ℕ, List, IsTrue, map};
 ghost use Rattle.std.specs.List.{list_all};
-ghost use Rattle.qg_device.specs.History.{Event};
+ghost use Rattle.qg_device.specs.History.{Event, History, Recorded};
 ghost use Rattle.qg_num.specs.declared.piece.Piece.{Piece};
 ghost use Rattle.qg_node.specs.declared.item.Item.{Item};
 ghost use Rattle.qg_blocks.specs.Told.{IsBacked};
@@ -14,7 +14,8 @@ use crate::slots::hold_besides;
 use qg_descent::Tree;
 use qg_disk::Disk;
 use qg_fs_layout::fs_tree::FsTree;
-use qg_num::{Address, Generation, NoMemory};
+use qg_fs_layout::tree_refs::BookCopy;
+use qg_num::{Address, Generation};
 
 /// The tree stands for the generation `next` to come.
 fn for_generation(tree: &Tree, next: Generation) -> Tree
@@ -34,30 +35,29 @@ fn stand_for(trees: &mut [Tree], next: Generation)
 
 /// A commit has written the fresh nodes to the disk: they are clean from now on, and the trees stand for the generation
 /// to come. The commit holds the slots of the present state, and `others` besides, where the root, extent and quota
-/// trees lie. It is done whole, or memory is refused and nothing changes.
-pub fn committed<D: Disk>(fs: &mut FsTree, disk: &D, others: &[Address]) -> Result<(), NoMemory>
+/// trees lie. It recorded the references, of which `copy` is a copy. It is done whole, and takes no memory.
+pub fn committed<D: Disk>(fs: &mut FsTree, disk: &D, others: &[Address], copy: BookCopy)
     requires backed { IsBacked fs.old.land.blocks (D.history disk.now) }
     requires written { AreWritten fs.old.land.blocks.draft (D.history disk.now) }
     requires free { IsTrue (list_all (is_free_slot fs.old.land.space) others.now) }
     requires later { fs.old.tree.next + 1 < 2 ^ 64 }
-    ensures committed { OnOk result (IsCommitted fs.old fs.new others.now) }
-    ensures subvolume { (before : Option (List Event)) (bytes : ℕ) → IsSubvolume fs.old before bytes
+    requires copy { copy ≡ fs.old.refs.refs }
+    ensures committed { IsCommitted fs.old fs.new others.now }
+    ensures subvolume { (before : History) (bytes : ℕ) → IsSubvolume fs.old before bytes
         → bytes ≤ D.size disk.now
-        → OnOk result (IsSubvolume fs.new (D.history disk.now) (D.size disk.now)) }
-    ensures turns { CanTurn fs.old → OnOk result (CanTurn fs.new) }
+        → IsSubvolume fs.new (D.history disk.now) (D.size disk.now) }
+    ensures turns { CanTurn fs.old → CanTurn fs.new }
     ensures stands { (events : List Event) (bytes : ℕ) (items : List Item) (names : List (ℕ × Piece))
-        → IsSubvolume fs.old (Some events) bytes → Stands fs.old (Some events) items names
-        → WritesTree fs.old (Some events) (D.history disk.now) → (later : List Event)
-        → D.history disk.now ≡ Some later
-        → OnOk result (StandsStill fs.old fs.new (Some events) (D.history disk.now) items names) }
-    ensures err { OnErr result (fs.new ≡ fs.old) }
+        → IsSubvolume fs.old (Recorded events) bytes → Stands fs.old (Recorded events) items names
+        → WritesTree fs.old (Recorded events) (D.history disk.now) → (later : List Event)
+        → D.history disk.now ≡ Recorded later
+        → StandsStill fs.old fs.new (Recorded events) (D.history disk.now) items names }
 {
     let _ascending = fs.refs.refs().len();
     let next = Generation::new(fs.tree.next().value() + 1);
-    fs.refs.recorded(next)?;
+    fs.refs.recorded(copy, next);
     hold_besides(&mut fs.land.space, others);
     fs.land.blocks.written(disk);
     fs.tree = for_generation(&fs.tree, next);
     stand_for(fs.others.as_mut_slice(), next);
-    Ok(())
 }

@@ -5,7 +5,7 @@ use Rattle.std.specs.Prelude.{All, not}
 use Rattle.std.specs.List.Sorted.{IsPermutation}
 use Rattle.std.proofs.lemmas.List.Elements.{All-contains, Contains-get_or, filter_passes}
 use Rattle.std.proofs.lemmas.List.Sorted.{Contains-permutation}
-use Rattle.std.proofs.lemmas.Option.{same_Some}
+use Rattle.qg_device.proofs.Histories.{same_Recorded}
 use Rattle.qg_device.specs.History.{Event, Synced, content}
 use Rattle.qg_node.specs.declared.node.Node.{Node}
 use Rattle.qg_super.specs.declared.sizes.Sizes.{Sizes}
@@ -50,7 +50,7 @@ whole-front : (super : Super) (nodes : List Node) (events : List Event)
 whole-front super nodes events =
     let made = all-made super nodes events in
     subst (λ (after : List Event). IsFront (commit_calls super nodes) events after)
-    (sym (same_Some (with_commit super nodes events) made.after made.told)) made.front
+    (sym (same_Recorded (with_commit super nodes events) made.after made.told)) made.front
 
 -- a commit was made, and then others came so far
 one-then : (held : Committed) (state : State) (states : List State) (super : Super) (nodes : List Node)

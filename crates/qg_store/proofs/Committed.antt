@@ -1,14 +1,16 @@
 -- What was pending is committed before a structural command makes its change, and the slots that this leaves.
 use Rattle.std.proofs.Common.{◌≡◌, ℕ, zero, suc, ◌+◌, ◌*◌, ◌^◌, ◌<◌, ◌≤◌, Bool, true, false, List, [], ◌∷◌, ◌++◌}
-use Rattle.std.proofs.Common.{length, Option, Some, None, arith, refl, sym, ap, subst, ◌∙◌, inl, inr}
-use Rattle.std.specs.Prelude.{◌⊎◌, ◌||◌, IfOk, MatchBool, MatchOption, OnOk, Result, Ok, Err}
+use Rattle.std.proofs.Common.{length, Option, None, arith, refl, sym, ap, subst, ◌∙◌, inl, inr}
+use Rattle.std.specs.Prelude.{◌⊎◌, ◌||◌, IfErr, IfOk, MatchBool, MatchOption, OnErr, OnOk, Result, Ok, Err}
 use Rattle.std.proofs.lemmas.Bool.{cond-true, le-ltb, lt-ltb}
 use Rattle.std.proofs.lemmas.List.Folds.{list_any-append}
-use Rattle.qg_device.specs.History.{Event}
+use Rattle.qg_device.specs.History.{Event, History, Recorded}
 use Rattle.qg_num.specs.declared.answer.Answer.TheVariants as answer
 use Rattle.qg_num.specs.declared.command.Command.TheVariants as command
+use Rattle.qg_num.specs.declared.fault.BlockFault.{BlockFault}
 use Rattle.qg_num.specs.declared.refusal.Refusal.{Refusal}
 use Rattle.qg_num.specs.declared.refusal.Refusal.TheVariants as why
+use Rattle.qg_node.specs.declared.node.Node.{Node}
 use Rattle.qg_super.specs.declared.sizes.Sizes.{Sizes}
 use Rattle.qg_super.specs.declared.superblock.Super.{Super}
 use Rattle.qg_super.specs.Places.{capacity}
@@ -20,7 +22,7 @@ use Rattle.qg_machine.specs.Refusals.{is_pending, last_generation, no_generation
 use Rattle.qg_machine.specs.Step.{Commits, CommitsPending}
 use Rattle.qg_machine.specs.Step as machine
 use Rattle.qg_refs.specs.declared.kept.Kept.{Kept as Reference}
-use Rattle.qg_kept_commit.specs.Calls.{with_commit}
+use Rattle.qg_kept_commit.specs.Calls.{Call, with_commit}
 use Rattle.qg_weighed.specs.Laws.{is_among}
 use Rattle.qg_weighed.specs.Weight.{records_in, weight_of}
 use Rattle.qg_weighed.proofs.Distinct.{bytes-alike}
@@ -32,8 +34,10 @@ use Rattle.qg_groups.proofs.Recounted.{recounted-self}
 use Rattle.qg_kept_commit.specs.Types.{Kept}
 use Rattle.qg_kept_commit.specs.Keeping.{IsFitted, IsKeptOf, book_weight, commit_need, filled_by, quota_weight}
 use Rattle.qg_kept_commit.specs.Keeping.{root_weight, structural_need_of}
-use Rattle.qg_kept_commit.specs.Planning.{CommitsOn, LeavesRoom, StartsCommitOf}
-use Rattle.qg_store.specs.Structural.{HasCommitted, IsDoneFirst, IsSettledFrom}
+use Rattle.qg_kept_commit.specs.Planning.{CommitsOfSoFar, CommitsOn, LeavesRoom}
+use Rattle.qg_kept_commit.specs.Making.{CommitsSoFar}
+use Rattle.qg_kept_commit.specs.Stored.{StaysLast, StopsPending}
+use Rattle.qg_store.specs.Structural.{HasCommitted, IsSettledFrom}
 use Rattle.qg_kept_changes.specs.Changing.{HasRoom}
 use Rattle.qg_kept_commit.proofs.OnOff.{bytes-recounted, roots-recounted}
 use Rattle.qg_kept_changes.proofs.HowMany.{generation-told}
@@ -142,7 +146,7 @@ settled-same kept none = record {
   snapshots = refl;
   groups = recounted-self (quota_of kept.quota);
   owner = refl;
-  last = inl refl;
+  last = inl (none, refl);
 }
 
 pub settled-committed : (old new : Kept) → 0 < old.pending → LeavesRoom old new → IsSettledFrom old new
@@ -156,13 +160,13 @@ settled-committed old new some leaves = record {
 
 -- ---- where it is kept of a state
 
-module _ (kept : Kept) (state : State) (events : List Event) (history : Option (List Event)) (fits : IsFitted kept)
+module _ (kept : Kept) (state : State) (events : List Event) (history : History) (fits : IsFitted kept)
     (keeps : IsKeptOf kept state history) where
   -- nothing was pending
   none_pending : kept.pending ≡ 0 → is_pending state ≡ false
   none_pending none = let many = keeps.pending in le-ltb 0 (length state.pending) (omega (arith, many, none))
 
-  pub committed-none : history ≡ Some events → kept.pending ≡ 0 → HasCommitted state kept events history
+  pub committed-none : history ≡ Recorded events → kept.pending ≡ 0 → HasCommitted state kept events history
   committed-none told none = record {
     before = state;
     earlier = [];
@@ -194,9 +198,11 @@ module _ (kept : Kept) (state : State) (events : List Event) (history : Option (
   unrefused some early =
       cond-true (is_pending state) (no_generation state) None (some_pending some) ∙ early_told early
 
-  pub starts-pending : (after : Option (List Event)) → 0 < kept.pending → kept.superblock.generation ≤ 2 ^ 63
-      → (after ≡ Some events) ⊎ StartsCommitOf state events after → IsDoneFirst state events after
-  starts-pending after some early done = elim done [
+  pub so-far-pending : (calls : Super → List Node → List Call) (after : History) → 0 < kept.pending
+      → kept.superblock.generation ≤ 2 ^ 63
+      → (after ≡ Recorded events) ⊎ CommitsOfSoFar calls state events after
+      → (after ≡ Recorded events) ⊎ CommitsSoFar calls state events after
+  so-far-pending calls after some early done = elim done [
     | inl none ↦ inl none
     | inr starts ↦ inr (record {
       new = starts.new;
@@ -212,7 +218,7 @@ module _ (kept : Kept) (state : State) (events : List Event) (history : Option (
     })
   ]
 
-  pub committed-some : (new : Kept) (after : Option (List Event)) → 0 < kept.pending
+  pub committed-some : (new : Kept) (after : History) → 0 < kept.pending
       → CommitsOn state new events after → HasCommitted state new events after
   committed-some new after some done = record {
     before = done.new;
@@ -225,6 +231,19 @@ module _ (kept : Kept) (state : State) (events : List Event) (history : Option (
   }
 
 -- ---- what is said of a result
+
+pub on-err-then : {A E : Type 0} (P Q : Type 0) (result : Result A E) → (P → Q) → OnErr result P → OnErr result Q
+on-err-then P Q (Ok value) then said = tt
+on-err-then P Q (Err fault) then said = then said
+
+-- what was pending was not committed whole
+pub stays-last : (old new : Kept) (before after : History) (result : Result Unit BlockFault)
+    → IfErr result (λ fault. new.superblock ≡ old.superblock)
+    → ((state : State) (events : List Event) → IsKeptOf old state before → before ≡ Recorded events
+    → OnErr result (StopsPending state events after))
+    → IfErr result (λ fault. StaysLast StopsPending old new before after)
+stays-last old new before after (Ok done) same unmade = tt
+stays-last old new before after (Err fault) same unmade = record { superblock = same; unmade = unmade }
 
 pub on-if : {A E : Type 0} (P Q : Type 0) (result : Result A E) → (P → Q) → IfOk result (λ done. P)
     → OnOk result Q

@@ -2,7 +2,7 @@
 use Rattle.std.proofs.Common.{◌≡◌, ◌∙◌, inl, inr, ℕ, true, List, [], ◌∷◌, ◌++◌, length, None, Option, Some}
 use Rattle.std.proofs.Common.{arith, refl, sym, ap, subst}
 use Rattle.std.specs.Prelude.{IfOk, MatchOption, Result, Ok, Err}
-use Rattle.qg_device.specs.History.{Event}
+use Rattle.qg_device.specs.History.{Event, History, Recorded}
 use Rattle.qg_num.specs.declared.answer.Answer.{Answer}
 use Rattle.qg_num.specs.declared.answer.Answer.TheVariants as answer
 use Rattle.qg_num.specs.declared.command.Command.{Command}
@@ -26,9 +26,9 @@ use Rattle.qg_store.proofs.Synced.{held_after}
 -- ---- how far the commits of a command came
 
 pub record IsBegun (old : State) (command : Command) (committed : State) (events : List Event)
-    (history : Option (List Event)) : Type 0 where
+    (history : History) : Type 0 where
   pub after : List Event
-  pub told : history ≡ Some after
+  pub told : history ≡ Recorded after
   pub commits : List State
   pub are : AreCommitsOf old command commits
   pub later : AreLater committed commits
@@ -43,9 +43,9 @@ pending-by old new None does = does.1
 pending-by old new (Some reason) does =
     let wrong : answer.Commit new.generation ≡ answer.Refused reason = does.0 in absurd cc
 
-module _ (old : State) (command : Command) (committed : State) (events : List Event) (history : Option (List Event))
+module _ (old : State) (command : Command) (committed : State) (events : List Event) (history : History)
     (last : IsLastCommit committed old) where
-  none-begun : history ≡ Some events → IsBegun old command committed events history
+  none-begun : history ≡ Recorded events → IsBegun old command committed events history
   none-begun told =
       record { after = events; told = told; commits = []; are = inl refl; later = tt; made = refl }
 

@@ -5,7 +5,7 @@ use Rattle.std.specs.Prelude.{◌||◌, ◌&&◌, ◌==◌, is_some, length, nat
 use Rattle.std.specs.List.{list_any}
 use Rattle.std.proofs.lemmas.Bool.{eq-eqb, ne_eqb, true≢false}
 use Rattle.std.proofs.lemmas.Option.{none-some}
-use Rattle.qg_device.specs.History.{Event}
+use Rattle.qg_device.specs.History.{History}
 use Rattle.qg_num.specs.declared.command.Command.{Command}
 use Rattle.qg_num.specs.declared.command.Command.TheVariants.{Delete, Snap, SubCreate}
 use Rattle.qg_num.specs.declared.command.Command.TheVariants as command
@@ -62,7 +62,7 @@ found-last (Some x ∷ first) last none = absurd (none-some x (sym none))
 
 -- ---- what is refused of lists alone
 
-module _ (kept : Kept) (state : State) (history : Option (List Event)) (fits : IsFitted kept)
+module _ (kept : Kept) (state : State) (history : History) (fits : IsFitted kept)
     (keeps : IsKeptOf kept state history) where
   pub create-early : too_many_refusal kept 0 ≡ Some why.TooMany → refusal state SubCreate ≡ Some why.TooMany
   unfolding refusal
@@ -176,7 +176,7 @@ module _ (kept : Kept) (state : State) (history : Option (List Event)) (fits : I
 
 -- ---- the last two
 
-module _ (kept : Kept) (state : State) (history : Option (List Event)) (bytes : ℕ) (fits : IsKept kept history bytes)
+module _ (kept : Kept) (state : State) (history : History) (bytes : ℕ) (fits : IsKept kept history bytes)
     (keeps : IsKeptOf kept state history) (table : IsTable kept.fs.refs.refs) where
   need_told : (copies : ℕ) → structural_need state copies ≡ structural_need_of kept copies
   need_told copies =

@@ -3,7 +3,7 @@ use Rattle.std.proofs.Common.{◌≡◌, ℕ, ◌≤◌, Bool, true, false, List
 use Rattle.std.proofs.Common.{◌⊎◌, inl, inr}
 use Rattle.std.specs.Prelude.{⊤, IsTrue, nat_lt, if◌then◌else◌}
 use Rattle.std.specs.List.{flat_map}
-use Rattle.qg_device.specs.History.{Event, Synced, content}
+use Rattle.qg_device.specs.History.{Event, History, Recorded, Synced, content}
 use Rattle.qg_super.specs.declared.sizes.Sizes.{Sizes}
 use Rattle.qg_super.specs.declared.superblock.Super.{Super}
 use Rattle.qg_super.specs.Places.{first_place, is_served, second_place, total_bytes}
@@ -28,7 +28,7 @@ use Rattle.qg_kept_commit.specs.Keeping.{IsFitted, IsKeptOf}
 
 -- ---- where the same is told
 
-module _ (fs : FsTree) (before after : Option (List Event)) (state : State) (mine : Subvolume)
+module _ (fs : FsTree) (before after : History) (state : State) (mine : Subvolume)
     (files : List (ℕ × File)) (alike : (q : ℕ) → nodes_of fs after q ≡ nodes_of fs before q)
     (keeps : KeepsState fs before state mine files) where
   still : StandsStill fs fs before after (flat_map items_of_file files) (named files)
@@ -56,7 +56,7 @@ module _ (fs : FsTree) (before after : Option (List Event)) (state : State) (min
   }
 
 -- what is kept is kept of its state over a disk that tells the same
-pub kept-told : (kept : Kept) (before after : Option (List Event)) (state : State)
+pub kept-told : (kept : Kept) (before after : History) (state : State)
     → ((q : ℕ) → nodes_of kept.fs after q ≡ nodes_of kept.fs before q)
     → IsKeptOf kept state before → IsKeptOf kept state after
 kept-told kept before after state alike keeps = record {
@@ -97,10 +97,11 @@ module _ (sizes whole : Sizes) (super : Super) (events : List Event) (served : I
     (long : total_bytes whole ≤ length (content events)) where
   -- nothing in slots is changed by it
   pub repair-keeps : (first second : Option Super) (place : Option ℕ) → place ≡ stale_place first second
-      → Keeps sizes (Some events) (Some (with_repair super place (Synced ∷ events))) (λ at. ⊤)
+      → Keeps sizes (Recorded events) (Recorded (with_repair super place (Synced ∷ events))) (λ at. ⊤)
   repair-keeps first second None is = syncs-keep sizes events
   repair-keeps first second (Some place) is =
-      Keeps-then sizes (Some events) (Some (Synced ∷ events)) (Some (with_repair super (Some place) (Synced ∷ events)))
+      Keeps-then sizes (Recorded events) (Recorded (Synced ∷ events))
+      (Recorded (with_repair super (Some place) (Synced ∷ events)))
       (λ at. ⊤) (syncs-keep sizes events)
       (superblocks-keep sizes whole super place (Synced ∷ events) served nodesize slots long
       (stale-is first second place (sym is)))
@@ -110,10 +111,10 @@ pub kept-repaired : (kept : Kept) (whole : Sizes) (super : Super) (events : List
     (place : Option ℕ) (state : State) → IsTrue (is_served whole)
     → kept.fs.land.blocks.draft.sizes.nodesize ≡ whole.nodesize → kept.fs.land.blocks.draft.sizes.slots ≡ whole.slots
     → total_bytes whole ≤ length (content events) → place ≡ stale_place first second
-    → IsKeptOf kept state (Some events) → IsKeptOf kept state (Some (with_repair super place (Synced ∷ events)))
+    → IsKeptOf kept state (Recorded events) → IsKeptOf kept state (Recorded (with_repair super place (Synced ∷ events)))
 kept-repaired kept whole super events first second place state served nodesize slots long stale keeps =
-    kept-told kept (Some events) (Some (with_repair super place (Synced ∷ events))) state
-    (told-alike kept.fs kept.fs (Some events) (with_repair super place (Synced ∷ events)) refl
+    kept-told kept (Recorded events) (Recorded (with_repair super place (Synced ∷ events))) state
+    (told-alike kept.fs kept.fs (Recorded events) (with_repair super place (Synced ∷ events)) refl
     (repair-keeps kept.fs.land.blocks.draft.sizes whole super events served nodesize slots long first second place
     stale)) keeps
 
@@ -121,7 +122,7 @@ kept-repaired kept whole super events first second place state served nodesize s
 pub kept-reopened : (kept : Kept) (super : Super) (events : List Event) (first second : Option Super)
     (place : Option ℕ) (state : State) → IsTrue (is_super super) → IsFitted kept → kept.superblock ≡ super
     → total_bytes (sizes_of super) ≤ length (content events) → place ≡ stale_place first second
-    → IsKeptOf kept state (Some events) → IsKeptOf kept state (Some (with_repair super place (Synced ∷ events)))
+    → IsKeptOf kept state (Recorded events) → IsKeptOf kept state (Recorded (with_repair super place (Synced ∷ events)))
 kept-reopened kept super events first second place state fits fitted same long stale keeps =
     let sizes : kept.fs.land.space.sizes ≡ sizes_of super = fitted.sizes ∙ ap sizes_of same in
     kept-repaired kept (sizes_of super) super events first second place state (SuperFits-is_super super fits).served

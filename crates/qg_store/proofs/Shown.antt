@@ -1,7 +1,7 @@
 -- What the machine does where the counters are shown, by what is kept.
 use Rattle.std.proofs.Common.{◌≡◌, [], None, Some, Option, refl, sym, ap, subst, ◌∙◌}
 use Rattle.std.specs.Prelude.{List, MatchOption, is_some, not}
-use Rattle.qg_device.specs.History.{Event}
+use Rattle.qg_device.specs.History.{History}
 use Rattle.qg_num.specs.declared.answer.Answer.{Answer}
 use Rattle.qg_num.specs.declared.answer.Answer.TheVariants.{Refused, Shown}
 use Rattle.qg_num.specs.declared.command.Command.TheVariants.{Show}
@@ -32,7 +32,7 @@ told_so state reply (Some quota) on is =
     (is ∙ ap (λ (o : Option Quota). Shown (rows_of o)) (sym on), (refl, refl))
 
 -- the state stays
-pub does_show : (kept : Kept) (state : State) (reply : Answer) (history : Option (List Event))
+pub does_show : (kept : Kept) (state : State) (reply : Answer) (history : History)
     → IsKeptOf kept state history → reply ≡ shown (quota_of kept.quota) → Answered state Show reply [] kept history
 does_show kept state reply history keeps is = record {
   new = state;

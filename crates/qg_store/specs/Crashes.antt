@@ -1,6 +1,6 @@
 -- What a crash leaves of what a command did to the disk, and in which commit the disk rests then (this project's own).
-use Rattle.std.specs.Prelude.{◌≡◌, ◌⊎◌, ℕ, List, [], ◌∷◌, length, map, None, Option, Some, Result, IfOk, IsTrue}
-use Rattle.qg_device.specs.History.{Event}
+use Rattle.std.specs.Prelude.{◌≡◌, ◌⊎◌, ℕ, List, [], ◌∷◌, length, map, None, Result, IfOk, IsTrue}
+use Rattle.qg_device.specs.History.{Event, History, Recorded}
 use Rattle.qg_num.specs.declared.answer.Answer.{Answer}
 use Rattle.qg_num.specs.declared.command.Command.{Command}
 use Rattle.qg_num.specs.declared.fault.Stop.{Stop}
@@ -56,9 +56,9 @@ AreCommitsOf old command commits = (commits ≡ []) ⊎ (CommitsFirst old comman
 
 -- Whatever a crash leaves since a command began stands for the last commit before it, or for one that the command makes
 pub record CommitsBy (old : State) (command : Command) (committed : State) (events : List Event)
-    (history : Option (List Event)) : Type 0 where
+    (history : History) : Type 0 where
   pub after : List Event
-  pub told : history ≡ Some after
+  pub told : history ≡ Recorded after
   pub commits : List State
   pub are : AreCommitsOf old command commits
   pub leaves : LeavesOneOf (length events) committed commits after
@@ -67,7 +67,7 @@ pub record CommitsBy (old : State) (command : Command) (committed : State) (even
 -- what the command commits, of which a crash in the midst of it left one or the last commit before it, and rests in the
 -- last of these: the next command begins over that
 pub record StillRests (old : State) (command : Command) (reply : Answer) (committed : State) (kept : Kept)
-    (events : List Event) (history : Option (List Event)) : Type 0 where
+    (events : List Event) (history : History) : Type 0 where
   pub commits : List State
   pub answered : Answered old command reply commits kept history
   pub made : MadeCommits old.held commits events history
@@ -79,6 +79,6 @@ pub record StillRests (old : State) (command : Command) (reply : Answer) (commit
 -- commit, or for one that the command makes, whatever is answered; and where the command is answered, the disk rests
 -- again
 pub record OutlivesCommand (old : State) (command : Command) (committed : State) (events : List Event)
-    (history : Option (List Event)) (result : Result Answer Stop) (kept : Kept) : Type 0 where
+    (history : History) (result : Result Answer Stop) (kept : Kept) : Type 0 where
   pub crashes : CommitsBy old command committed events history
   pub rests : IfOk result (λ reply. StillRests old command reply committed kept events history)

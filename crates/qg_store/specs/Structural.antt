@@ -1,15 +1,19 @@
 -- Why a structural command is refused at last, and what it finds that was pending (this project's own).
-use Rattle.std.specs.Prelude.{◌⊎◌, ◌+◌, Some, ◌≡◌, ℕ, ◌<◌, not, List, [], ◌∷◌, Option, nat_lt}
-use Rattle.qg_device.specs.History.{Event}
+use Rattle.std.specs.Prelude.{◌⊎◌, ◌+◌, ◌≡◌, ℕ, ◌<◌, not, List, [], ◌∷◌, OnOk, Option, Result, nat_lt}
+use Rattle.qg_device.specs.History.{Event, History, Recorded, history_after}
+use Rattle.qg_num.specs.declared.fault.BlockFault.{BlockFault}
 use Rattle.qg_num.specs.declared.refusal.Refusal.{Refusal}
 use Rattle.qg_num.specs.declared.refusal.Refusal.TheVariants as why
+use Rattle.qg_node.specs.declared.node.Node.{Node}
 use Rattle.qg_image.specs.ItemMeaning.{first_some}
 use Rattle.qg_image.specs.Table.{has_key}
 use Rattle.qg_image.specs.State.{State}
 use Rattle.qg_machine.specs.Refusals.{last_generation, refuse}
 use Rattle.qg_machine.specs.Step.{CommitsPending}
 use Rattle.qg_groups.specs.Tracked.{SameButCounts, quota_of}
+use Rattle.qg_blocks.specs.Told.{IfBroken}
 use Rattle.qg_space.specs.Holding.{free_slots}
+use Rattle.qg_kept_commit.specs.Calls.{with_commit}
 use Rattle.qg_kept_commit.specs.Types.{Kept}
 use Rattle.qg_kept_commit.specs.Keeping.{IsKeptOf, structural_need_of}
 use Rattle.qg_kept_commit.specs.Making.{Makes, StartsCommit}
@@ -31,8 +35,16 @@ commit_refusal kept copies = first_some
 -- ---- what is done first
 
 -- nothing was done, or the calls of a commit of what was pending came so far
-abbrev pub IsDoneFirst : State → List Event → Option (List Event) → Type 0
-IsDoneFirst old events history = (history ≡ Some events) ⊎ StartsCommit old events history
+abbrev pub IsDoneFirst : State → List Event → History → Type 0
+IsDoneFirst old events history = (history ≡ Recorded events) ⊎ StartsCommit old events history
+
+-- Over a disk that tells or not: where nothing was pending, nothing was done; else all calls of a commit, or none where
+-- a rule of the image was found broken
+pub record CallsPending (old new : Kept) (before after : History) (result : Result Unit BlockFault) : Type 0 where
+  pub none : old.pending ≡ 0 → after ≡ before
+  pub calls : OnOk result (0 < old.pending → (nodes : List Node)
+      × (after ≡ history_after (with_commit new.superblock nodes) before))
+  pub intact : IfBroken result (after ≡ before)
 
 -- ---- what was pending
 
@@ -43,16 +55,16 @@ pub record IsSettledFrom (old new : Kept) : Type 0 where
   pub snapshots : new.snapshots ≡ old.snapshots
   pub groups : SameButCounts (quota_of old.quota) (quota_of new.quota)
   pub owner : new.fs.tree.owner ≡ old.fs.tree.owner
-  pub last : (new.superblock ≡ old.superblock)
+  pub last : ((old.pending ≡ 0) × (new.superblock ≡ old.superblock))
       ⊎ (0 < old.pending) × (new.superblock.generation ≡ old.superblock.generation + 1)
 
 -- What was pending of a state is committed, by calls that the disk was given, and what is kept is that of the state
 -- afterwards
-pub record HasCommitted (old : State) (kept : Kept) (events : List Event) (history : Option (List Event)) : Type 0 where
+pub record HasCommitted (old : State) (kept : Kept) (events : List Event) (history : History) : Type 0 where
   pub before : State
   pub earlier : List State
   pub first : CommitsPending old earlier before
   pub keeps : IsKeptOf kept before history
   pub between : List Event
-  pub told : history ≡ Some between
+  pub told : history ≡ Recorded between
   pub made : Makes old.held earlier events between

@@ -1,16 +1,16 @@
 // Quota is turned on or off, and groups, relations and limits change.
-ghost use Rattle.std.specs.Prelude.{◌≡◌, ◌≤◌, IfErr, IfOk, IsTrue, List, Some};
+ghost use Rattle.std.specs.Prelude.{◌≡◌, ◌≤◌, IfErr, IfOk, IsTrue, List};
 ghost use Rattle.qg_device.specs.Cause.{HasCause};
-ghost use Rattle.qg_device.specs.History.{Event};
+ghost use Rattle.qg_device.specs.History.{Event, Recorded};
 ghost use Rattle.qg_num.specs.declared.answer.Answer.TheVariants.{Done};
 ghost use Rattle.qg_super.specs.SuperText.{sizes_of};
 ghost use Rattle.qg_image.specs.State.{State};
-ghost use Rattle.qg_blocks.specs.Told.{BreaksNone};
+ghost use Rattle.qg_blocks.specs.Told.{BreaksNone, IfBroken};
 ghost use Rattle.qg_groups.specs.Changing.{is_group_command};
 ghost use Rattle.qg_kept_commit.specs.Answering.{AnswersOn, IsDoneSoFar, is_unchanging};
 ghost use Rattle.qg_kept_commit.specs.Editing.{HasLooked};
 ghost use Rattle.qg_kept_commit.specs.Keeping.{IsFitted, IsKept, IsKeptOf};
-ghost use Rattle.qg_kept_commit.specs.Stored.{KnowsLast};
+ghost use Rattle.qg_kept_commit.specs.Stored.{IsIntact, KnowsLast};
 ghost use Rattle.qg_kept_changes.specs.Changing.{group_copies};
 
 use crate::structural::{COPIES, commit_pending, no_commit};
@@ -34,17 +34,19 @@ pub(crate) fn regroup<D: Disk, L: Ledger>(
     requires group { IsTrue (is_group_command command.now) }
     ensures kept { IfOk result (λ answer. IsKept kept.new (D.history disk.new) (D.size disk.new)) }
     ensures step { (state : State) (events : List Event) → IsKeptOf kept.old state (D.history disk.old)
-        → D.history disk.old ≡ Some events
+        → D.history disk.old ≡ Recorded events
         → IfOk result (λ answer. AnswersOn state command.now answer kept.new events (D.history disk.new)) }
     ensures so_far { (state : State) (events : List Event) → IsKeptOf kept.old state (D.history disk.old)
-        → D.history disk.old ≡ Some events
+        → D.history disk.old ≡ Recorded events
         → IsDoneSoFar state command.now events (D.history disk.new) }
-    ensures sound { (state : State) (events : List Event) → D.history disk.old ≡ Some events
+    ensures sound { (state : State) (events : List Event) → D.history disk.old ≡ Recorded events
         → IsKeptOf kept.old state (D.history disk.old) → BreaksNone result }
     ensures refused { IfOk result (λ answer. IsTrue (is_unchanging answer) → HasLooked kept.old kept.new
         (D.history disk.old) (D.history disk.new) (D.size disk.old) (D.size disk.new)) }
     ensures err { IfErr result
         (λ fault. KnowsLast command.now kept.old kept.new (D.history disk.old) (D.history disk.new)) }
+    ensures intact { IfBroken result
+        (IsIntact command.now kept.old kept.new (D.history disk.old) (D.history disk.new)) }
     ensures sizes { (sizes_of kept.new.superblock ≡ sizes_of kept.old.superblock)
         × (D.size disk.old ≤ D.size disk.new) }
     ensures cause { HasCause BlockFault.Disk (D.faults disk.old) (D.faults disk.new) result }

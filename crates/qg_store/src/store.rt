@@ -1,7 +1,7 @@
 // The store, and its one step.
-ghost use Rattle.std.specs.Prelude.{◌≡◌, ◌<◌, ◌≤◌, ◌∷◌, List, None, Some, IfOk, IfErr, IsTrue};
+ghost use Rattle.std.specs.Prelude.{◌≡◌, ◌<◌, ◌≤◌, ◌∷◌, List, None, IfOk, IfErr, IsTrue};
 ghost use Rattle.qg_device.specs.Cause.{HasCause};
-ghost use Rattle.qg_device.specs.History.{Event, Synced, content};
+ghost use Rattle.qg_device.specs.History.{Event, Recorded, Synced, content};
 ghost use Rattle.qg_num.specs.declared.answer.Answer.{Answer};
 ghost use Rattle.qg_num.specs.declared.command.Command.TheVariants.{Commit};
 ghost use Rattle.qg_num.specs.Fault.{stop_of};
@@ -11,7 +11,7 @@ ghost use Rattle.qg_grammar.specs.ScriptText.{is_in_grammar};
 ghost use Rattle.qg_image.specs.State.{State};
 ghost use Rattle.qg_image.specs.StateOf.{StateOf};
 ghost use Rattle.qg_image.specs.Verdict.{verdict};
-ghost use Rattle.qg_blocks.specs.Told.{BreaksNone};
+ghost use Rattle.qg_blocks.specs.Told.{BreaksNone, IfBroken};
 ghost use Rattle.qg_walk.specs.Fault.{TellsFailure};
 ghost use Rattle.qg_crashes.specs.Outcomes.{Rests};
 ghost use Rattle.qg_kept_commit.specs.Opened.{IsOpened, IsOpening, OutlivesCrashes};
@@ -20,8 +20,9 @@ ghost use Rattle.qg_kept_commit.specs.Answering.{AnswersOn, IsDoneSoFar, comes_t
 ghost use Rattle.qg_store.specs.Crashes.{IsLastCommit, OutlivesCommand};
 ghost use Rattle.qg_kept_commit.specs.Editing.{HasLooked};
 ghost use Rattle.qg_kept_commit.specs.Keeping.{IsKept, IsKeptOf};
-ghost use Rattle.qg_kept_commit.specs.Stored.{ComesToDisk, DoesCommand, GoesOn, IsReady, IsStoreOf, IsStoreOver};
-ghost use Rattle.qg_kept_commit.specs.Stored.{IsUnchanged, KnowsLast, RunsOrStops, sizes_stored};
+ghost use Rattle.qg_kept_commit.specs.Stored.{ComesToDisk, DoesCommand, GoesOn, IsIntact, IsReady, IsStoreOf};
+ghost use Rattle.qg_kept_commit.specs.Stored.{IsStoreOver, IsUnchanged, KnowsLast, RunsOrStops, is_aborted};
+ghost use Rattle.qg_kept_commit.specs.Stored.{is_of_image, sizes_stored};
 
 use crate::grouping::regroup;
 use crate::structural::{create, delete, snap};
@@ -59,23 +60,23 @@ impl Store {
     /// that does not hold the superblock that counts is written.
     pub fn open<D: Disk>(alloc: Global, disk: &mut D) -> Result<Store, OpenFault>
         // Over a disk that tells what it holds.
-        ensures sound { (events : List Event) → D.history disk.old ≡ Some events
+        ensures sound { (events : List Event) → D.history disk.old ≡ Recorded events
             → IfOk result (λ store. verdict (content events) ≡ None) }
-        ensures opened { (events : List Event) (state : State) → D.history disk.old ≡ Some events
+        ensures opened { (events : List Event) (state : State) → D.history disk.old ≡ Recorded events
             → StateOf (content events) state
             → IfOk result (λ store. IsStoreOf store state (D.history disk.new)) }
-        ensures refused { (events : List Event) → D.history disk.old ≡ Some events
+        ensures refused { (events : List Event) → D.history disk.old ≡ Recorded events
             → IfErr result (λ fault. TellsFailure fault (verdict (content events))) }
-        ensures repaired { (events : List Event) → D.history disk.old ≡ Some events
+        ensures repaired { (events : List Event) → D.history disk.old ≡ Recorded events
             → IfOk result (λ store. IsOpened events (D.history disk.new)) }
-        ensures unwritten { (events : List Event) → D.history disk.old ≡ Some events
+        ensures unwritten { (events : List Event) → D.history disk.old ≡ Recorded events
             → IfErr result (λ fault. IsUntouched fault (D.history disk.new) (Synced ∷ events)) }
-        ensures touches { (events : List Event) → D.history disk.old ≡ Some events
+        ensures touches { (events : List Event) → D.history disk.old ≡ Recorded events
             → IsOpening events (D.history disk.new) }
 
         // What a crash leaves since the first sync stands for the state that the image stood for; before it, it leaves
         // what it could as the call began. An opened image rests in that state.
-        ensures crashes { (events : List Event) → D.history disk.old ≡ Some events
+        ensures crashes { (events : List Event) → D.history disk.old ≡ Recorded events
             → OutlivesCrashes events (D.history disk.new) result }
 
         // Over any disk.
@@ -112,13 +113,13 @@ impl Store {
         // machine commits. Whatever is answered, nothing else was done than calls of a commit that the machine does.
         // No rule of the image is found broken.
         ensures machine { (state : State) (events : List Event) → IsStoreOf self.old state (D.history disk.old)
-            → D.history disk.old ≡ Some events
+            → D.history disk.old ≡ Recorded events
             → DoesCommand state command.now events (D.history disk.new) result self.new.kept }
 
         // Where the disk rested in the last commit, what a crash leaves since then stands for that, or for one that the
         // command makes, whatever is answered. Once the command is answered, the disk rests in the last one again.
         ensures crashes { (state committed : State) (events : List Event)
-            → IsStoreOf self.old state (D.history disk.old) → D.history disk.old ≡ Some events
+            → IsStoreOf self.old state (D.history disk.old) → D.history disk.old ≡ Recorded events
             → Rests committed events → IsLastCommit committed state
             → OutlivesCommand state command.now committed events (D.history disk.new) result self.new.kept }
 
@@ -130,7 +131,12 @@ impl Store {
         ensures still { (ComesToDisk self.old command.now → ⊥)
             → (D.history disk.new ≡ D.history disk.old) × (D.size disk.new ≡ D.size disk.old) }
 
-        // After a stop nothing is done any more.
+        // A stop by what was read leaves a disk as it was, but for the first commit of a structural command. After a
+        // stop nothing is done any more, and nothing is read.
+        ensures intact { IfErr result (λ stop. IsTrue (is_of_image stop)
+            → IsIntact command.now self.old.kept self.new.kept (D.history disk.old) (D.history disk.new)) }
+        ensures aborted { IfErr result (λ stop. IsTrue (is_aborted stop)
+            → (disk.new ≡ disk.old) × (reads.new ≡ reads.old)) }
         ensures stops { RunsOrStops result command.now self.old self.new (D.history disk.old) (D.history disk.new) }
         ensures cause { HasCause Stop.Disk (D.faults disk.old) (D.faults disk.new) result }
 
@@ -183,12 +189,12 @@ fn answer<D: Disk, M: Ledger>(
     requires numbers { IsTrue (is_in_grammar command.now) }
     ensures kept { IfOk result (λ answer. IsKept kept.new (D.history disk.new) (D.size disk.new)) }
     ensures step { (state : State) (events : List Event) → IsKeptOf kept.old state (D.history disk.old)
-        → D.history disk.old ≡ Some events
+        → D.history disk.old ≡ Recorded events
         → IfOk result (λ answer. AnswersOn state command.now answer kept.new events (D.history disk.new)) }
     ensures so_far { (state : State) (events : List Event) → IsKeptOf kept.old state (D.history disk.old)
-        → D.history disk.old ≡ Some events
+        → D.history disk.old ≡ Recorded events
         → IsDoneSoFar state command.now events (D.history disk.new) }
-    ensures sound { (state : State) (events : List Event) → D.history disk.old ≡ Some events
+    ensures sound { (state : State) (events : List Event) → D.history disk.old ≡ Recorded events
         → IsKeptOf kept.old state (D.history disk.old) → BreaksNone result }
     ensures unchanged { IfOk result (λ answer. IsTrue (is_unchanging answer)
         → HasLooked kept.old kept.new (D.history disk.old) (D.history disk.new) (D.size disk.old) (D.size disk.new)) }
@@ -196,6 +202,8 @@ fn answer<D: Disk, M: Ledger>(
         → (D.history disk.new ≡ D.history disk.old) × (D.size disk.new ≡ D.size disk.old) }
     ensures err { IfErr result
         (λ fault. KnowsLast command.now kept.old kept.new (D.history disk.old) (D.history disk.new)) }
+    ensures intact { IfBroken result
+        (IsIntact command.now kept.old kept.new (D.history disk.old) (D.history disk.new)) }
     ensures sizes { (sizes_of kept.new.superblock ≡ sizes_of kept.old.superblock)
         × (D.size disk.old ≤ D.size disk.new) }
     ensures cause { HasCause BlockFault.Disk (D.faults disk.old) (D.faults disk.new) result }

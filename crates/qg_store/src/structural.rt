@@ -1,20 +1,20 @@
 // Subvolumes that come and go.
-ghost use Rattle.std.specs.Prelude.{◌≡◌, ◌+◌, ◌^◌, ◌≤◌, ℕ, IfErr, IfNone, IfOk, IsTrue, List, OnOk, Some, length};
+ghost use Rattle.std.specs.Prelude.{◌≡◌, ◌+◌, ◌^◌, ◌≤◌, ℕ, IfErr, IfNone, IfOk, IsTrue, List, OnOk, length};
 ghost use Rattle.qg_device.specs.Cause.{HasCause};
-ghost use Rattle.qg_device.specs.History.{Event};
+ghost use Rattle.qg_device.specs.History.{Event, Recorded};
 ghost use Rattle.qg_node.specs.NodeText.{IsNodeSize};
 ghost use Rattle.qg_num.specs.declared.command.Command.TheVariants.{Delete, Snap, SubCreate};
 ghost use Rattle.qg_super.specs.SuperText.{sizes_of};
 ghost use Rattle.qg_image.specs.State.{State};
 ghost use Rattle.qg_machine.specs.Refusals.{nodes_reached};
-ghost use Rattle.qg_blocks.specs.Told.{BreaksNone};
+ghost use Rattle.qg_blocks.specs.Told.{BreaksNone, IfBroken};
 ghost use Rattle.qg_extents.specs.Table.{IsTable};
 ghost use Rattle.qg_space.specs.Holding.{free_slots};
 ghost use Rattle.qg_kept_commit.specs.Answering.{AnswersOn, IsDoneSoFar, is_unchanging};
 ghost use Rattle.qg_kept_commit.specs.Editing.{HasLooked, HasReadNodes};
 ghost use Rattle.qg_kept_commit.specs.Keeping.{IsKept, IsKeptOf, structural_need_of};
-ghost use Rattle.qg_kept_commit.specs.Stored.{KnowsLast};
-ghost use Rattle.qg_store.specs.Structural.{HasCommitted, IsDoneFirst, IsSettledFrom, commit_refusal};
+ghost use Rattle.qg_kept_commit.specs.Stored.{IsIntact, KnowsLast, StaysLast, StopsPending};
+ghost use Rattle.qg_store.specs.Structural.{CallsPending, HasCommitted, IsDoneFirst, IsSettledFrom, commit_refusal};
 ghost use Rattle.qg_kept_changes.specs.Changing.{HasRoom};
 
 use qg_disk::Disk;
@@ -41,17 +41,19 @@ pub(crate) fn create<D: Disk, L: Ledger>(
     requires kept { IsKept kept.old (D.history disk.old) (D.size disk.old) }
     ensures kept { IfOk result (λ answer. IsKept kept.new (D.history disk.new) (D.size disk.new)) }
     ensures step { (state : State) (events : List Event) → IsKeptOf kept.old state (D.history disk.old)
-        → D.history disk.old ≡ Some events
+        → D.history disk.old ≡ Recorded events
         → IfOk result (λ answer. AnswersOn state SubCreate answer kept.new events (D.history disk.new)) }
     ensures so_far { (state : State) (events : List Event) → IsKeptOf kept.old state (D.history disk.old)
-        → D.history disk.old ≡ Some events
+        → D.history disk.old ≡ Recorded events
         → IsDoneSoFar state SubCreate events (D.history disk.new) }
-    ensures sound { (state : State) (events : List Event) → D.history disk.old ≡ Some events
+    ensures sound { (state : State) (events : List Event) → D.history disk.old ≡ Recorded events
         → IsKeptOf kept.old state (D.history disk.old) → BreaksNone result }
     ensures refused { IfOk result (λ answer. IsTrue (is_unchanging answer) → HasLooked kept.old kept.new
         (D.history disk.old) (D.history disk.new) (D.size disk.old) (D.size disk.new)) }
     ensures err { IfErr result
         (λ fault. KnowsLast SubCreate kept.old kept.new (D.history disk.old) (D.history disk.new)) }
+    ensures intact { IfBroken result
+        (IsIntact SubCreate kept.old kept.new (D.history disk.old) (D.history disk.new)) }
     ensures sizes { (sizes_of kept.new.superblock ≡ sizes_of kept.old.superblock)
         × (D.size disk.old ≤ D.size disk.new) }
     ensures cause { HasCause BlockFault.Disk (D.faults disk.old) (D.faults disk.new) result }
@@ -82,17 +84,19 @@ pub(crate) fn snap<D: Disk, L: Ledger>(
     requires kept { IsKept kept.old (D.history disk.old) (D.size disk.old) }
     ensures kept { IfOk result (λ answer. IsKept kept.new (D.history disk.new) (D.size disk.new)) }
     ensures step { (state : State) (events : List Event) → IsKeptOf kept.old state (D.history disk.old)
-        → D.history disk.old ≡ Some events
+        → D.history disk.old ≡ Recorded events
         → IfOk result (λ answer. AnswersOn state (Snap sub parents.now) answer kept.new events (D.history disk.new)) }
     ensures so_far { (state : State) (events : List Event) → IsKeptOf kept.old state (D.history disk.old)
-        → D.history disk.old ≡ Some events
+        → D.history disk.old ≡ Recorded events
         → IsDoneSoFar state (Snap sub parents.now) events (D.history disk.new) }
-    ensures sound { (state : State) (events : List Event) → D.history disk.old ≡ Some events
+    ensures sound { (state : State) (events : List Event) → D.history disk.old ≡ Recorded events
         → IsKeptOf kept.old state (D.history disk.old) → BreaksNone result }
     ensures refused { IfOk result (λ answer. IsTrue (is_unchanging answer) → HasLooked kept.old kept.new
         (D.history disk.old) (D.history disk.new) (D.size disk.old) (D.size disk.new)) }
     ensures err { IfErr result
         (λ fault. KnowsLast (Snap sub parents.now) kept.old kept.new (D.history disk.old) (D.history disk.new)) }
+    ensures intact { IfBroken result
+        (IsIntact (Snap sub parents.now) kept.old kept.new (D.history disk.old) (D.history disk.new)) }
     ensures sizes { (sizes_of kept.new.superblock ≡ sizes_of kept.old.superblock)
         × (D.size disk.old ≤ D.size disk.new) }
     ensures cause { HasCause BlockFault.Disk (D.faults disk.old) (D.faults disk.new) result }
@@ -128,17 +132,19 @@ pub(crate) fn delete<D: Disk, L: Ledger>(
     requires kept { IsKept kept.old (D.history disk.old) (D.size disk.old) }
     ensures kept { IfOk result (λ answer. IsKept kept.new (D.history disk.new) (D.size disk.new)) }
     ensures step { (state : State) (events : List Event) → IsKeptOf kept.old state (D.history disk.old)
-        → D.history disk.old ≡ Some events
+        → D.history disk.old ≡ Recorded events
         → IfOk result (λ answer. AnswersOn state (Delete sub) answer kept.new events (D.history disk.new)) }
     ensures so_far { (state : State) (events : List Event) → IsKeptOf kept.old state (D.history disk.old)
-        → D.history disk.old ≡ Some events
+        → D.history disk.old ≡ Recorded events
         → IsDoneSoFar state (Delete sub) events (D.history disk.new) }
-    ensures sound { (state : State) (events : List Event) → D.history disk.old ≡ Some events
+    ensures sound { (state : State) (events : List Event) → D.history disk.old ≡ Recorded events
         → IsKeptOf kept.old state (D.history disk.old) → BreaksNone result }
     ensures refused { IfOk result (λ answer. IsTrue (is_unchanging answer) → HasLooked kept.old kept.new
         (D.history disk.old) (D.history disk.new) (D.size disk.old) (D.size disk.new)) }
     ensures err { IfErr result
         (λ fault. KnowsLast (Delete sub) kept.old kept.new (D.history disk.old) (D.history disk.new)) }
+    ensures intact { IfBroken result
+        (IsIntact (Delete sub) kept.old kept.new (D.history disk.old) (D.history disk.new)) }
     ensures sizes { (sizes_of kept.new.superblock ≡ sizes_of kept.old.superblock)
         × (D.size disk.old ≤ D.size disk.new) }
     ensures cause { HasCause BlockFault.Disk (D.faults disk.old) (D.faults disk.new) result }
@@ -168,7 +174,7 @@ fn copies_of_tree<D: Disk, L: Ledger>(
     requires kept { IsKept kept.old (D.history disk.old) (D.size disk.old) }
     ensures counted { (state : State) → IsKeptOf kept.old state (D.history disk.old)
         → IfOk result (λ copies. copies ≡ 18 + nodes_reached state kept.old.fs.tree.owner) }
-    ensures sound { (state : State) (events : List Event) → D.history disk.old ≡ Some events
+    ensures sound { (state : State) (events : List Event) → D.history disk.old ≡ Recorded events
         → IsKeptOf kept.old state (D.history disk.old) → BreaksNone result }
     ensures kept { IsKept kept.new (D.history disk.new) (D.size disk.new) }
     ensures looked { HasReadNodes kept.old kept.new (D.history disk.old) (D.history disk.new) (D.size disk.old)
@@ -235,13 +241,15 @@ pub(crate) fn commit_pending<D: Disk, L: Ledger>(
     ensures room { (copies : ℕ) → structural_need_of kept.old copies ≤ free_slots kept.old.fs.land.space
         → OnOk result (HasRoom kept.new copies) }
     ensures committed { (state : State) (events : List Event) → IsKeptOf kept.old state (D.history disk.old)
-        → D.history disk.old ≡ Some events
+        → D.history disk.old ≡ Recorded events
         → OnOk result (HasCommitted state kept.new events (D.history disk.new)) }
     ensures so_far { (state : State) (events : List Event) → IsKeptOf kept.old state (D.history disk.old)
-        → D.history disk.old ≡ Some events → IsDoneFirst state events (D.history disk.new) }
-    ensures sound { (state : State) (events : List Event) → D.history disk.old ≡ Some events
+        → D.history disk.old ≡ Recorded events → IsDoneFirst state events (D.history disk.new) }
+    ensures sound { (state : State) (events : List Event) → D.history disk.old ≡ Recorded events
         → IsKeptOf kept.old state (D.history disk.old) → BreaksNone result }
-    ensures err { IfErr result (λ fault. kept.new.superblock ≡ kept.old.superblock) }
+    ensures calls { CallsPending kept.old kept.new (D.history disk.old) (D.history disk.new) result }
+    ensures err { IfErr result
+        (λ fault. StaysLast StopsPending kept.old kept.new (D.history disk.old) (D.history disk.new)) }
     ensures sizes { (sizes_of kept.new.superblock ≡ sizes_of kept.old.superblock)
         × (D.size disk.old ≤ D.size disk.new) }
     ensures cause { HasCause BlockFault.Disk (D.faults disk.old) (D.faults disk.new) result }

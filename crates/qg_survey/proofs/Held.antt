@@ -1,11 +1,11 @@
 -- Where a state is held its subvolumes' trees are read, and so all nodes of its layout.
-use Rattle.std.proofs.Common.{◌≡◌, ℕ, ◌+◌, ◌≤◌, arith, List, [], ◌∷◌, map, length, Option, Some, refl, sym, subst}
+use Rattle.std.proofs.Common.{◌≡◌, ℕ, ◌+◌, ◌≤◌, arith, List, [], ◌∷◌, map, length, Some, refl, sym, subst}
 use Rattle.std.specs.Prelude.{IsSome}
 use Rattle.std.specs.List.{All, Contains}
 use Rattle.std.proofs.lemmas.List.Elements.{All-cons, All-nil, All-contains}
 use Rattle.std.specs.List.Sorted.{IsStrictlySortedBy}
 use Rattle.std.specs.Ordering.{nat_cmp}
-use Rattle.qg_device.specs.History.{Event}
+use Rattle.qg_device.specs.History.{History}
 use Rattle.qg_image.specs.Table.{keys_of, value_at}
 use Rattle.qg_image.specs.State.{Placed, State, Subvolume, next_generation, node_at}
 use Rattle.qg_image.specs.Reach.{level_of}
@@ -41,7 +41,7 @@ all-given P f (n ∷ ns) each =
 pub read-none : (state : State) → AreRead state []
 read-none state = record { each = λ q link there. absurd cc; closed = λ q link there child among. absurd cc }
 
-module _ (land : Ground) (history : Option (List Event)) (book : TreeRefs) (state : State)
+module _ (land : Ground) (history : History) (book : TreeRefs) (state : State)
     (holds : HoldsState land history book state) (ground : IsGround land) where
   -- the book has the nodes' marks
   pub marks-held : MarksNodes (book_of book.refs) state

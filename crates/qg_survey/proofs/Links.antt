@@ -6,7 +6,7 @@ use Rattle.std.specs.Option.{option_map}
 use Rattle.std.specs.List.{Contains}
 use Rattle.std.specs.List.Sorted.{IsStrictlyIncreasing}
 use Rattle.std.proofs.lemmas.Option.{same_Some}
-use Rattle.qg_device.specs.History.{Event}
+use Rattle.qg_device.specs.History.{History}
 use Rattle.qg_node.specs.declared.node.Node.{Node}
 use Rattle.qg_node.specs.declared.node.Node.TheVariants.{Leaf}
 use Rattle.qg_node.specs.declared.pointer.Pointer.{Pointer}
@@ -72,7 +72,7 @@ branch-child super nodes (suc level) q items branch node is child pointer has th
     let theirs = ap (λ (n : Node). (header_of n).level) other in
     omega (arith, mine, theirs, top.2, low.2)
 
-module _ (land : Ground) (history : Option (List Event)) (book : TreeRefs) (state : State)
+module _ (land : Ground) (history : History) (book : TreeRefs) (state : State)
     (holds : HoldsState land history book state) (ground : IsGround land) where
   abbrev nodes : ℕ → Option Node
   nodes = node_at state.layout

@@ -7,7 +7,7 @@ use Rattle.std.specs.List.{All, Contains}
 use Rattle.std.specs.Ordering.{nat_cmp}
 use Rattle.std.proofs.lemmas.List.Elements.{All-contains}
 use Rattle.std.proofs.lemmas.Option.{same_Some}
-use Rattle.qg_device.specs.History.{Event}
+use Rattle.qg_device.specs.History.{History}
 use Rattle.qg_num.specs.declared.key.Key.{Key}
 use Rattle.qg_node.specs.declared.pointer.Pointer.{Pointer}
 use Rattle.qg_node.specs.declared.node.Node.{Node}
@@ -67,7 +67,7 @@ goes-higher state lower level old new before then after high one goes = record {
   once = omega (arith, goes.once, one, high);
 }
 
-module _ (draft : Draft) (history : Option (List Event)) (book : Book) (state : State)
+module _ (draft : Draft) (history : History) (book : Book) (state : State)
     (tells : TellsNodes draft history state)
     (marks : MarksNodes book state) (level : ℕ) (way : Way) (levelled : way.expected.level ≡ Some level)
     (leads : LeadsToBranch state level way) where

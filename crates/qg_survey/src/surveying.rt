@@ -3,7 +3,7 @@ ghost use Rattle.std.specs.Prelude.{◌≡◌, ◌+◌, ◌≤◌, List, Some, N
 ghost use Rattle.std.specs.BTreeMap.{Updates};
 ghost use Rattle.std.specs.Ordering.{nat_cmp};
 ghost use Rattle.qg_device.specs.Cause.{HasCause};
-ghost use Rattle.qg_device.specs.History.{Event};
+ghost use Rattle.qg_device.specs.History.{Event, Recorded};
 ghost use Rattle.qg_image.specs.State.{State as MachineState, next_generation};
 ghost use Rattle.qg_blocks.specs.Told.{BreaksNone};
 ghost use Rattle.qg_extents.specs.Table.{book_of};
@@ -56,7 +56,7 @@ pub fn survey<D: Disk, L: Ledger>(
     ensures surveyed { (state : MachineState) → HoldsState land.old (D.history disk.old) book.now state
         → trees.now ≡ trees_of state
         → IfOk result (λ links. links.items ≡ map (λ entry. surveyed_of entry.0 entry.1) state.layout) }
-    ensures sound { (state : MachineState) (events : List Event) → D.history disk.old ≡ Some events
+    ensures sound { (state : MachineState) (events : List Event) → D.history disk.old ≡ Recorded events
         → HoldsState land.old (D.history disk.old) book.now state → trees.now ≡ trees_of state → BreaksNone result }
     ensures reads { (state : MachineState) → HoldsState land.old (D.history disk.old) book.now state
         → trees.now ≡ trees_of state → reads.new ≤ reads.old + length state.layout + 8 }

@@ -1,6 +1,6 @@
 -- The nodes of a tree are put one after another, the last one first.
 use Rattle.std.proofs.Common.{◌≡◌, ◌≢◌, ℕ, zero, ◌+◌, ◌-◌, ◌*◌, ◌<◌, ◌≤◌, true, false, List, [], ◌∷◌, ◌++◌, length, map}
-use Rattle.std.proofs.Common.{append_assoc, arith, refl, sym, ap, subst, ◌∙◌, inl, inr, Option, Some, None}
+use Rattle.std.proofs.Common.{append_assoc, arith, refl, sym, ap, subst, ◌∙◌, inl, inr, Some, None}
 use Rattle.std.specs.Prelude.{Bool, ◌==◌, slice_get}
 use Rattle.std.specs.List.{AllByRecursion, IsDistinct, remove}
 use Rattle.std.proofs.Math.Nat.{mul-le-mul_left, mul-suc}
@@ -8,7 +8,7 @@ use Rattle.std.proofs.lemmas.Bool.{eqb-true, true≢false}
 use Rattle.std.proofs.lemmas.Bool.Decides.{eqb_tells}
 use Rattle.std.proofs.lemmas.List.{length-append}
 use Rattle.std.proofs.lemmas.List.Sums.{sum_by-cons}
-use Rattle.qg_device.specs.History.{Event}
+use Rattle.qg_device.specs.History.{History, Unrecorded}
 use Rattle.qg_node.specs.declared.node.Node.{Node}
 use Rattle.qg_node.specs.declared.node.Node.TheVariants.{Leaf, Inner}
 use Rattle.qg_node.specs.Nodes.{header_of}
@@ -31,21 +31,21 @@ use Rattle.qg_tree_build.proofs.Slots.{last-taken}
 
 -- Some nodes of a list were put, each into the slot that it names, and the others are left to be put. What lies at no
 -- address of those is told as before
-pub record IsLaying (old now : Ground) (history : Option (List Event)) (owner next : ℕ) (rest laid : List Node)
+pub record IsLaying (old now : Ground) (history : History) (owner next : ℕ) (rest laid : List Node)
     : Type 0 where
   pub rests : Rests old now history next
   pub count : free_slots old.space ≤ length laid + free_slots now.space
   pub freed : (q : ℕ) → is_free_slot now.space q ≡ true → is_free_slot old.space q ≡ true
   pub owners : IsOwnedBy owner old now
   pub there : AllByRecursion (λ node. fresh_at now.blocks.draft (address_of node) ≡ Some node) laid
-  pub others : (disk : Option (List Event)) (q : ℕ) → lying laid q ≡ 0
+  pub others : (disk : History) (q : ℕ) → lying laid q ≡ 0
       → told now.blocks.draft disk q ≡ told old.blocks.draft disk q
   pub free : AllByRecursion (λ node. is_free_slot now.space (address_of node) ≡ true) rest
   pub apart : IsDistinct (λ a b. a == b) (map address_of (rest ++ laid))
   pub made : AllByRecursion (IsMadeFor old.space.sizes.nodesize owner next) rest
 
 -- none was put yet
-pub laying-none : (land : Ground) (history : Option (List Event)) (owner next : ℕ) (nodes : List Node)
+pub laying-none : (land : Ground) (history : History) (owner next : ℕ) (nodes : List Node)
     → Rests land land history next → AllByRecursion (λ node. is_free_slot land.space (address_of node) ≡ true) nodes
     → IsDistinct (λ a b. a == b) (map address_of (nodes ++ []))
     → AllByRecursion (IsMadeFor land.space.sizes.nodesize owner next) nodes
@@ -67,7 +67,7 @@ at-itself (Leaf header items) = refl
 at-itself (Inner header pointers) = refl
 
 -- the last one that is left
-module _ (old mid : Ground) (before : Option (List Event)) (owner next : ℕ) (rest laid : List Node) (node : Node)
+module _ (old mid : Ground) (before : History) (owner next : ℕ) (rest laid : List Node) (node : Node)
     (laying : IsLaying old mid before owner next (rest ++ (node ∷ [])) laid) where
   pub made-last : IsMadeFor old.space.sizes.nodesize owner next node
   made-last = last-each (IsMadeFor old.space.sizes.nodesize owner next) rest node laying.made
@@ -81,7 +81,7 @@ module _ (old mid : Ground) (before : Option (List Event)) (owner next : ℕ) (r
   pub sound-last : IsNode mid.space.sizes.nodesize node
   sound-last = subst (λ (s : Sizes). IsNode s.nodesize node) (sym laying.rests.sizes) made-last.node_of_format
 
-  pub rests-last : (new : Ground) (after : Option (List Event)) → Rests mid new after (header_of node).generation
+  pub rests-last : (new : Ground) (after : History) → Rests mid new after (header_of node).generation
       → Rests mid new after next
   rests-last new after rests = subst (λ (n : ℕ). Rests mid new after n) made-last.made rests
 
@@ -91,7 +91,7 @@ module _ (old mid : Ground) (before : Option (List Event)) (owner next : ℕ) (r
       laying.apart
 
   -- it is put
-  module _ (new : Ground) (after : Option (List Event)) (makes : Makes mid new (address_of node) node)
+  module _ (new : Ground) (after : History) (makes : Makes mid new (address_of node) node)
       (takes : Takes 1 (λ q. ⊥) mid new) (rests : Rests mid new after next) where
     here_put : fresh_at new.blocks.draft (address_of node) ≡ Some node
     here_put = makes.puts.here ∙ ap (λ (n : Node). Some n) (at-itself node)
@@ -99,7 +99,7 @@ module _ (old mid : Ground) (before : Option (List Event)) (owner next : ℕ) (r
     freed_more : (q : ℕ) → is_free_slot new.space q ≡ true → is_free_slot old.space q ≡ true
     freed_more q free = elim (takes.less q free) [ inl was ↦ laying.freed q was | inr gone ↦ absurd gone ]
 
-    others_more : (disk : Option (List Event)) (q : ℕ) → lying (node ∷ laid) q ≡ 0
+    others_more : (disk : History) (q : ℕ) → lying (node ∷ laid) q ≡ 0
         → told new.blocks.draft disk q ≡ told old.blocks.draft disk q
     others_more disk q none = elim (eqb_tells q (address_of node)) [
       | inl (equal, same) ↦
@@ -123,7 +123,8 @@ module _ (old mid : Ground) (before : Option (List Event)) (owner next : ℕ) (r
             (λ (n : Node). fresh_at mid.blocks.draft (address_of n) ≡ Some n)
             (λ (n : Node). fresh_at new.blocks.draft (address_of n) ≡ Some n)
             (λ n differ is. fresh_at-told mid.blocks.draft new.blocks.draft (address_of n)
-            (makes.puts.others None (address_of n) differ) ∙ is) laid (apart-after rest laid node whole) laying.there,
+            (makes.puts.others (Unrecorded 0) (address_of n) differ) ∙ is) laid (apart-after rest laid node whole)
+            laying.there,
       );
       others = others_more;
       free = both-each (λ (n : Node). address_of n ≢ address_of node)
@@ -159,12 +160,12 @@ split_last nodes rest node none count is some long taken left =
     last-taken nodes node (count - 1) index taken ∙ ap (λ (ns : List Node). ns ++ (node ∷ [])) (sym left)
 
 -- nodes are laid of what is left, and the last one of it
-pub record IsSplit (old mid : Ground) (before : Option (List Event)) (owner next : ℕ) (nodes rest laid : List Node)
+pub record IsSplit (old mid : Ground) (before : History) (owner next : ℕ) (nodes rest laid : List Node)
     (node : Node) : Type 0 where
   pub is : nodes ≡ rest ++ (node ∷ [])
   pub laying : IsLaying old mid before owner next (rest ++ (node ∷ [])) laid
 
-pub split-last : (old mid : Ground) (before : Option (List Event)) (owner next : ℕ) (nodes rest laid : List Node)
+pub split-last : (old mid : Ground) (before : History) (owner next : ℕ) (nodes rest laid : List Node)
     (node : Node) (none : Bool) (count : ℕ) → none ≡ (length nodes == 0) → none ≡ false → count ≡ length nodes
     → slice_get nodes (count - 1) ≡ Some node → rest ≡ remove nodes (count - 1)
     → IsLaying old mid before owner next nodes laid → IsSplit old mid before owner next nodes rest laid node
@@ -189,7 +190,7 @@ whole-long all rest laid node most whole few =
     omega (arith, sum, same, few)
 
 -- where none is left all were laid
-pub all-laid : (old now : Ground) (after : Option (List Event)) (owner next : ℕ) (all nodes laid : List Node)
+pub all-laid : (old now : Ground) (after : History) (owner next : ℕ) (all nodes laid : List Node)
     → all ≡ nodes ++ laid → nodes ≡ [] → IsLaying old now after owner next nodes laid
     → (laid ≡ all) × IsLaying old now after owner next [] all
 all-laid old now after owner next all nodes laid whole none laying =

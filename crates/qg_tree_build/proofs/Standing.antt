@@ -4,7 +4,7 @@ use Rattle.std.proofs.Common.{Option, Some, None}
 use Rattle.std.specs.Prelude.{Bool, IsSome, ◌==◌}
 use Rattle.std.specs.List.{AllByRecursion}
 use Rattle.std.proofs.lemmas.Bool.{eqb-true}
-use Rattle.qg_device.specs.History.{Event}
+use Rattle.qg_device.specs.History.{History}
 use Rattle.qg_node.specs.declared.item.Item.{Item}
 use Rattle.qg_node.specs.declared.node.Node.{Node}
 use Rattle.qg_super.specs.declared.sizes.Sizes.{Sizes}
@@ -54,7 +54,7 @@ none_some (Some node) is some = cc
 abbrev tellings : List Node → List Telling
 tellings nodes = map Made (slots_laid nodes)
 
-module _ (tree : Tree) (old new : Ground) (before after : Option (List Event)) (bytes owner next : ℕ)
+module _ (tree : Tree) (old new : Ground) (before after : History) (bytes owner next : ℕ)
     (items : List Item) (nodes : List Node) (root level : ℕ) (can : CanBuild tree old before bytes owner next items)
     (plan : IsPlanned old owner next items nodes root level)
     (laying : IsLaying old new after owner next [] nodes) where
@@ -66,7 +66,7 @@ module _ (tree : Tree) (old new : Ground) (before after : Option (List Event)) (
   same_size =
       ap (λ (s : Sizes). s.nodesize) laying.rests.node_sizes ∙ can.editable.drafted.sizes.nodesize
 
-  module _ (history : Option (List Event)) where
+  module _ (history : History) where
     there_told : AllByRecursion (λ node. told new.blocks.draft history (address_of node) ≡ Some node) nodes
     there_told =
         AllByRecursion-weaker (λ (n : Node). fresh_at new.blocks.draft (address_of n) ≡ Some n)

@@ -1,7 +1,7 @@
 -- A tree that is built of items in order, in nodes and space (this project's own). Addresses are in bytes.
 use Rattle.std.specs.Prelude.{◌≡◌, ℕ, ◌+◌, ◌*◌, ◌<◌, ◌≤◌, List, length, map, Option, IsSome, IsTrue}
 use Rattle.std.specs.List.{All}
-use Rattle.qg_device.specs.History.{Event}
+use Rattle.qg_device.specs.History.{History}
 use Rattle.qg_node.specs.declared.item.Item.{Item}
 use Rattle.qg_node.specs.declared.node.Node.{Node}
 use Rattle.qg_node.specs.Nodes.{header_of, is_ascending, items_bytes}
@@ -25,7 +25,7 @@ most_nodes nodesize items = 5 * nodes_filled nodesize (items_bytes items) + 1
 
 -- a node can be laid: clean nodes are those of the disk, fresh ones are such as the commit to come may write, the node
 -- has a text and the generation of that commit, and the slot that it names is free
-pub record CanLay (land : Ground) (history : Option (List Event)) (node : Node) : Type 0 where
+pub record CanLay (land : Ground) (history : History) (node : Node) : Type 0 where
   pub backed : IsBacked land.blocks history
   pub drafted : IsDrafted land (header_of node).generation
   pub sound : IsNode land.space.sizes.nodesize node
@@ -34,7 +34,7 @@ pub record CanLay (land : Ground) (history : Option (List Event)) (node : Node) 
 -- what a build asks, over any disk: nodes and space in which a tree is made for the generation to come, a number and a
 -- generation that its nodes may have, items in the order of their keys with bodies of at most 1024 bytes, and free
 -- slots for the most nodes that they take
-pub record CanBuild (tree : Tree) (land : Ground) (history : Option (List Event)) (bytes owner next : ℕ)
+pub record CanBuild (tree : Tree) (land : Ground) (history : History) (bytes owner next : ℕ)
     (items : List Item) : Type 0 where
   pub editable : IsEditable land history bytes next
   pub owned : IsTrue (is_owner tree owner)
@@ -46,7 +46,7 @@ pub record CanBuild (tree : Tree) (land : Ground) (history : Option (List Event)
 -- A tree was built of these items: it has this number and generation, and stands, as an edit asks it. Each node that it
 -- reaches is fresh, in a slot that was free. What it does not reach is told as before, and no slot gets free. At most
 -- so many slots were taken
-pub record IsBuiltIn (tree : Tree) (root : Root) (old new : Ground) (history : Option (List Event))
+pub record IsBuiltIn (tree : Tree) (root : Root) (old new : Ground) (history : History)
     (owner next most : ℕ) (items : List Item) : Type 0 where
   pub owned : root.owner ≡ owner
   pub dated : root.next ≡ next
@@ -64,7 +64,7 @@ pub record IsBuiltIn (tree : Tree) (root : Root) (old new : Ground) (history : O
 
 -- and a book was told that nodes were made in these slots, at most so many: that turns the count where no way leads
 -- anywhere into the tree's ways
-abbrev pub IsBuildTold : Root → Ground → Ground → Option (List Event) → ℕ → List ℕ → Type 0
+abbrev pub IsBuildTold : Root → Ground → Ground → History → ℕ → List ℕ → Type 0
 IsBuildTold root old new history most made =
     (nodes clean : ℕ → Option Node) → IsTold old nodes clean (λ q. ⊥) (λ q. 0)
     (ways (told new.blocks.draft history) root.height root.address) most 0 most (map Made made)

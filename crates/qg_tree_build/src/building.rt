@@ -1,7 +1,7 @@
 // A tree is built.
-ghost use Rattle.std.specs.Prelude.{◌≡◌, ◌++◌, ◌+◌, ◌*◌, ◌≤◌, ℕ, List, Option, Some, IfOk, OnOk, map};
+ghost use Rattle.std.specs.Prelude.{◌≡◌, ◌++◌, ◌+◌, ◌*◌, ◌≤◌, ℕ, List, IfOk, OnOk, map};
 ghost use Rattle.qg_device.specs.Cause.{HasCause};
-ghost use Rattle.qg_device.specs.History.{Event};
+ghost use Rattle.qg_device.specs.History.{Event, History, Recorded};
 ghost use Rattle.qg_blocks.specs.Told.{BreaksNone};
 ghost use Rattle.qg_ground.specs.Changes.{IsOwnedBy};
 ghost use Rattle.qg_ground.specs.Tellings.{Telling};
@@ -39,14 +39,14 @@ pub fn build<P: TreePart, D: Disk, L: Ledger, B: Book<D, L>>(
 ) -> Result<Tree, BlockFault>
     requires ready { CanBuild P.tree land.old (D.history disk.old) (D.size disk.old) owner next items.now }
     requires stands { B.stands book.old land.old disk.old }
-    ensures built { IfOk result (λ tree. (history : Option (List Event))
+    ensures built { IfOk result (λ tree. (history : History)
         → IsBuiltIn P.tree tree land.old land.new history owner next
         (most_nodes land.old.space.sizes.nodesize items.now) items.now) }
     ensures told { (before : B) (log : List Telling) → B.follows before log book.old
         → IfOk result (λ tree. (made : List ℕ) × B.follows before (log ++ map Made made) book.new
-        × ((history : Option (List Event))
+        × ((history : History)
         → IsBuildTold tree land.old land.new history (most_nodes land.old.space.sizes.nodesize items.now) made)) }
-    ensures sound { (events : List Event) → D.history disk.old ≡ Some events → BreaksNone result }
+    ensures sound { (events : List Event) → D.history disk.old ≡ Recorded events → BreaksNone result }
     ensures rests { LeavesBe land.old land.new (D.history disk.old) (D.history disk.new)
         (D.size disk.old) (D.size disk.new) next }
     ensures stands { OnOk result (B.stands book.new land.new disk.new) }

@@ -1,6 +1,6 @@
 // A node put into the slot that it names.
-ghost use Rattle.std.specs.Prelude.{◌≡◌, ◌+◌, ◌≤◌, List, [], ◌∷◌, ◌++◌, Option, Some, OnErr, OnOk, IsTrue};
-ghost use Rattle.qg_device.specs.History.{Event};
+ghost use Rattle.std.specs.Prelude.{◌≡◌, ◌+◌, ◌≤◌, List, [], ◌∷◌, ◌++◌, OnErr, OnOk, IsTrue};
+ghost use Rattle.qg_device.specs.History.{History};
 ghost use Rattle.qg_node.specs.Nodes.{header_of};
 ghost use Rattle.qg_blocks.specs.Told.{IsBacked};
 ghost use Rattle.qg_space.specs.Holding.{is_free_slot};
@@ -24,7 +24,7 @@ fn put_there(land: &mut Ground, node: Node) -> Result<(), NoMemory>
     ensures err { OnErr result (land.new.blocks ≡ land.old.blocks) }
     ensures spares { Spares land.old land.new }
     ensures bound { land.new.blocks.bound ≡ land.old.blocks.bound }
-    ensures backed { (history : Option (List Event))
+    ensures backed { (history : History)
         → IsBacked land.old.blocks history → IsBacked land.new.blocks history }
 {
     land.space.take_slot_at(node.header().address)?;

@@ -8,7 +8,7 @@ use Rattle.std.specs.Map.{keys_of}
 use Rattle.std.proofs.lemmas.Bool.{cases_lt, eq-eqb, true≢false}
 use Rattle.std.proofs.lemmas.List.Elements.{All-contains, Contains-append_cases, Contains-get_or}
 use Rattle.std.proofs.lemmas.List.Folds.{list_any_at}
-use Rattle.qg_device.specs.History.{Event, Synced, content}
+use Rattle.qg_device.specs.History.{Event, History, Recorded, Synced, content}
 use Rattle.qg_node.specs.declared.node.Node.{Node}
 use Rattle.qg_node.specs.Nodes.{header_of}
 use Rattle.qg_node.specs.NodeText.{IsNode}
@@ -215,24 +215,24 @@ module _ (sizes : Sizes) (generation : ℕ) (roots : List (ℕ × RootItem)) (bo
 -- ---- what was done to the disk, whatever came of it
 
 -- nothing was
-pub left_alone : (before after : List Event) (was history : Option (List Event)) → was ≡ Some (Synced ∷ before)
-    → history ≡ was → history ≡ Some after
+pub left_alone : (before after : List Event) (was history : History) → was ≡ Recorded (Synced ∷ before)
+    → history ≡ was → history ≡ Recorded after
     → after ≡ Synced ∷ before
 left_alone before after was history began same now =
-    let both : Some after ≡ Some (Synced ∷ before) = sym now ∙ same ∙ began in
+    let both : Recorded after ≡ Recorded (Synced ∷ before) = sym now ∙ same ∙ began in
     cc
 
 -- the calls came so far
 pub leaves_trees : (sizes : Sizes) (generation : ℕ) (told : Told) (slots : List ℕ) (draft : Draft) (trees : OtherTrees)
     → IsLayingOf sizes generation told slots draft trees → AreWritable sizes draft
     → ((slot : ℕ) → Contains slots slot → IsTrue (is_slot sizes slot))
-    → (old : State) (before after : List Event) (history : Option (List Event))
+    → (old : State) (before after : List Event) (history : History)
     → IsFound old sizes generation slots draft (content before)
     → MadeFront (commit_calls trees.superblock (nodes_written draft trees)) (Synced ∷ before) history
-    → history ≡ Some after
+    → history ≡ Recorded after
     → LeavesTrees old sizes generation told slots draft before after
 leaves_trees sizes generation told slots draft trees laying writable are_slots old before after history found made now =
-    let both : Some made.after ≡ Some after = sym made.told ∙ now in
+    let both : Recorded made.after ≡ Recorded after = sym made.told ∙ now in
     let same : made.after ≡ after = cc in
     let calls = commit_calls trees.superblock (nodes_written draft trees) in
     let front = subst (λ (events : List Event). IsFront calls (Synced ∷ before) events) same made.front in

@@ -4,10 +4,9 @@ use Rattle.std.proofs.Common.{None, Ok, refl, sym, ap, subst, ◌∙◌, inl, in
 use Rattle.std.specs.Prelude.{Contains, All}
 use Rattle.std.specs.List.{AllByRecursion}
 use Rattle.std.specs.Map.{lookup}
-use Rattle.std.specs.Option.{option_map}
 use Rattle.std.proofs.lemmas.Bool.{cases_Bool, cond-false, cond-true, eq-eqb}
 use Rattle.std.proofs.lemmas.List.Elements.{Contains-append_cases, Contains-append_left}
-use Rattle.qg_device.specs.History.{Event, content}
+use Rattle.qg_device.specs.History.{Event, History, Recorded, Unrecorded, history_after, content}
 use Rattle.qg_num.specs.declared.piece.Piece.{Piece}
 use Rattle.qg_node.specs.declared.item.Item.{Item}
 use Rattle.qg_node.specs.declared.node.Node.{Node}
@@ -76,9 +75,9 @@ pub record IsElsewhere (fs : FsTree) (slots : List ℕ) (at : ℕ) : Type 0 wher
   pub apart : Contains slots at → ⊥
 
 -- where a disk tells after the calls it told before
-record CameFrom (fs : FsTree) (trees : OtherTrees) (old : Option (List Event)) (new : List Event) : Type 0 where
+record CameFrom (fs : FsTree) (trees : OtherTrees) (old : History) (new : List Event) : Type 0 where
   events : List Event
-  told : old ≡ Some events
+  told : old ≡ Recorded events
   is : new ≡ with_tree_commit fs trees events
 
 module _ (fs : FsTree) (roots : List (ℕ × RootItem)) (book : List (ℕ × Kept)) (quota : Option Quota) (generation : ℕ)
@@ -182,47 +181,49 @@ module _ (fs : FsTree) (roots : List (ℕ × RootItem)) (book : List (ℕ × Kep
 
     -- ---- the trees' nodes
 
-    module _ (bytes : ℕ) (subvolume : IsSubvolume fs (Some events) bytes) (items : List Item) (names : List (ℕ × Piece))
-        (stands : Stands fs (Some events) items names)
+    module _ (bytes : ℕ) (subvolume : IsSubvolume fs (Recorded events) bytes) (items : List Item)
+        (names : List (ℕ × Piece))
+        (stands : Stands fs (Recorded events) items names)
       where
         -- a clean one
-        held_stands : (q : ℕ) (node : Node) → IsMet fs (Some events) q → nodes_of fs (Some events) q ≡ Some node
+        held_stands : (q : ℕ) (node : Node) → IsMet fs (Recorded events) q → nodes_of fs (Recorded events) q ≡ Some node
             → fresh_at fs.land.blocks.draft q ≡ None → node_found trees.superblock after q ≡ Ok node
         unfolding told
         held_stands q node reached there none =
-            let has = met-held fs (Some events) bytes items names subvolume stands q reached none in
+            let has = met-held fs (Recorded events) bytes items names subvolume stands q reached none in
             let stood = clean-stands (fresh_at fs.land.blocks.draft q) fs.land.blocks.draft.sizes events q node none
             there in
             let stood' = sym (like_super (content events) q) ∙ stood in
             stands-found trees.superblock after q node super_served after_long
             (elsewhere_super q (held-elsewhere q has) ∙ stood')
 
-        reached_found : (q : ℕ) (node : Node) → IsMet fs (Some events) q → nodes_of fs (Some events) q ≡ Some node
+        reached_found : (q : ℕ) (node : Node) → IsMet fs (Recorded events) q
+            → nodes_of fs (Recorded events) q ≡ Some node
             → node_found trees.superblock after q ≡ Ok node
         reached_found q node reached there = from (fresh_at fs.land.blocks.draft q) refl where
           from : (o : Option Node) → fresh_at fs.land.blocks.draft q ≡ o → node_found trees.superblock after q ≡ Ok node
           from None none = held_stands q node reached there none
           from (Some mine) is =
-              let same : Some mine ≡ Some node = sym (fresh-told fs.land (Some events) q mine is) ∙ there in
+              let same : Some mine ≡ Some node = sym (fresh-told fs.land (Recorded events) q mine is) ∙ there in
               let same' : mine ≡ node = cc in
               subst (λ (n : Node). node_found trees.superblock after q ≡ Ok n) same' (fresh_found q mine is)
 
         some_bytes : 0 < fs.land.space.sizes.nodesize
         some_bytes = let least = (SizesFit-is_served sizes drafted.sizes.served).least in omega (arith, least)
 
-        entry_found : (entry : ℕ × Placed) → Contains (nodes_in fs (Some events)) entry
+        entry_found : (entry : ℕ × Placed) → Contains (nodes_in fs (Recorded events)) entry
             → node_found trees.superblock after entry.0 ≡ Ok entry.1.node
         entry_found entry has =
-            let ascend = nodes-ascend fs (Some events) some_bytes
-            (met-slot fs (Some events) bytes items names subvolume stands) in
-            let its = reached-by fs (Some events) entry.0 entry.1
-            (value_of_entry (nodes_in fs (Some events)) entry ascend has) in
+            let ascend = nodes-ascend fs (Recorded events) some_bytes
+            (met-slot fs (Recorded events) bytes items names subvolume stands) in
+            let its = reached-by fs (Recorded events) entry.0 entry.1
+            (value_of_entry (nodes_in fs (Recorded events)) entry ascend has) in
             reached_found entry.0 entry.1.node its.met its.told
 
-        pub layout-held : HoldsLayout trees.superblock after (nodes_in fs (Some events))
+        pub layout-held : HoldsLayout trees.superblock after (nodes_in fs (Recorded events))
         layout-held =
             all_contained (λ entry. node_found trees.superblock after entry.0 ≡ Ok entry.1.node)
-            (nodes_in fs (Some events))
+            (nodes_in fs (Recorded events))
             entry_found
 
         pub on-disk : IsOnDisk fs trees events
@@ -236,14 +237,14 @@ module _ (fs : FsTree) (roots : List (ℕ × RootItem)) (book : List (ℕ × Kep
 
   -- ---- from one history to another
 
-  module _ (before : Option (List Event))
-      (long : (events : List Event) → before ≡ Some events → total_bytes sizes ≤ length (content events)) where
-    abbrev later : Option (List Event) → Option (List Event)
-    later history = option_map (with_tree_commit fs trees) history
+  module _ (before : History)
+      (long : (events : List Event) → before ≡ Recorded events → total_bytes sizes ≤ length (content events)) where
+    abbrev later : History → History
+    later history = history_after (with_tree_commit fs trees) history
 
-    came_from : (old : Option (List Event)) (new : List Event) → later old ≡ Some new → CameFrom fs trees old new
-    came_from None new is = absurd cc
-    came_from (Some events) new is = record { events = events; told = refl; is = cc }
+    came_from : (old : History) (new : List Event) → later old ≡ Recorded new → CameFrom fs trees old new
+    came_from (Unrecorded changes) new is = absurd cc
+    came_from (Recorded events) new is = record { events = events; told = refl; is = cc }
 
     -- what stands after it, where it is known what stands after the calls
     stands_so : (new : List Event) (came : CameFrom fs trees before new) (at : ℕ) (node : Node)

@@ -3,7 +3,7 @@ use Rattle.std.proofs.Common.{◌≡◌, ℕ, ◌+◌, ◌≤◌, inl, inr, true
 use Rattle.std.proofs.Common.{◌∙◌}
 use Rattle.std.specs.Prelude.{Contains, IsTrue, Option, Some, None, Result, Ok, Err}
 use Rattle.std.specs.List.{AllByRecursion}
-use Rattle.qg_device.specs.History.{Event, Wrote, content, overlay}
+use Rattle.qg_device.specs.History.{Event, Recorded, Wrote, content, overlay}
 use Rattle.qg_disk.proofs.Sizes.{length-overlay}
 use Rattle.qg_num.specs.declared.rule.Rule.{Rule}
 use Rattle.qg_node.specs.declared.node.Node.{Node}
@@ -78,7 +78,7 @@ stands-found super image at node served long stands =
 
 -- what is told where no node is fresh stands on the disk
 pub clean-stands : (fresh : Option Node) (sizes : Sizes) (events : List Event) (at : ℕ) (node : Node) → fresh ≡ None
-    → told_or fresh sizes (Some events) at ≡ Some node → standing sizes (content events) at ≡ Ok node
+    → told_or fresh sizes (Recorded events) at ≡ Some node → standing sizes (content events) at ≡ Ok node
 clean-stands None sizes events at node none is = ok-there (standing sizes (content events) at) node is
 clean-stands (Some mine) sizes events at node none is = absurd cc
 

@@ -5,7 +5,7 @@ use Rattle.std.specs.Prelude.{Contains, IsSome, IsTrue, All, ◌||◌, ◌==◌,
 use Rattle.std.specs.List.{list_any}
 use Rattle.std.proofs.lemmas.Bool.{cases_Bool, eq-eqb, eqb-true, ltb-true}
 use Rattle.std.proofs.lemmas.List.Elements.{All-contains, Contains-append_cases, Contains-get_or}
-use Rattle.qg_device.specs.History.{Event}
+use Rattle.qg_device.specs.History.{History}
 use Rattle.qg_num.specs.declared.piece.Piece.{Piece}
 use Rattle.qg_node.specs.declared.item.Item.{Item}
 use Rattle.qg_node.specs.declared.node.Node.{Node}
@@ -71,7 +71,7 @@ given-apart fs slots free at has held = free-apart fs.land.space at (given_free 
 
 -- ---- fresh nodes are reached
 
-pub fresh-reached : (fs : FsTree) (history : Option (List Event)) (bytes : ℕ) (items : List Item)
+pub fresh-reached : (fs : FsTree) (history : History) (bytes : ℕ) (items : List Item)
     (names : List (ℕ × Piece)) → IsSubvolume fs history bytes → Stands fs history items names → IsTable fs.refs.refs
     → (at : ℕ) (node : Node) → fresh_at fs.land.blocks.draft at ≡ Some node → IsMet fs history at
 fresh-reached fs history bytes items names subvolume stands table at node is =
@@ -108,7 +108,7 @@ not_both : (o : Option Node) → o ≡ None → IsSome o → ⊥
 not_both None none some = absurd cc
 not_both (Some node) none some = cc
 
-pub met-held : (fs : FsTree) (history : Option (List Event)) (bytes : ℕ) (items : List Item)
+pub met-held : (fs : FsTree) (history : History) (bytes : ℕ) (items : List Item)
     (names : List (ℕ × Piece)) → IsSubvolume fs history bytes → Stands fs history items names → (q : ℕ)
     → IsMet fs history q → fresh_at fs.land.blocks.draft q ≡ None → Contains fs.land.space.held_slots q
 met-held fs history bytes items names subvolume stands q met clean =
@@ -138,7 +138,7 @@ met-held fs history bytes items names subvolume stands q met clean =
     ]
 
 -- so each is read from its text, where the numbers of what is reached fit
-pub fresh-read : (fs : FsTree) (history : Option (List Event)) (bytes : ℕ) (items : List Item)
+pub fresh-read : (fs : FsTree) (history : History) (bytes : ℕ) (items : List Item)
     (names : List (ℕ × Piece)) (roots : List (ℕ × RootItem)) (book : List (ℕ × Kept)) (quota : Option Quota)
     (generation : ℕ) (slots : List ℕ) (trees : OtherTrees)
     → IsSubvolume fs history bytes → Stands fs history items names → IsTable fs.refs.refs → AreFit fs history

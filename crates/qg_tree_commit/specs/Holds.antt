@@ -1,8 +1,8 @@
 -- What a disk holds after a commit, and what is known of nodes in memory then (this project's own). Addresses are in
 -- bytes.
-use Rattle.std.specs.Prelude.{◌≡◌, ℕ, List, Option, Some, None, Contains, IsTrue, ◌==◌, All}
+use Rattle.std.specs.Prelude.{◌≡◌, ℕ, List, None, Contains, IsTrue, ◌==◌, All}
 use Rattle.std.specs.List.{IsDistinct}
-use Rattle.qg_device.specs.History.{Event, content}
+use Rattle.qg_device.specs.History.{Event, History, Recorded, content}
 use Rattle.qg_space.specs.Holding.{Holding, is_free_slot}
 use Rattle.qg_blocks.specs.Held.{Held}
 use Rattle.qg_blocks.specs.Told.{IsBacked, clean_at}
@@ -33,11 +33,11 @@ with_tree_commit fs trees events =
 -- the image then holds the commit, and each node that some tree reached before
 pub record IsOnDisk (fs : FsTree) (trees : OtherTrees) (events : List Event) : Type 0 where
   pub commit : HasCommit trees.superblock (nodes_laid trees) (content (with_tree_commit fs trees events))
-  pub layout : HoldsLayout trees.superblock (content (with_tree_commit fs trees events)) (nodes_in fs (Some events))
+  pub layout : HoldsLayout trees.superblock (content (with_tree_commit fs trees events)) (nodes_in fs (Recorded events))
 
 -- From one history of a disk to another each fresh node was given to it, and clean nodes are backed still. In each slot
 -- that the last commit holds stands what stood there
-pub record IsFlushed (land : Ground) (before after : Option (List Event)) : Type 0 where
+pub record IsFlushed (land : Ground) (before after : History) : Type 0 where
   pub written : AreWritten land.blocks.draft after
   pub backed : IsBacked land.blocks after
   pub held : Keeps land.blocks.draft.sizes before after (λ at. Contains land.space.held_slots at)

@@ -1,8 +1,7 @@
 -- What a disk holds after a commit, and which nodes a commit writes (this project's own). Addresses are in bytes.
 use Rattle.std.specs.Prelude.{◌≡◌, ℕ, ◌≤◌, List, length, Option, Some, All}
 use Rattle.std.specs.List.Sorted.{IsPermutation}
-use Rattle.std.specs.Option.{option_map}
-use Rattle.qg_device.specs.History.{Event, content}
+use Rattle.qg_device.specs.History.{Event, History, Recorded, history_after, content}
 use Rattle.qg_num.specs.declared.piece.Piece.{Piece}
 use Rattle.qg_node.specs.declared.item.Item.{Item}
 use Rattle.qg_node.specs.declared.node.Node.{Node}
@@ -25,13 +24,13 @@ use Rattle.qg_tree_commit.specs.Holds.{AreForgotten, AreFree, IsFlushed, IsOnDis
 
 -- where trees stand, one of them reaches each fresh node
 abbrev pub FreshAreReached : Type 0
-FreshAreReached = (fs : FsTree) (history : Option (List Event)) (bytes : ℕ) (items : List Item)
+FreshAreReached = (fs : FsTree) (history : History) (bytes : ℕ) (items : List Item)
     (names : List (ℕ × Piece)) → IsSubvolume fs history bytes → Stands fs history items names → IsTable fs.refs.refs
     → (at : ℕ) (node : Node) → fresh_at fs.land.blocks.draft at ≡ Some node → IsMet fs history at
 
 -- so where the numbers of what they reach fit their fields, each fresh node is read from its text
 abbrev pub FreshAreReadBack : Type 0
-FreshAreReadBack = (fs : FsTree) (history : Option (List Event)) (bytes : ℕ) (items : List Item)
+FreshAreReadBack = (fs : FsTree) (history : History) (bytes : ℕ) (items : List Item)
     (names : List (ℕ × Piece)) (roots : List (ℕ × RootItem)) (book : List (ℕ × Kept)) (quota : Option Quota)
     (generation : ℕ) (slots : List ℕ) (trees : OtherTrees)
     → IsSubvolume fs history bytes → Stands fs history items names → IsTable fs.refs.refs → AreFit fs history
@@ -44,7 +43,7 @@ abbrev pub CommitIsOnDisk : Type 0
 CommitIsOnDisk = (fs : FsTree) (events : List Event) (bytes : ℕ) (items : List Item) (names : List (ℕ × Piece))
     (roots : List (ℕ × RootItem)) (book : List (ℕ × Kept)) (quota : Option Quota) (generation : ℕ) (slots : List ℕ)
     (trees : OtherTrees)
-    → IsSubvolume fs (Some events) bytes → Stands fs (Some events) items names
+    → IsSubvolume fs (Recorded events) bytes → Stands fs (Recorded events) items names
     → IsLaying fs.land.space.sizes generation roots book quota slots fs.land.blocks.draft trees
     → AreFree fs.land.space slots → All (IsReadBack fs.land.space.sizes.nodesize) (fresh_nodes fs.land.blocks.draft)
     → total_bytes fs.land.space.sizes ≤ length (content events) → IsOnDisk fs trees events
@@ -52,7 +51,7 @@ CommitIsOnDisk = (fs : FsTree) (events : List Event) (bytes : ℕ) (items : List
 -- the nodes written are those of the committed state, whose layout is all trees, that the last commit does not hold, in
 -- some order
 abbrev pub WrittenAreNew : Type 0
-WrittenAreNew = (fs : FsTree) (history : Option (List Event)) (bytes : ℕ) (items : List Item)
+WrittenAreNew = (fs : FsTree) (history : History) (bytes : ℕ) (items : List Item)
     (names : List (ℕ × Piece)) (roots : List (ℕ × RootItem)) (book : List (ℕ × Kept)) (quota : Option Quota)
     (generation : ℕ) (slots : List ℕ) (trees : OtherTrees) (old new : State)
     → IsSubvolume fs history bytes → Stands fs history items names → IsTable fs.refs.refs
@@ -63,12 +62,12 @@ WrittenAreNew = (fs : FsTree) (history : Option (List Event)) (bytes : ℕ) (ite
 
 -- after the calls `written` of qg_blocks may be called, where no clean node in memory lies in a slot that was written
 abbrev pub FreshAreFlushed : Type 0
-FreshAreFlushed = (fs : FsTree) (before : Option (List Event)) (bytes : ℕ) (roots : List (ℕ × RootItem))
+FreshAreFlushed = (fs : FsTree) (before : History) (bytes : ℕ) (roots : List (ℕ × RootItem))
     (book : List (ℕ × Kept))
     (quota : Option Quota) (generation : ℕ) (slots : List ℕ) (trees : OtherTrees)
     → IsSubvolume fs before bytes
     → IsLaying fs.land.space.sizes generation roots book quota slots fs.land.blocks.draft trees
     → AreFree fs.land.space slots → AreForgotten fs.land.blocks slots
     → All (IsReadBack fs.land.space.sizes.nodesize) (fresh_nodes fs.land.blocks.draft)
-    → ((events : List Event) → before ≡ Some events → total_bytes fs.land.space.sizes ≤ length (content events))
-    → IsFlushed fs.land before (option_map (with_tree_commit fs trees) before)
+    → ((events : List Event) → before ≡ Recorded events → total_bytes fs.land.space.sizes ≤ length (content events))
+    → IsFlushed fs.land before (history_after (with_tree_commit fs trees) before)

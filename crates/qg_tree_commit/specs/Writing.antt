@@ -4,7 +4,7 @@ use Rattle.std.specs.Prelude.{◌≡◌, ◌⊎◌, ℕ, List, ◌++◌, Option,
 use Rattle.std.specs.List.Sorted.{IsStrictlySortedBy}
 use Rattle.std.specs.Map.{keys_of, values_of}
 use Rattle.std.specs.Ordering.{nat_cmp}
-use Rattle.qg_device.specs.History.{Event}
+use Rattle.qg_device.specs.History.{Event, History, Recorded}
 use Rattle.qg_node.specs.declared.node.Node.{Node}
 use Rattle.qg_items.specs.declared.root.RootItem.{RootItem}
 use Rattle.qg_super.specs.declared.sizes.Sizes.{Sizes}
@@ -14,7 +14,7 @@ use Rattle.qg_image.specs.declared.quota.Quota.{Quota}
 use Rattle.qg_refs.specs.declared.kept.Kept.{Kept}
 use Rattle.qg_blocks.specs.Held.{Draft}
 use Rattle.qg_blocks.specs.Told.{IsNodeAt, fresh_at}
-use Rattle.qg_commit.specs.Calls.{MadeFront, commit_calls}
+use Rattle.qg_commit.specs.Calls.{MadeFront, unsure_calls}
 use Rattle.qg_commit.specs.Types.{OtherTrees}
 use Rattle.qg_commit.specs.Types.{Told}
 use Rattle.qg_commit.specs.Trees.{AreTrees, nodes_laid}
@@ -54,14 +54,14 @@ abbrev pub IsLayingOf : Sizes → ℕ → Told → List ℕ → Draft → OtherT
 IsLayingOf sizes generation told slots draft trees =
     IsLaying sizes generation told.roots.now told.book.now told.quota.now slots draft trees
 
--- the calls of a commit of such trees came so far
+-- the calls of a commit of such trees came so far, and the last sync is not among them
 pub record ComesSoFar (sizes : Sizes) (generation : ℕ) (told : Told) (slots : List ℕ) (draft : Draft)
-    (events : List Event) (history : Option (List Event)) : Type 0 where
+    (events : List Event) (history : History) : Type 0 where
   pub trees : OtherTrees
   pub is : IsLayingOf sizes generation told slots draft trees
-  pub made : MadeFront (commit_calls trees.superblock (nodes_written draft trees)) events history
+  pub made : MadeFront (unsure_calls trees.superblock (nodes_written draft trees)) events history
 
 -- a commit did not end: nothing was done, or its calls came so far
-abbrev pub StopsLaying : Sizes → ℕ → Told → List ℕ → Draft → List Event → Option (List Event) → Type 0
+abbrev pub StopsLaying : Sizes → ℕ → Told → List ℕ → Draft → List Event → History → Type 0
 StopsLaying sizes generation told slots draft events history =
-    (history ≡ Some events) ⊎ ComesSoFar sizes generation told slots draft events history
+    (history ≡ Recorded events) ⊎ ComesSoFar sizes generation told slots draft events history

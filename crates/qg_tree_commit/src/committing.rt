@@ -1,8 +1,7 @@
 // A commit.
-ghost use Rattle.std.specs.Prelude.{◌≡◌, ◌⊎◌, ◌≤◌, ◌∷◌, List, Some, All, IfOk, IfErr, IsTrue};
-ghost use Rattle.std.specs.Option.{option_map};
+ghost use Rattle.std.specs.Prelude.{◌≡◌, ◌⊎◌, ◌≤◌, ◌∷◌, List, All, IfOk, IfErr, IsTrue};
 ghost use Rattle.qg_device.specs.Cause.{HasCause};
-ghost use Rattle.qg_device.specs.History.{Event, Synced, content};
+ghost use Rattle.qg_device.specs.History.{Event, Recorded, Synced, history_after, content};
 ghost use Rattle.qg_super.specs.Places.{is_slot, total_bytes};
 ghost use Rattle.qg_image.specs.State.{State};
 ghost use Rattle.qg_commit.specs.Calls.{IsReadBack, with_commit};
@@ -41,18 +40,18 @@ pub fn commit<D: Disk>(
     // What was laid out, and over a disk that tells what it holds exactly the calls that write it.
     ensures laid { IfOk result (λ trees. IsLayingOf sizes next told.now slots.now blocks.now.draft trees) }
     ensures calls { IfOk result (λ trees. D.history disk.new
-        ≡ option_map (with_commit trees.superblock (nodes_written blocks.now.draft trees)) (D.history disk.old)) }
+        ≡ history_after (with_commit trees.superblock (nodes_written blocks.now.draft trees)) (D.history disk.old)) }
     ensures read { IfOk result (λ trees. All (IsReadBack sizes.nodesize) (fresh_nodes blocks.now.draft)) }
 
     // Where it does not end, nothing else was done than some of these calls, from the first on.
-    ensures stopped { (events : List Event) → D.history disk.old ≡ Some events
+    ensures stopped { (events : List Event) → D.history disk.old ≡ Recorded events
         → IfErr result (λ fault.
         StopsLaying sizes next told.now slots.now blocks.now.draft events (D.history disk.new)) }
 
     // Whatever a crash leaves since it began, over a disk that had made sure of an older state: that state, or the new
     // superblock over all that the whole commit does; the latter alone once the first superblock was made sure of.
-    ensures crashes { (before after : List Event) (state : State) → D.history disk.old ≡ Some (Synced ∷ before)
-        → D.history disk.new ≡ Some after → IsFound state sizes next slots.now blocks.now.draft (content before)
+    ensures crashes { (before after : List Event) (state : State) → D.history disk.old ≡ Recorded (Synced ∷ before)
+        → D.history disk.new ≡ Recorded after → IsFound state sizes next slots.now blocks.now.draft (content before)
         → (after ≡ Synced ∷ before)
         ⊎ LeavesTrees state sizes next told.now slots.now blocks.now.draft before after }
 

@@ -1,20 +1,19 @@
 // The device calls of a commit.
-ghost use Rattle.std.specs.Prelude.{◌≡◌, ◌≤◌, List, length, Some, All, OnOk, IsTrue};
+ghost use Rattle.std.specs.Prelude.{◌≡◌, ◌≤◌, List, length, All, IfErr, OnOk, IsTrue};
 ghost use Rattle.std.specs.List.{AllByRecursion};
 ghost use Rattle.std.specs.List.Sorted.{IsStrictlySortedBy};
 ghost use Rattle.std.specs.Map.{keys_of};
-ghost use Rattle.std.specs.Option.{option_map};
 ghost use Rattle.std.specs.Ordering.{nat_cmp};
 ghost use Rattle.qg_device.specs.Cause.{HasCause};
-ghost use Rattle.qg_device.specs.History.{Event};
+ghost use Rattle.qg_device.specs.History.{Event, Recorded, history_after};
 ghost use Rattle.qg_node.specs.NodeText.{IsNodeSize};
 ghost use Rattle.qg_super.specs.SuperText.{is_super};
 ghost use Rattle.qg_commit.specs.Calls.{
   IsReadBack,
   IsWritable,
   MadeFront,
-  commit_calls,
   node_calls,
+  unsure_calls,
   with_commit,
   with_nodes,
 };
@@ -39,8 +38,8 @@ fn write_fresh<D: Disk>(
     requires addresses { addresses.now ≡ keys_of blocks.now.draft.fresh }
     requires ascending { IsStrictlySortedBy nat_cmp (keys_of blocks.now.draft.fresh) }
     ensures calls { OnOk result (D.history disk.new
-        ≡ option_map (with_nodes (length buffer.old) (fresh_nodes blocks.now.draft)) (D.history disk.old)) }
-    ensures front { (events : List Event) → D.history disk.old ≡ Some events
+        ≡ history_after (with_nodes (length buffer.old) (fresh_nodes blocks.now.draft)) (D.history disk.old)) }
+    ensures front { (events : List Event) → D.history disk.old ≡ Recorded events
         → MadeFront (node_calls (length buffer.old) (fresh_nodes blocks.now.draft)) events (D.history disk.new) }
     ensures read { OnOk result (All (IsReadBack (length buffer.old)) (fresh_nodes blocks.now.draft)) }
     ensures no_less { D.size disk.old ≤ D.size disk.new }
@@ -71,11 +70,12 @@ pub(crate) fn write_all<D: Disk>(
     requires addresses { addresses.now ≡ keys_of blocks.now.draft.fresh }
     requires ascending { IsStrictlySortedBy nat_cmp (keys_of blocks.now.draft.fresh) }
     ensures calls { OnOk result (D.history disk.new
-        ≡ option_map (with_commit trees.now.superblock (nodes_written blocks.now.draft trees.now))
+        ≡ history_after (with_commit trees.now.superblock (nodes_written blocks.now.draft trees.now))
         (D.history disk.old)) }
-    ensures front { (events : List Event) → D.history disk.old ≡ Some events
-        → MadeFront (commit_calls trees.now.superblock (nodes_written blocks.now.draft trees.now)) events
-        (D.history disk.new) }
+    ensures front { (events : List Event) → D.history disk.old ≡ Recorded events
+        → IfErr result (λ fault.
+        MadeFront (unsure_calls trees.now.superblock (nodes_written blocks.now.draft trees.now)) events
+        (D.history disk.new)) }
     ensures read { OnOk result (All (IsReadBack (length buffer.old)) (fresh_nodes blocks.now.draft)) }
     ensures no_less { D.size disk.old ≤ D.size disk.new }
     ensures cause { HasCause DiskFault.Failed (D.faults disk.old) (D.faults disk.new) result }

@@ -3,7 +3,7 @@ use Rattle.std.proofs.Common.{◌≡◌, ◌≢◌, ℕ, suc, ◌+◌, ◌≤◌
 use Rattle.std.specs.Prelude.{IsTrue, slice_get}
 use Rattle.std.specs.List.{All, list_all}
 use Rattle.std.specs.Ordering.{is_lt}
-use Rattle.qg_device.specs.History.{Event}
+use Rattle.qg_device.specs.History.{History}
 use Rattle.qg_num.specs.Key.{key_cmp}
 use Rattle.qg_num.specs.declared.key.Key.{Key}
 use Rattle.qg_node.specs.declared.item.Item.{Item}
@@ -23,7 +23,7 @@ use Rattle.qg_descent.specs.Branch.{AreBranches, IsMember}
 -- The child at a place of a fresh node is to be edited under a key. These are the items under it, `mine`, and under the
 -- other children, whose keys are less in front and greater behind. The other children are what the way to them leads to
 -- expect; no two children reach the same address, and none of the others a free slot
-pub record IsAround (tree : Tree) (root : Root) (land : Ground) (history : Option (List Event)) (level at : ℕ)
+pub record IsAround (tree : Tree) (root : Root) (land : Ground) (history : History) (level at : ℕ)
     (to : Option Key) (place : ℕ) (key : Key) (pointers : List Pointer) (front mine back items : List Item) : Type
     0 where
   pub header : Header

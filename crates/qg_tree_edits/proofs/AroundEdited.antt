@@ -7,7 +7,7 @@ use Rattle.std.specs.Ordering.{is_lt}
 use Rattle.std.proofs.lemmas.Bool.{and_from, and_parts, cases_Bool, false_from_ne_true, true≢false}
 use Rattle.std.proofs.lemmas.List.Elements.{All-append, All-from_recursion, recursion_from_All}
 use Rattle.std.proofs.lemmas.List.Folds.{list_all-map}
-use Rattle.qg_device.specs.History.{Event}
+use Rattle.qg_device.specs.History.{History}
 use Rattle.qg_num.specs.Key.{key_cmp}
 use Rattle.qg_num.specs.declared.key.Key.{Key}
 use Rattle.qg_node.specs.declared.item.Item.{Item}
@@ -258,7 +258,7 @@ module _ (edit : Edit) (old new : List Item) (is : IsLeafEdited edit old new) wh
 
 -- ---- the node around
 
-module _ (tree : Tree) (root : Root) (mid new : Ground) (history : Option (List Event)) (level at : ℕ) (to : Option Key)
+module _ (tree : Tree) (root : Root) (mid new : Ground) (history : History) (level at : ℕ) (to : Option Key)
     (place : ℕ) (edit : Edit) (pointers : List Pointer) (front mine back items : List Item)
     (around : IsAround tree root mid history level at to place edit.key pointers front mine back items) (child_at : ℕ)
     (child : Instead) (part : IsPartEdited tree root mid new history level child_at edit mine child)

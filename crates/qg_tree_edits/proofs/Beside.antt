@@ -2,7 +2,7 @@
 use Rattle.std.proofs.Common.{◌≡◌, ◌≢◌, ◌⊎◌, ℕ, ◌+◌, ◌≤◌, ◌<◌, List, take, drop, arith, sym, subst, ◌∙◌, inl, inr}
 use Rattle.std.proofs.Common.{Option, Some}
 use Rattle.std.specs.Prelude.{slice_get}
-use Rattle.qg_device.specs.History.{Event}
+use Rattle.qg_device.specs.History.{History}
 use Rattle.qg_num.specs.declared.key.Key.{Key}
 use Rattle.qg_node.specs.declared.item.Item.{Item}
 use Rattle.qg_node.specs.declared.pointer.Pointer.{Pointer}
@@ -19,7 +19,7 @@ use Rattle.qg_descent.proofs.BranchFrames.{reach-top}
 use Rattle.qg_tree_edits.proofs.Spliced.{get-drop, get-take}
 
 -- what is under another child
-module _ (tree : Tree) (root : Root) (land : Ground) (history : Option (List Event)) (level at : ℕ) (to : Option Key)
+module _ (tree : Tree) (root : Root) (land : Ground) (history : History) (level at : ℕ) (to : Option Key)
     (place : ℕ) (child : Instead) (items : List Item)
     (un : IsUnsettled tree root land history level at to place child items) where
   Under : Pointer → List Item → Type 0
@@ -47,7 +47,7 @@ beside-differs pointers to level place beside is same = elim is.pair [
   | inr front ↦ let a = front.0 in let b = front.1 in omega (arith, a, b, same)
 ]
 
-module _ (tree : Tree) (root : Root) (land new : Ground) (history : Option (List Event)) (level at : ℕ)
+module _ (tree : Tree) (root : Root) (land new : Ground) (history : History) (level at : ℕ)
     (to : Option Key) (place child : ℕ) (items : List Item)
     (un : IsUnsettled tree root land history level at to place (alone child) items) where
   -- and so is its address, also once it is owned

@@ -1,7 +1,7 @@
 -- What is told where no node is fresh.
 use Rattle.std.proofs.Common.{◌≡◌, ℕ, List, refl}
 use Rattle.std.specs.Prelude.{Option, Some, None, IsSome, is_some, if◌then◌else◌}
-use Rattle.qg_device.specs.History.{Event}
+use Rattle.qg_device.specs.History.{History}
 use Rattle.qg_node.specs.declared.node.Node.{Node}
 use Rattle.qg_node.specs.Nodes.{header_of}
 use Rattle.qg_blocks.specs.Told.{fresh_at, told}
@@ -23,18 +23,18 @@ is_unless None there node is = (refl, is)
 is_unless (Some other) there node is = cc
 
 -- it is the same that is told
-pub clean-same : (land : Ground) (history : Option (List Event)) (q : ℕ) → fresh_at land.blocks.draft q ≡ None
+pub clean-same : (land : Ground) (history : History) (q : ℕ) → fresh_at land.blocks.draft q ≡ None
     → clean_at land history q ≡ told land.blocks.draft history q
 clean-same land history q none = same_unless (fresh_at land.blocks.draft q) (told land.blocks.draft history q) none
 
-pub clean-is : (land : Ground) (history : Option (List Event)) (q : ℕ) (node : Node)
+pub clean-is : (land : Ground) (history : History) (q : ℕ) (node : Node)
     → clean_at land history q ≡ Some node
     → (fresh_at land.blocks.draft q ≡ None) × (told land.blocks.draft history q ≡ Some node)
 clean-is land history q node is =
     is_unless (fresh_at land.blocks.draft q) (told land.blocks.draft history q) node is
 
 -- so what is copied was not fresh, and is what stood there
-pub copied-was : (land : Ground) (history : Option (List Event)) (node : Node) (copy : ℕ)
+pub copied-was : (land : Ground) (history : History) (node : Node) (copy : ℕ)
     → IsAsWas (clean_at land history) (Copied node copy)
     → (fresh_at land.blocks.draft (header_of node).address ≡ None)
     × (told land.blocks.draft history (header_of node).address ≡ Some node)

@@ -3,7 +3,7 @@ use Rattle.std.proofs.Common.{◌≡◌, ℕ, Bool, true, false, List, refl, sym
 use Rattle.std.specs.Prelude.{◌==◌, if◌then◌else◌, Contains}
 use Rattle.std.specs.List.{list_any}
 use Rattle.std.proofs.lemmas.Bool.{eq-eqb, eqb-true}
-use Rattle.qg_device.specs.History.{Event}
+use Rattle.qg_device.specs.History.{History}
 use Rattle.qg_node.specs.declared.node.Node.{Node}
 use Rattle.qg_super.specs.declared.sizes.Sizes.{Sizes}
 use Rattle.qg_blocks.specs.Told.{fresh_at, told, told_or}
@@ -22,13 +22,13 @@ held_none : (land : Ground) (generation at : ℕ) (fresh : Option Node) → IsDr
 held_none land generation at None drafted is held = refl
 held_none land generation at (Some node) drafted is held = absurd (unheld-fresh land generation at node drafted is held)
 
-told_clean : (land : Ground) (history : Option (List Event)) (q : ℕ) → fresh_at land.blocks.draft q ≡ None
+told_clean : (land : Ground) (history : History) (q : ℕ) → fresh_at land.blocks.draft q ≡ None
     → told land.blocks.draft history q ≡ told_or None land.blocks.draft.sizes history q
 unfolding told
 told_clean land history q none = ap (λ (o : Option Node). told_or o land.blocks.draft.sizes history q) none
 
 -- they are told after a call as before
-pub committed-after : (old new : Ground) (history later : Option (List Event)) (generation : ℕ)
+pub committed-after : (old new : Ground) (history later : History) (generation : ℕ)
     (clean : ℕ → Option Node) → Rests old new later generation → AreCommitted old history clean
     → AreCommitted new history clean
 committed-after old new history later generation clean rests committed q node is =
@@ -43,7 +43,7 @@ committed-after old new history later generation clean rests committed q node is
     (held, none, same ∙ was.2)
 
 -- none is where a node is fresh
-pub committed-none : (land : Ground) (history : Option (List Event)) (clean : ℕ → Option Node)
+pub committed-none : (land : Ground) (history : History) (clean : ℕ → Option Node)
     → AreCommitted land history clean → (at : ℕ) (fresh : Node) → fresh_at land.blocks.draft at ≡ Some fresh
     → clean at ≡ None
 committed-none land history clean committed at fresh here = from (clean at) refl where
@@ -51,7 +51,7 @@ committed-none land history clean committed at fresh here = from (clean at) refl
   from None is = refl
   from (Some node) is = absurd (let none = (committed at node is).1 in let both = sym none ∙ here in cc)
 
-pub committed-told : (land : Ground) (history : Option (List Event)) (clean : ℕ → Option Node)
+pub committed-told : (land : Ground) (history : History) (clean : ℕ → Option Node)
     → AreCommitted land history clean → (q : ℕ) (node : Node) → clean q ≡ Some node
     → told land.blocks.draft history q ≡ Some node
 committed-told land history clean committed q node is = (committed q node is).2
@@ -67,7 +67,7 @@ if_held : (held : Bool) (there : Option Node) → held ≡ true → (if held the
 if_held true there is = refl
 if_held false there is = absurd cc
 
-pub committed-are : (land : Ground) (history : Option (List Event)) (generation : ℕ) → IsDrafted land generation
+pub committed-are : (land : Ground) (history : History) (generation : ℕ) → IsDrafted land generation
     → AreCommitted land history (committed_at land history)
 committed-are land history generation drafted q node is =
     let parts = held_if (list_any (λ (slot : ℕ). slot == q) land.space.held_slots) (told land.blocks.draft history q)
@@ -77,7 +77,7 @@ committed-are land history generation drafted q node is =
     (held, held_none land generation q (fresh_at land.blocks.draft q) drafted refl held, parts.1)
 
 -- what the last commit holds, and is told, is one of them
-pub committed-is : (land : Ground) (history : Option (List Event)) (q : ℕ) → Contains land.space.held_slots q
+pub committed-is : (land : Ground) (history : History) (q : ℕ) → Contains land.space.held_slots q
     → committed_at land history q ≡ told land.blocks.draft history q
 committed-is land history q held =
     if_held (list_any (λ (slot : ℕ). slot == q) land.space.held_slots) (told land.blocks.draft history q)

@@ -2,7 +2,7 @@
 use Rattle.std.proofs.Common.{◌≡◌, ℕ, ◌≤◌, arith, sym, ap, subst, ◌∙◌, inl, inr, Option, Some, None}
 use Rattle.std.specs.Prelude.{List, Result, Ok, Err, IfOk}
 use Rattle.std.proofs.lemmas.Bool.Decides.{eqb_tells}
-use Rattle.qg_device.specs.History.{Event}
+use Rattle.qg_device.specs.History.{History, Unrecorded}
 use Rattle.qg_num.specs.declared.fault.BlockFault.{BlockFault}
 use Rattle.qg_node.specs.declared.node.Header.{Header}
 use Rattle.qg_node.specs.declared.node.Node.{Node}
@@ -62,7 +62,7 @@ module _ (land new : Ground) (at generation : ℕ) (node : Node) (here : fresh_a
   rewritten-spares = subst (λ (g : Ground). Spares land g) (sym is.is)
       (Spares-edited land at is.node (IsSome-is (fresh_at land.blocks.draft at) node here))
 
-  pub rewritten-rests : (history : Option (List Event)) → IsBacked land.blocks history → IsDrafted land generation
+  pub rewritten-rests : (history : History) → IsBacked land.blocks history → IsDrafted land generation
       → Rests land new history generation
   rewritten-rests history backed drafted =
       let was = drafted.each at node here in
@@ -86,7 +86,7 @@ module _ (land new : Ground) (at generation : ℕ) (node : Node) (here : fresh_a
       | inr (unequal, differ) ↦
           ap (λ (g : Ground). fresh_at g.blocks.draft q) is.is
           ∙ fresh_at-told land.blocks.draft (edited land at is.node).blocks.draft q
-          (edited-others land at is.node None q (IsSome-is (fresh_at land.blocks.draft at) node here) differ)
+          (edited-others land at is.node (Unrecorded 0) q (IsSome-is (fresh_at land.blocks.draft at) node here) differ)
           ∙ there
     ];
   }

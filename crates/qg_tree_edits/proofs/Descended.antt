@@ -1,6 +1,6 @@
 -- A node that an edit goes on from to one of its children.
 use Rattle.std.proofs.Common.{◌≡◌, ℕ, suc, ◌+◌, ◌-◌, List, ◌++◌, map, take, drop, sym, subst, ◌∙◌, Option, Some}
-use Rattle.qg_device.specs.History.{Event}
+use Rattle.qg_device.specs.History.{History}
 use Rattle.qg_node.specs.declared.item.Item.{Item}
 use Rattle.qg_node.specs.declared.pointer.Pointer.{Pointer}
 use Rattle.qg_node.specs.declared.node.Header.{Header}
@@ -34,7 +34,7 @@ use Rattle.qg_tree_edits.proofs.PartBelow.{part-below}
 use Rattle.qg_tree_edits.proofs.PartEdited.{fit-branch, part-edited-unsettled, part-told-unsettled}
 use Rattle.qg_tree_edits.proofs.LeavesBelow.{below-leaves}
 
-module _ (tree : Tree) (root : Root) (land mid : Ground) (history : Option (List Event)) (level : ℕ)
+module _ (tree : Tree) (root : Root) (land mid : Ground) (history : History) (level : ℕ)
     (expected : Expected) (at now : ℕ) (edit : Edit) (items : List Item)
     (fit : IsPartFit tree root land history (suc level) expected at edit items)
     (owned : IsOwned tree root land mid history expected at now) (makes : CanMake tree root)
@@ -141,7 +141,7 @@ module _ (tree : Tree) (root : Root) (land mid : Ground) (history : Option (List
         whole.front descended-mine whole.back descended-way.there descended-way.child (descended-first is) about low set
         child edited_child above descended-items descended-unsettled kept cleared
 
-    module _ (set end : Ground) (own_later child_later set_later end_later : Option (List Event)) (rest : Option Node)
+    module _ (set end : Ground) (own_later child_later set_later end_later : History) (rest : Option Node)
         (instead : Instead)
         (settled : IsSettled tree root low set history level now place child descended-unsettled.pointers
         descended-unsettled.header descended-items rest)

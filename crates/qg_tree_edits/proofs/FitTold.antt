@@ -1,7 +1,7 @@
 -- What is told of the top of a part of a tree that is fit for an edit.
-use Rattle.std.proofs.Common.{◌≡◌, ℕ, false, List, ap, ◌∙◌, Option, Some}
+use Rattle.std.proofs.Common.{◌≡◌, ℕ, false, List, ap, ◌∙◌, Some}
 use Rattle.std.proofs.lemmas.Bool.{false_from_ne_true}
-use Rattle.qg_device.specs.History.{Event}
+use Rattle.qg_device.specs.History.{History}
 use Rattle.qg_node.specs.declared.item.Item.{Item}
 use Rattle.qg_image.specs.declared.expected.Expected.{Expected}
 use Rattle.qg_image.specs.declared.tree.Tree.{Tree}
@@ -16,7 +16,7 @@ use Rattle.qg_descent.proofs.BranchFrames.{reach-top}
 use Rattle.qg_tree_edits.proofs.PartEdited.{fit-branch}
 
 -- the node that is owned is told there, and its slot is taken
-pub fit-told : (tree : Tree) (root : Root) (land mid : Ground) (history : Option (List Event)) (level : ℕ)
+pub fit-told : (tree : Tree) (root : Root) (land mid : Ground) (history : History) (level : ℕ)
     (expected : Expected) (at now : ℕ) (edit : Edit) (items : List Item)
     → IsPartFit tree root land history level expected at edit items
     → (owned : IsOwned tree root land mid history expected at now)

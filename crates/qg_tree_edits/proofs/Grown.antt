@@ -1,10 +1,10 @@
 -- A new root above two nodes.
 use Rattle.std.proofs.Common.{◌≡◌, ◌≢◌, ◌⊎◌, ℕ, zero, suc, ◌+◌, true, List, [], ◌∷◌, add-one, arith, refl, sym, ap}
-use Rattle.std.proofs.Common.{subst, ◌∙◌, inl, inr, Option, Some}
+use Rattle.std.proofs.Common.{subst, ◌∙◌, inl, inr, Some}
 use Rattle.std.specs.Prelude.{IsTrue, slice_get}
 use Rattle.std.specs.Ordering.{is_lt}
 use Rattle.std.proofs.lemmas.Bool.{and_parts}
-use Rattle.qg_device.specs.History.{Event}
+use Rattle.qg_device.specs.History.{History}
 use Rattle.qg_num.specs.Key.{key_cmp}
 use Rattle.qg_node.specs.declared.item.Item.{Item}
 use Rattle.qg_node.specs.declared.pointer.Pointer.{Pointer}
@@ -42,7 +42,7 @@ use Rattle.qg_tree_edits.proofs.Served.{size-blocks}
 abbrev pub two : ℕ → ℕ → Instead
 two now more = record { now = now; more = Some more }
 
-module _ (tree : Tree) (root : Root) (land : Ground) (history : Option (List Event)) (now more : ℕ) (items : List Item)
+module _ (tree : Tree) (root : Root) (land : Ground) (history : History) (now more : ℕ) (items : List Item)
     (a b : Node)
     (stands : StandsForRoot tree root land history (two now more) items) (drafted : IsDrafted land root.next)
     (first : fresh_at land.blocks.draft now ≡ Some a) (second : fresh_at land.blocks.draft more ≡ Some b) where
@@ -74,7 +74,7 @@ module _ (tree : Tree) (root : Root) (land : Ground) (history : Option (List Eve
       (branches-keys tree (super_of root land.blocks.draft) (told land.blocks.draft history) root.height
       (pointer_to a ∷ pointer_to b ∷ []) items both stands.ascending)).0
 
-  module _ (new : Ground) (later : Option (List Event)) (top : ℕ) (header : Header)
+  module _ (new : Ground) (later : History) (top : ℕ) (header : Header)
       (made : Makes land new top (Inner header (pointer_to a ∷ pointer_to b ∷ []))) (makes : CanMake tree root)
       (level : header.level ≡ suc root.height) (owner : header.owner ≡ root.owner)
       (dated : header.generation ≡ root.next) (rests : Rests land new later root.next) where
@@ -258,10 +258,10 @@ module _ (tree : Tree) (root : Root) (land : Ground) (history : Option (List Eve
     grown = subst (λ (h : ℕ). HasRoot tree root (record root { address = top; height = h }) land new history
         (two now more) items) (sym (add-one root.height)) grown_up
 
-pub grown-above : (tree : Tree) (root : Root) (land : Ground) (history : Option (List Event)) (now more : ℕ)
+pub grown-above : (tree : Tree) (root : Root) (land : Ground) (history : History) (now more : ℕ)
     (items : List Item) (a b : Node) → StandsForRoot tree root land history (two now more) items
     → IsDrafted land root.next → fresh_at land.blocks.draft now ≡ Some a → fresh_at land.blocks.draft more ≡ Some b
-    → (new : Ground) (later : Option (List Event)) (top : ℕ) (header : Header) (node p q : Node)
+    → (new : Ground) (later : History) (top : ℕ) (header : Header) (node p q : Node)
     → node ≡ Inner header (pointer_to p ∷ pointer_to q ∷ []) → p ≡ a → q ≡ b → Makes land new top node
     → CanMake tree root
     → header.level ≡ suc root.height → header.owner ≡ root.owner → header.generation ≡ root.next
@@ -275,10 +275,10 @@ grown-above tree root land history now more items a b stands drafted first secon
     ∙ ap (λ (n : Node). Inner header (pointer_to a ∷ pointer_to n ∷ [])) q_is) made)
     makes level owner dated rests
 
-pub told-above : (tree : Tree) (root : Root) (land : Ground) (history : Option (List Event)) (now more : ℕ)
+pub told-above : (tree : Tree) (root : Root) (land : Ground) (history : History) (now more : ℕ)
     (items : List Item) (a b : Node) → StandsForRoot tree root land history (two now more) items
     → IsDrafted land root.next → fresh_at land.blocks.draft now ≡ Some a → fresh_at land.blocks.draft more ≡ Some b
-    → (new : Ground) (later : Option (List Event)) (top : ℕ) (header : Header) (node p q : Node)
+    → (new : Ground) (later : History) (top : ℕ) (header : Header) (node p q : Node)
     → node ≡ Inner header (pointer_to p ∷ pointer_to q ∷ []) → p ≡ a → q ≡ b → Makes land new top node
     → CanMake tree root
     → header.level ≡ suc root.height → header.owner ≡ root.owner → header.generation ≡ root.next

@@ -10,7 +10,7 @@ use Rattle.std.proofs.lemmas.Bool.{eq-eqb, eqb-true, leb-true, or_cases}
 use Rattle.std.proofs.lemmas.List.Folds.{list_any-append}
 use Rattle.std.proofs.lemmas.Map.Keys.{IsDistinct-cons, IsDistinct-head, IsDistinct-tail}
 use Rattle.std.proofs.lemmas.Map.Steps.{length-le_from_distinct_below}
-use Rattle.qg_device.specs.History.{Event, content}
+use Rattle.qg_device.specs.History.{History, Recorded, Unrecorded, content}
 use Rattle.qg_num.specs.declared.rule.Rule.{Rule}
 use Rattle.qg_num.specs.declared.rule.Rule.TheVariants as rule
 use Rattle.qg_node.specs.declared.item.Item.{Item}
@@ -313,12 +313,12 @@ ok_there : (read : Result Node Rule) (node : Node) → result_ok read ≡ Some n
 ok_there (Ok other) node is = let same : other ≡ node = cc in rw same refl
 ok_there (Err broken) node is = absurd cc
 
-either_slot : (fresh : Option Node) (sizes : Sizes) (history : Option (List Event)) (address : ℕ) (node : Node)
+either_slot : (fresh : Option Node) (sizes : Sizes) (history : History) (address : ℕ) (node : Node)
     → ((other : Node) → fresh ≡ Some other → is_slot sizes address ≡ true)
     → told_or fresh sizes history address ≡ Some node → is_slot sizes address ≡ true
 either_slot (Some other) sizes history address node placed is = placed other refl
-either_slot None sizes None address node placed is = absurd cc
-either_slot None sizes (Some events) address node placed is =
+either_slot None sizes (Unrecorded changes) address node placed is = absurd cc
+either_slot None sizes (Recorded events) address node placed is =
     let stands = ok_there (standing sizes (content events) address) node is in
     standing_slot sizes (content events) address node stands
 
@@ -328,7 +328,7 @@ unfolding is_slot
 slot_same sizes other address nodesize slots = rw (nodesize, slots) refl
 
 -- where a node is told, the address is that of a slot
-pub told-slot : (land : Ground) (history : Option (List Event)) (generation : ℕ) → IsDrafted land generation
+pub told-slot : (land : Ground) (history : History) (generation : ℕ) → IsDrafted land generation
     → (q : ℕ) (node : Node) → told land.blocks.draft history q ≡ Some node → is_slot land.space.sizes q ≡ true
 unfolding told
 told-slot land history generation drafted q node is =
@@ -340,7 +340,7 @@ told-slot land history generation drafted q node is =
 
 -- ---- a tree
 
-height_under : (tree : Tree) (root : Root) (land : Ground) (history : Option (List Event)) (items : List Item)
+height_under : (tree : Tree) (root : Root) (land : Ground) (history : History) (items : List Item)
     (height : ℕ) → IsDrafted land root.next
     → IsUnder tree (super_of root land.blocks.draft) (told land.blocks.draft history) height
     (root_expected (Some height) None) root.address items → height ≤ 3
@@ -366,7 +366,7 @@ height_under tree root land history items (suc level) drafted under =
     levels_few level sizes.slots served.slots few
 
 -- a tree in an image of a size that is served has a height of 3 at most
-pub height-low : (tree : Tree) (root : Root) (land : Ground) (history : Option (List Event)) (items : List Item)
+pub height-low : (tree : Tree) (root : Root) (land : Ground) (history : History) (items : List Item)
     → IsDrafted land root.next → TellsTree tree root land.blocks.draft history items → root.height ≤ 3
 height-low tree root land history items drafted tells =
     height_under tree root land history items root.height drafted

@@ -1,9 +1,9 @@
 -- Two fresh neighbours before they are joined.
-use Rattle.std.proofs.Common.{◌≡◌, ℕ, zero, suc, true, List, ◌++◌, length, arith, sym, ap, subst, ◌∙◌, Option, Some}
+use Rattle.std.proofs.Common.{◌≡◌, ℕ, zero, suc, true, List, ◌++◌, length, arith, sym, ap, subst, ◌∙◌, Some}
 use Rattle.std.specs.Prelude.{◌≤◌}
 use Rattle.std.specs.List.{All}
 use Rattle.std.proofs.lemmas.List.{map-append}
-use Rattle.qg_device.specs.History.{Event}
+use Rattle.qg_device.specs.History.{History}
 use Rattle.qg_node.specs.declared.item.Item.{Item}
 use Rattle.qg_node.specs.declared.pointer.Pointer.{Pointer}
 use Rattle.qg_node.specs.declared.node.Node.{Node}
@@ -21,7 +21,7 @@ use Rattle.qg_descent.proofs.Branches.{each-join}
 use Rattle.qg_descent.proofs.BranchOrder.{keys_of}
 use Rattle.qg_tree_edits.proofs.Leading.{branches-keys}
 
-fresh_is : (land : Ground) (history : Option (List Event)) (at : ℕ) (node there : Node)
+fresh_is : (land : Ground) (history : History) (at : ℕ) (node there : Node)
     → fresh_at land.blocks.draft at ≡ Some node → told land.blocks.draft history at ≡ Some there → node ≡ there
 fresh_is land history at node there here is = let e = sym (told-fresh_at land.blocks.draft history at node here) ∙ is in
     cc
@@ -31,7 +31,7 @@ front_of a b c d left right is =
     subst (λ (n : Node). IsInFront n b) (sym left) (subst (λ (n : Node). IsInFront c n) (sym right) is)
 
 -- bodies are short in a node where they are under it
-pub united-short : (tree : Tree) (super : Super) (land : Ground) (history : Option (List Event)) (level at : ℕ)
+pub united-short : (tree : Tree) (super : Super) (land : Ground) (history : History) (level at : ℕ)
     (items : List Item)
     → IsBranch tree super (told land.blocks.draft history) level at items → All (λ item. length item.body ≤ 1024) items
     → (a : Node) → fresh_at land.blocks.draft at ≡ Some a → HasShortBodies a
@@ -43,7 +43,7 @@ united-short tree super land history (suc level) at items branch short a here =
     (λ place item low. absurd (omega (arith, low)))
 
 -- the left one's keys are less than the right one's
-pub united-front : (tree : Tree) (super : Super) (land : Ground) (history : Option (List Event)) (level left right : ℕ)
+pub united-front : (tree : Tree) (super : Super) (land : Ground) (history : History) (level left right : ℕ)
     (lefts rights : List Item)
     → IsBranch tree super (told land.blocks.draft history) level left lefts
     → IsBranch tree super (told land.blocks.draft history) level right rights

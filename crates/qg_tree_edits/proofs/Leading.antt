@@ -7,7 +7,7 @@ use Rattle.std.specs.Ordering.{is_lt}
 use Rattle.std.proofs.lemmas.List.{append-nil, append_assoc}
 use Rattle.std.proofs.lemmas.Option.{MatchOption-at_none, MatchOption-at_some}
 use Rattle.std.proofs.lemmas.List.Folds.{list_all-map}
-use Rattle.qg_device.specs.History.{Event}
+use Rattle.qg_device.specs.History.{History}
 use Rattle.qg_num.specs.Key.{key_cmp}
 use Rattle.qg_num.specs.declared.key.Key.{Key}
 use Rattle.qg_node.specs.declared.item.Item.{Item}
@@ -136,7 +136,7 @@ module _ (tree : Tree) (super : Super) (nodes : ℕ → Option Node) where
 
 -- ---- a node that is edited where it lies, above
 
-module _ (tree : Tree) (super : Super) (land : Ground) (history : Option (List Event)) (level at : ℕ) (header : Header)
+module _ (tree : Tree) (super : Super) (land : Ground) (history : History) (level at : ℕ) (header : Header)
     (pointers : List Pointer)
     (here : fresh_at land.blocks.draft at ≡ Some (Inner header pointers)) (high : header.level ≡ suc level) where
   nodes : ℕ → Option Node
@@ -157,7 +157,7 @@ module _ (tree : Tree) (super : Super) (land : Ground) (history : Option (List E
       omega (arith, level_is, upto)
 
   pub rewritten-others : (new : Ground) → IsRewritten land new at (Inner header pointers)
-      → (disk : Option (List Event)) (q : ℕ) → q ≢ at
+      → (disk : History) (q : ℕ) → q ≢ at
       → told new.blocks.draft disk q ≡ told land.blocks.draft disk q
   rewritten-others new is disk q differ =
       ap (λ (g : Ground). told g.blocks.draft disk q) is.is
@@ -238,7 +238,7 @@ to_none = refl
 to_some : (pointer : Pointer) (address : ℕ) → pointer.child ≡ address → OnlyTo (pointer ∷ []) (Some address)
 to_some pointer address is = (pointer, refl, is)
 
-module _ (tree : Tree) (super : Super) (land new : Ground) (history : Option (List Event)) (level at from to : ℕ)
+module _ (tree : Tree) (super : Super) (land new : Ground) (history : History) (level at from to : ℕ)
     (instead : Instead) (pointers : List Pointer) (header : Header) (items : List Item)
     (can : CanLead tree super land history level at from to instead pointers header items)
     (named : IsNamed land instead.now) (a : Node) (held : held_at land.blocks instead.now ≡ Some a) where

@@ -2,7 +2,7 @@
 use Rattle.std.proofs.Common.{◌≡◌, ◌≢◌, ◌⊎◌, ℕ, List, [], ◌++◌, append-nil, arith, refl, sym, ap, subst, ◌∙◌, inl, inr}
 use Rattle.std.proofs.Common.{Option, Some, None}
 use Rattle.std.specs.Prelude.{IsTrue}
-use Rattle.qg_device.specs.History.{Event}
+use Rattle.qg_device.specs.History.{History}
 use Rattle.qg_node.specs.declared.item.Item.{Item}
 use Rattle.qg_node.specs.declared.node.Header.{Header}
 use Rattle.qg_node.specs.declared.node.Node.{Node}
@@ -83,7 +83,7 @@ member_moved tree super level owner address h other is may member = record {
 }
 
 -- what stands there holds the items
-module _ (tree : Tree) (super : Super) (set end : Ground) (history : Option (List Event)) (nodesize now : ℕ)
+module _ (tree : Tree) (super : Super) (set end : Ground) (history : History) (nodesize now : ℕ)
     (h : Header) (items : List Item) (instead : Instead) (member : IsMember tree super 0 h)
     (owner : ℕ) (may : IsTrue (is_owner tree owner))
     (size : super.nodesize ≡ nodesize) where
@@ -134,7 +134,7 @@ module _ (tree : Tree) (super : Super) (set end : Ground) (history : Option (Lis
   leaf-holds (inr two) = two_hold two
 
 -- the leaf that was owned has the items
-module _ (tree : Tree) (root : Root) (land mid : Ground) (history : Option (List Event)) (expected : Expected)
+module _ (tree : Tree) (root : Root) (land mid : Ground) (history : History) (expected : Expected)
     (at now : ℕ) (edit : Edit) (items : List Item)
     (owned : IsOwned tree root land mid history expected at now) (makes : CanMake tree root)
     (fit : IsPartFit tree root land history 0 expected at edit items) where
@@ -149,7 +149,7 @@ module _ (tree : Tree) (root : Root) (land mid : Ground) (history : Option (List
       let is = mine-leaf tree root land mid history expected at now owned makes top.0 items top.1 top.2.levelled in
       (is.0, is.1, is.2 top.2)
 
-module _ (tree : Tree) (root : Root) (land mid set end : Ground) (history later last : Option (List Event))
+module _ (tree : Tree) (root : Root) (land mid set end : Ground) (history later last : History)
     (expected : Expected) (at now : ℕ) (edit : Edit) (items : List Item) (rest : Option Node) (instead : Instead)
     (owned : IsOwned tree root land mid history expected at now) (makes : CanMake tree root)
     (fit : IsPartFit tree root land history 0 expected at edit items) (drafted : IsDrafted land root.next)
@@ -212,7 +212,7 @@ module _ (tree : Tree) (root : Root) (land mid set end : Ground) (history later 
     | inr free ↦ elim (free_set q free) [ inl was ↦ inr was | inr same ↦ inl same ]
   ]
 
-  others : (disk : Option (List Event)) (q : ℕ) → (IsTrue (is_free_slot land.space q) → ⊥)
+  others : (disk : History) (q : ℕ) → (IsTrue (is_free_slot land.space q) → ⊥)
       → (Reaches (told land.blocks.draft history) 0 at q → ⊥)
       → told end.blocks.draft disk q ≡ told land.blocks.draft disk q
   unfolding Reaches

@@ -3,7 +3,7 @@ use Rattle.std.proofs.Common.{◌≡◌, ◌≢◌, ℕ, zero, suc, ◌+◌, ◌
 use Rattle.std.proofs.Common.{subst, ◌∙◌, Option, Some, None}
 use Rattle.std.specs.Prelude.{slice_get}
 use Rattle.std.proofs.lemmas.List.{length-append}
-use Rattle.qg_device.specs.History.{Event}
+use Rattle.qg_device.specs.History.{History}
 use Rattle.qg_node.specs.declared.item.Item.{Item}
 use Rattle.qg_node.specs.declared.pointer.Pointer.{Pointer}
 use Rattle.qg_node.specs.declared.node.Header.{Header}
@@ -44,7 +44,7 @@ no_length [] is = refl
 no_length (item ∷ items) is = absurd (omega (arith, is))
 
 -- of a leaf that was cleared an empty one is left
-pub leaf-leaves : (tree : Tree) (root : Root) (old new : Ground) (history : Option (List Event)) (expected : Expected)
+pub leaf-leaves : (tree : Tree) (root : Root) (old new : Ground) (history : History) (expected : Expected)
     (at : ℕ) (edit : Edit) (items : List Item) (instead : Instead)
     → IsPartFit tree root old history 0 expected at edit items
     → IsPartEdited tree root old new history 0 at edit items instead → edit.key ≡ least → edit.change ≡ Clear
@@ -79,7 +79,7 @@ leaf-leaves tree root old new history expected at edit items instead fit part le
 -- ---- a node whose first child was edited
 
 -- nothing of it was cut off
-pub placed-leaves : (owner : ℕ) (set end : Ground) (history : Option (List Event)) (level now : ℕ) (rest : Option Node)
+pub placed-leaves : (owner : ℕ) (set end : Ground) (history : History) (level now : ℕ) (rest : Option Node)
     (instead : Instead) → rest ≡ None → IsPlacedBehind owner set end now rest instead
     → leaves (told end.blocks.draft history) level instead.now ≡ leaves (told set.blocks.draft history) level now
 placed-leaves owner set end history level now None instead none placed =
@@ -95,7 +95,7 @@ two_below tree super nodes zero pointer items size pointed branch high = absurd 
 two_below tree super nodes (suc level) pointer items size pointed branch high =
     leaves-two tree super nodes level pointer items size pointed branch
 
-module _ (tree : Tree) (root : Root) (land mid : Ground) (history : Option (List Event)) (level : ℕ)
+module _ (tree : Tree) (root : Root) (land mid : Ground) (history : History) (level : ℕ)
     (expected : Expected) (at now : ℕ) (edit : Edit) (items : List Item)
     (fit : IsPartFit tree root land history (suc level) expected at edit items)
     (owned : IsOwned tree root land mid history expected at now) (makes : CanMake tree root)

@@ -3,7 +3,7 @@ use Rattle.std.proofs.Common.{◌≡◌, ℕ, suc, List, [], ◌∷◌, ◌++◌
 use Rattle.std.proofs.Common.{None}
 use Rattle.std.specs.Prelude.{MatchOption}
 use Rattle.std.proofs.lemmas.Option.{MatchOption-at_some}
-use Rattle.qg_device.specs.History.{Event}
+use Rattle.qg_device.specs.History.{History}
 use Rattle.qg_node.specs.declared.item.Item.{Item}
 use Rattle.qg_node.specs.declared.pointer.Pointer.{Pointer}
 use Rattle.qg_node.specs.declared.node.Header.{Header}
@@ -41,7 +41,7 @@ more_same : (under other : ℕ → List (List Item)) (o : Option ℕ)
 more_same under other None same = refl
 more_same under other (Some more) same = same more refl
 
-module _ (tree : Tree) (super : Super) (land new : Ground) (history : Option (List Event)) (level at from to : ℕ)
+module _ (tree : Tree) (super : Super) (land new : Ground) (history : History) (level at from to : ℕ)
     (instead : Instead) (pointers : List Pointer) (header : Header) (items : List Item) (rest : Option Node)
     (can : CanLead tree super land history level at from to instead pointers header items)
     (led : HasLed tree super land new history level at from to instead pointers header items rest)

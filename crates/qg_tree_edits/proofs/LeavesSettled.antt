@@ -2,7 +2,7 @@
 use Rattle.std.proofs.Common.{◌≡◌, ℕ, zero, suc, ◌+◌, ◌≤◌, List, [], ◌∷◌, ◌++◌, drop, append-nil, arith, refl, sym, ap}
 use Rattle.std.proofs.Common.{◌∙◌, inl, inr, Option, Some, None}
 use Rattle.std.specs.Prelude.{IfOk, IsTrue, OnOk, Result, Ok, Err}
-use Rattle.qg_device.specs.History.{Event}
+use Rattle.qg_device.specs.History.{History}
 use Rattle.qg_num.specs.declared.key.Key.{Key}
 use Rattle.qg_num.specs.declared.fault.BlockFault.{BlockFault}
 use Rattle.qg_node.specs.declared.item.Item.{Item}
@@ -60,7 +60,7 @@ branch_empty tree super nodes zero at items branch low empty =
 branch_empty tree super nodes (suc level) at items branch low empty = absurd (omega (arith, low))
 
 -- and its node is not a quarter full
-thin_there : (tree : Tree) (super : Super) (land : Ground) (history : Option (List Event)) (nodesize level at : ℕ)
+thin_there : (tree : Tree) (super : Super) (land : Ground) (history : History) (nodesize level at : ℕ)
     (items : List Item) (node : Node)
     → IsBranch tree super (told land.blocks.draft history) level at items → level ≡ 0 → items ≡ []
     → fresh_at land.blocks.draft at ≡ Some node
@@ -81,7 +81,7 @@ joined_high (suc level) xs ys high = refl
 
 -- ---- the child stays a node of its own
 
-module _ (tree : Tree) (root : Root) (land new : Ground) (history : Option (List Event)) (level at : ℕ)
+module _ (tree : Tree) (root : Root) (land new : Ground) (history : History) (level at : ℕ)
     (to : Option Key) (place : ℕ) (child : Instead)
     (items : List Item) (rest : Option Node) (un : IsUnsettled tree root land history level at to place child items)
     (can : CanLead tree (super_of root land.blocks.draft) land history level at place (place + 1) child un.pointers
@@ -121,7 +121,7 @@ module _ (tree : Tree) (root : Root) (land new : Ground) (history : Option (List
 
 -- ---- a node that was owned
 
-module _ (tree : Tree) (root : Root) (land new : Ground) (history : Option (List Event)) (expected : Expected)
+module _ (tree : Tree) (root : Root) (land new : Ground) (history : History) (expected : Expected)
     (at now : ℕ)
     (owned : IsOwned tree root land new history expected at now) (makes : CanMake tree root) where
   -- the same leaves are under it
@@ -152,7 +152,7 @@ module _ (tree : Tree) (root : Root) (land new : Ground) (history : Option (List
 
 -- ---- the child was joined with its neighbour
 
-module _ (tree : Tree) (root : Root) (land mid new end : Ground) (history later last : Option (List Event))
+module _ (tree : Tree) (root : Root) (land mid new end : Ground) (history later last : History)
     (level at : ℕ) (to : Option Key) (place child : ℕ) (items : List Item) (rest : Option Node)
     (un : IsUnsettled tree root land history level at to place (alone child) items) (pair : Pair) (instead : Instead)
     (is : IsPaired tree root land mid history un.pointers to level place child pair)

@@ -2,7 +2,7 @@
 use Rattle.std.proofs.Common.{◌≡◌, ℕ, zero, suc, List, [], ◌∷◌, refl, sym, ap, subst, ◌∙◌, inl, inr, Option, Some, None}
 use Rattle.std.specs.Prelude.{MatchOption, slice_get}
 use Rattle.std.proofs.lemmas.Option.{MatchOption-at_some}
-use Rattle.qg_device.specs.History.{Event}
+use Rattle.qg_device.specs.History.{History}
 use Rattle.qg_node.specs.declared.item.Item.{Item}
 use Rattle.qg_node.specs.declared.pointer.Pointer.{Pointer}
 use Rattle.qg_node.specs.declared.node.Header.{Header}
@@ -31,7 +31,7 @@ only_more (Some a) more one k p there =
       at zero is = let same : one.0 ≡ p = cc in sym (ap (λ (q : Pointer). q.child) same) ∙ one.2
       at (suc k) is = absurd cc
 
-module _ (tree : Tree) (super : Super) (land new : Ground) (history : Option (List Event)) (level at from to : ℕ)
+module _ (tree : Tree) (super : Super) (land new : Ground) (history : History) (level at from to : ℕ)
     (instead : Instead) (pointers : List Pointer) (header : Header) (items : List Item)
     (rest : Option Node) (can : CanLead tree super land history level at from to instead pointers header items)
     (led : HasLed tree super land new history level at from to instead pointers header items rest) where

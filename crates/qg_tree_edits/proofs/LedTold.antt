@@ -1,7 +1,7 @@
 -- Pointers of a fresh node were set: as many ways lead on from them.
 use Rattle.std.proofs.Common.{◌≡◌, ℕ, ◌+◌, List, [], ◌∷◌, ◌++◌, take, drop, arith, ap, Option, Some, None}
 use Rattle.std.specs.Prelude.{MatchOption}
-use Rattle.qg_device.specs.History.{Event}
+use Rattle.qg_device.specs.History.{History}
 use Rattle.qg_node.specs.declared.item.Item.{Item}
 use Rattle.qg_node.specs.declared.pointer.Pointer.{Pointer}
 use Rattle.qg_node.specs.declared.node.Header.{Header}
@@ -18,7 +18,7 @@ use Rattle.qg_descent.proofs.Branches.{each-get}
 use Rattle.qg_tree_edits.proofs.Leading.{not-above}
 use Rattle.qg_tree_edits.proofs.Ways.{ways-same, ways_each-append, ways_each-cons, ways_each-same}
 
-module _ (tree : Tree) (super : Super) (land new : Ground) (history : Option (List Event)) (level at from to : ℕ)
+module _ (tree : Tree) (super : Super) (land new : Ground) (history : History) (level at from to : ℕ)
     (instead : Instead) (pointers : List Pointer) (header : Header) (items : List Item)
     (rest : Option Node) (can : CanLead tree super land history level at from to instead pointers header items)
     (led : HasLed tree super land new history level at from to instead pointers header items rest) where

@@ -2,6 +2,7 @@
 use Rattle.std.proofs.Common.{◌≡◌, ◌≢◌, ◌⊎◌, ℕ, refl, sym, ap, subst, ◌∙◌, inl, inr, Some, None}
 use Rattle.std.specs.Prelude.{IsSome}
 use Rattle.std.proofs.lemmas.Bool.Decides.{eqb_tells}
+use Rattle.qg_device.specs.History.{Unrecorded}
 use Rattle.qg_node.specs.declared.node.Header.{Header}
 use Rattle.qg_node.specs.declared.node.Node.{Node}
 use Rattle.qg_node.specs.Nodes.{header_of}
@@ -107,7 +108,7 @@ module _ (old mid : Ground) (left right : ℕ) (differ : left ≢ right) (pair :
   others : (q : ℕ) → q ≢ left → q ≢ right → fresh_at mid.blocks.draft q ≡ fresh_at old.blocks.draft q
   others q not_left not_right =
       fresh_at-told old.blocks.draft mid.blocks.draft q
-      (both-told old mid left right differ pair are None q not_left not_right)
+      (both-told old mid left right differ pair are (Unrecorded 0) q not_left not_right)
 
   -- what a fresh node was before, where one of the two is told by what became of it
   was : (P : ℕ → Node → Node → Type 0) → P left pair.a there.a → P right pair.b there.b → ((q : ℕ) (n : Node) → P q n n)

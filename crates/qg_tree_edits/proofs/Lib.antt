@@ -7,7 +7,6 @@ pub mod Cutting
 pub mod Owned
 pub mod Pairs
 pub mod Served
-pub mod Stepped
 pub mod Unjoined
 pub mod United
 pub mod Beside

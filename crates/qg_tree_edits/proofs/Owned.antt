@@ -2,7 +2,7 @@
 use Rattle.std.proofs.Common.{◌≡◌, ℕ, List, refl, sym, ap, subst, ◌∙◌, inl, inr}
 use Rattle.std.specs.Prelude.{Option, Some, None, Result, Ok, Err, IfOk, IsSome, OnOk, is_some}
 use Rattle.std.proofs.lemmas.Bool.{true≢false}
-use Rattle.qg_device.specs.History.{Event, content}
+use Rattle.qg_device.specs.History.{Event, History, Recorded, Unrecorded, content}
 use Rattle.qg_num.specs.declared.fault.BlockFault.{BlockFault}
 use Rattle.qg_num.specs.declared.fault.BlockFault.TheVariants.{NoMemory, Disk, Image}
 use Rattle.qg_node.specs.declared.node.Node.{Node}
@@ -30,7 +30,7 @@ some_or (Some node) P some none = some node refl
 -- ---- what is left of it
 
 -- a fresh node is the one that was judged, and it stays where it is
-owned_kept : (tree : Tree) (root : Root) (old new : Ground) (history : Option (List Event)) (expected : Expected)
+owned_kept : (tree : Tree) (root : Root) (old new : Ground) (history : History) (expected : Expected)
     (at now : ℕ) (held : Held) (node : Node)
     → IsVisited tree (super_of root old.blocks.draft) expected old.blocks.draft history held at
     → IsDrafted old root.next → held.draft ≡ old.blocks.draft
@@ -56,7 +56,7 @@ owned_kept tree root old new history expected at now held node visited drafted d
     }
 
 -- any other is copied
-owned_copied : (tree : Tree) (root : Root) (old new : Ground) (history later : Option (List Event))
+owned_copied : (tree : Tree) (root : Root) (old new : Ground) (history later : History)
     (expected : Expected) (at now : ℕ) (held : Held)
     → IsVisited tree (super_of root old.blocks.draft) expected old.blocks.draft history held at
     → IsDrafted old root.next → IsDrafted (record old { blocks = held }) root.next
@@ -82,7 +82,7 @@ owned_copied tree root old new history later expected at now held visited drafte
     }
 
 -- either way it is owned
-pub IsOwned-visited : (tree : Tree) (root : Root) (old new : Ground) (history later : Option (List Event))
+pub IsOwned-visited : (tree : Tree) (root : Root) (old new : Ground) (history later : History)
     (expected : Expected) (at : ℕ) (held : Held) (result : Result ℕ BlockFault)
     → IsVisited tree (super_of root old.blocks.draft) expected old.blocks.draft history held at
     → IsDrafted old root.next → IsDrafted (record old { blocks = held }) root.next
@@ -103,26 +103,26 @@ IsOwned-visited tree root old new history later expected at held (Ok now) visite
 
 -- ---- what is answered
 
-unbroken : (result : Result ℕ BlockFault) (fresh : Option Node) (sizes : Sizes) (history : Option (List Event)) (at : ℕ)
+unbroken : (result : Result ℕ BlockFault) (fresh : Option Node) (sizes : Sizes) (history : History) (at : ℕ)
     (node : Node) → (IsSome fresh → result ≡ Ok at)
-    → ((events : List Event) → history ≡ Some events
+    → ((events : List Event) → history ≡ Recorded events
     → Answers result at (fresh_or fresh (standing sizes (content events) at)))
     → told_or fresh sizes history at ≡ Some node → BreaksNone result
 unbroken (Ok now) fresh sizes history at node same answers is = tt
 unbroken (Err NoMemory) fresh sizes history at node same answers is = tt
 unbroken (Err Disk) fresh sizes history at node same answers is = tt
 unbroken (Err (Image rule address)) (Some n) sizes history at node same answers is = let no = same refl in cc
-unbroken (Err (Image rule address)) None sizes None at node same answers is = cc
-unbroken (Err (Image rule address)) None sizes (Some events) at node same answers is = let there =
+unbroken (Err (Image rule address)) None sizes (Unrecorded changes) at node same answers is = cc
+unbroken (Err (Image rule address)) None sizes (Recorded events) at node same answers is = let there =
     (answers events refl).1 in let is' = rw there at is in cc
 
 -- no rule is broken where a node is told: a fresh one is owned as it is, and any other is found
-pub owned-unbroken : (result : Result ℕ BlockFault) (draft old : Draft) (history before : Option (List Event)) (at : ℕ)
+pub owned-unbroken : (result : Result ℕ BlockFault) (draft old : Draft) (history before : History) (at : ℕ)
     (node : Node) → draft ≡ old → history ≡ before
     → (IsSome (fresh_at draft at) → result ≡ Ok at)
-    → ((events : List Event) → history ≡ Some events → Answers result at (found draft (content events) at))
+    → ((events : List Event) → history ≡ Recorded events → Answers result at (found draft (content events) at))
     → told old before at ≡ Some node → BreaksNone result
 unfolding told
 owned-unbroken result draft old history before at node draft_is is same answers there =
     unbroken result (fresh_at draft at) draft.sizes history at node same answers
-    (ap (λ (d : Draft). told d history at) draft_is ∙ ap (λ (h : Option (List Event)). told old h at) is ∙ there)
+    (ap (λ (d : Draft). told d history at) draft_is ∙ ap (λ (h : History). told old h at) is ∙ there)

@@ -1,9 +1,9 @@
 -- What stands under a node that was owned.
 use Rattle.std.proofs.Common.{◌≡◌, ◌≢◌, ◌⊎◌, ℕ, zero, suc, ◌<◌, true, List, arith, refl, sym, ap, subst, ◌∙◌, inl, inr}
-use Rattle.std.proofs.Common.{Option, Some, None}
+use Rattle.std.proofs.Common.{Some, None}
 use Rattle.std.specs.Prelude.{IsTrue, nat_le, nat_lt, slice_get}
 use Rattle.std.proofs.lemmas.Bool.{and_from, le-leb}
-use Rattle.qg_device.specs.History.{Event}
+use Rattle.qg_device.specs.History.{History}
 use Rattle.qg_node.specs.declared.item.Item.{Item}
 use Rattle.qg_node.specs.declared.pointer.Pointer.{Pointer}
 use Rattle.qg_node.specs.declared.node.Header.{Header}
@@ -52,7 +52,7 @@ copy_inner : (header : Header) (pointers : List Pointer) (node mine : Node) (now
 copy_inner header pointers node mine now owner generation node_is is = is
     ∙ ap (λ (n : Node). node_copy n now owner generation) node_is
 
-module _ (tree : Tree) (root : Root) (land new : Ground) (history : Option (List Event)) (expected : Expected)
+module _ (tree : Tree) (root : Root) (land new : Ground) (history : History) (expected : Expected)
     (at now : ℕ) (owned : IsOwned tree root land new history expected at now)
     (makes : CanMake tree root) where
   -- what is told of it

@@ -5,7 +5,7 @@ use Rattle.std.specs.Prelude.{IsTrue}
 use Rattle.std.specs.List.{sum_by}
 use Rattle.std.proofs.lemmas.Bool.Decides.{eqb_tells}
 use Rattle.std.proofs.lemmas.List.Elements.{All-from_recursion}
-use Rattle.qg_device.specs.History.{Event}
+use Rattle.qg_device.specs.History.{History}
 use Rattle.qg_node.specs.declared.item.Item.{Item}
 use Rattle.qg_node.specs.declared.node.Node.{Node}
 use Rattle.qg_node.specs.Nodes.{header_of}
@@ -63,7 +63,7 @@ module _ (old : Ground) (nodes clean : ℕ → Option Node) (Reached : ℕ → T
     few_made = omega arith;
   }
 
-module _ (tree : Tree) (root : Root) (land new : Ground) (history : Option (List Event)) (expected : Expected)
+module _ (tree : Tree) (root : Root) (land new : Ground) (history : History) (expected : Expected)
     (at now : ℕ) (owned : IsOwned tree root land new history expected at now)
     (makes : CanMake tree root) where
   -- as much is below it as was

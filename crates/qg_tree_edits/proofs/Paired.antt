@@ -1,7 +1,7 @@
 -- A child that is not a quarter full, and its neighbour, which was owned: over any disk.
 use Rattle.std.proofs.Common.{◌≡◌, ◌≢◌, ◌⊎◌, ℕ, ◌+◌, ◌≤◌, ◌<◌, List, length, arith, refl, sym, ap, subst, ◌∙◌, inl, inr}
 use Rattle.std.proofs.Common.{Option, Some}
-use Rattle.qg_device.specs.History.{Event}
+use Rattle.qg_device.specs.History.{History}
 use Rattle.qg_num.specs.declared.key.Key.{Key}
 use Rattle.qg_node.specs.declared.pointer.Pointer.{Pointer}
 use Rattle.qg_node.specs.declared.node.Node.{Node}
@@ -34,7 +34,7 @@ copy_used (Leaf header items) now owner generation = refl
 copy_used (Inner header pointers) now owner generation = refl
 
 -- a node that was owned has its level, and as much of it is used
-module _ (tree : Tree) (root : Root) (land new : Ground) (history : Option (List Event)) (expected : Expected)
+module _ (tree : Tree) (root : Root) (land new : Ground) (history : History) (expected : Expected)
     (at now : ℕ) (owned : IsOwned tree root land new history expected at now) where
   pub owned-level : (header_of owned.mine).level ≡ (header_of owned.node).level
   owned-level = elim owned.same [
@@ -73,7 +73,7 @@ pair_of land generation level left right drafted a b thin = record {
   thin = elim thin [ inl left_thin ↦ inl (left_thin a.node a.here) | inr right_thin ↦ inr (right_thin b.node b.here) ];
 }
 
-module _ (tree : Tree) (root : Root) (land new : Ground) (history later : Option (List Event)) (pointers : List Pointer)
+module _ (tree : Tree) (root : Root) (land new : Ground) (history later : History) (pointers : List Pointer)
     (to : Option Key) (level place child : ℕ) (pair : Pair)
     (is : IsPaired tree root land new history pointers to level place child pair)
     (rests : Rests land new later root.next) (fresh : IsFreshOn land level child) (thin : IsThinAt land child) where

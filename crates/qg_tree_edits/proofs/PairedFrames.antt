@@ -3,7 +3,7 @@ use Rattle.std.proofs.Common.{◌≡◌, ◌≢◌, ◌⊎◌, ℕ, ◌+◌, ◌
 use Rattle.std.proofs.Common.{Some}
 use Rattle.std.specs.Prelude.{IsTrue, slice_get}
 use Rattle.std.proofs.lemmas.Bool.{leb-true}
-use Rattle.qg_device.specs.History.{Event}
+use Rattle.qg_device.specs.History.{History}
 use Rattle.qg_num.specs.declared.key.Key.{Key}
 use Rattle.qg_node.specs.declared.item.Item.{Item}
 use Rattle.qg_node.specs.declared.pointer.Pointer.{Pointer}
@@ -27,7 +27,7 @@ use Rattle.qg_tree_edits.proofs.PairedHolds.{child-apart, free-there, other-apar
 use Rattle.qg_tree_edits.proofs.Placed.{fresh-taken}
 use Rattle.qg_tree_edits.proofs.Served.{node-drafted}
 
-module _ (tree : Tree) (root : Root) (land new : Ground) (history later : Option (List Event)) (level at : ℕ)
+module _ (tree : Tree) (root : Root) (land new : Ground) (history later : History) (level at : ℕ)
     (to : Option Key) (place child : ℕ) (items : List Item)
     (un : IsUnsettled tree root land history level at to place (alone child) items) (pair : Pair)
     (is : IsPaired tree root land new history un.pointers to level place child pair) (makes : CanMake tree root)
@@ -125,7 +125,7 @@ module _ (tree : Tree) (root : Root) (land new : Ground) (history later : Option
   ])
 
   -- nothing else is told otherwise
-  pub pair-others : (disk : Option (List Event)) (q : ℕ) → (IsTrue (is_free_slot land.space q) → ⊥)
+  pub pair-others : (disk : History) (q : ℕ) → (IsTrue (is_free_slot land.space q) → ⊥)
       → (ReachesParts (told land.blocks.draft history) level un.pointers place (alone child) q → ⊥)
       → told new.blocks.draft disk q ≡ told land.blocks.draft disk q
   pair-others disk q not_free not_parts =

@@ -3,7 +3,7 @@ use Rattle.std.proofs.Common.{◌≡◌, ◌≢◌, ℕ, suc, ◌+◌, ◌≤◌
 use Rattle.std.proofs.Common.{append_assoc, append-nil, arith, refl, sym, ap, subst, ◌∙◌, inl, inr, Option, Some}
 use Rattle.std.specs.Prelude.{IsTrue, slice_get}
 use Rattle.std.specs.List.{All}
-use Rattle.qg_device.specs.History.{Event}
+use Rattle.qg_device.specs.History.{History}
 use Rattle.qg_num.specs.declared.key.Key.{Key}
 use Rattle.qg_node.specs.declared.item.Item.{Item}
 use Rattle.qg_node.specs.declared.pointer.Pointer.{Pointer}
@@ -58,7 +58,7 @@ pub record HoldPair (tree : Tree) (super : Super) (nodes : ℕ → Option Node) 
   pub right_holds : IsBranch tree super nodes level pair.right rs
   pub after : AreBranches tree super nodes level (drop (pair.front + 2) pointers) back
 
-module _ (tree : Tree) (root : Root) (land new : Ground) (history : Option (List Event)) (level at : ℕ)
+module _ (tree : Tree) (root : Root) (land new : Ground) (history : History) (level at : ℕ)
     (to : Option Key) (place child : ℕ) (items : List Item)
     (un : IsUnsettled tree root land history level at to place (alone child) items) (pair : Pair)
     (is : IsPaired tree root land new history un.pointers to level place child pair)

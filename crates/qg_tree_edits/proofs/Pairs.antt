@@ -5,6 +5,7 @@ use Rattle.std.specs.Result.{OnErr}
 use Rattle.std.specs.Ordering.{nat_cmp}
 use Rattle.std.specs.BTreeMap.{is_at}
 use Rattle.std.specs.Map.{set_value}
+use Rattle.qg_device.specs.History.{Unrecorded}
 use Rattle.qg_num.specs.declared.fault.BlockFault.{BlockFault}
 use Rattle.qg_num.specs.declared.fault.BlockFault.TheVariants.{NoMemory, Disk, Image}
 use Rattle.qg_node.specs.declared.node.Node.{Node}
@@ -66,7 +67,7 @@ fresh_other : (land : Ground) (at : ℕ) (node old : Node) (other : ℕ) → fre
     → fresh_at (edited land at node).blocks.draft other ≡ fresh_at land.blocks.draft other
 fresh_other land at node old other is differ =
     fresh_at-told land.blocks.draft (edited land at node).blocks.draft other
-    (edited-others land at node None other (IsSome-is (fresh_at land.blocks.draft at) old is) differ)
+    (edited-others land at node (Unrecorded 0) other (IsSome-is (fresh_at land.blocks.draft at) old is) differ)
 
 fresh_here : (land : Ground) (at : ℕ) (node old : Node) → fresh_at land.blocks.draft at ≡ Some old
     → fresh_at (edited land at node).blocks.draft at ≡ Some node

@@ -10,7 +10,7 @@ use Rattle.std.specs.Result.{result_ok}
 use Rattle.std.proofs.lemmas.Bool.{and_parts, leb-true, or_from}
 use Rattle.std.proofs.lemmas.List.{drop-map}
 use Rattle.std.proofs.lemmas.List.Folds.{list_any-append}
-use Rattle.qg_device.specs.History.{Event, content, range}
+use Rattle.qg_device.specs.History.{History, Recorded, Unrecorded, content, range}
 use Rattle.qg_num.specs.Fields.{is_zero, u64_at}
 use Rattle.qg_num.specs.Key.{key_cmp}
 use Rattle.qg_num.specs.declared.key.Key.{Key}
@@ -154,15 +154,15 @@ ok_there : (read : Result Node Rule) (node : Node) → result_ok read ≡ Some n
 ok_there (Ok other) node is = let same : other ≡ node = cc in rw same refl
 ok_there (Err broken) node is = absurd cc
 
-either_ascends : (fresh : Option Node) (sizes : Sizes) (history : Option (List Event)) (address : ℕ) (node : Node)
+either_ascends : (fresh : Option Node) (sizes : Sizes) (history : History) (address : ℕ) (node : Node)
     → ((other : Node) → fresh ≡ Some other → is_ascending (own_keys other) ≡ true)
     → told_or fresh sizes history address ≡ Some node → is_ascending (own_keys node) ≡ true
 either_ascends (Some other) sizes history address node ascends is = ascends node is
-either_ascends None sizes None address node ascends is = absurd cc
-either_ascends None sizes (Some events) address node ascends is =
+either_ascends None sizes (Unrecorded changes) address node ascends is = absurd cc
+either_ascends None sizes (Recorded events) address node ascends is =
     standing_ascends sizes (content events) address node (ok_there (standing sizes (content events) address) node is)
 
-pub told-ascends : (land : Ground) (history : Option (List Event)) (generation : ℕ) → IsDrafted land generation
+pub told-ascends : (land : Ground) (history : History) (generation : ℕ) → IsDrafted land generation
     → (q : ℕ) (node : Node) → told land.blocks.draft history q ≡ Some node → is_ascending (own_keys node) ≡ true
 unfolding told
 told-ascends land history generation drafted q node is =
@@ -322,7 +322,7 @@ module _ (tree : Tree) (super : Super) (nodes : ℕ → Option Node) (level : �
 
 -- ---- a part that an edit may be done to
 
-module _ (tree : Tree) (root : Root) (land : Ground) (history : Option (List Event)) (level : ℕ) (expected : Expected)
+module _ (tree : Tree) (root : Root) (land : Ground) (history : History) (level : ℕ) (expected : Expected)
     (at : ℕ) (edit : Edit) (items : List Item)
     (fit : IsPartFit tree root land history (suc level) expected at edit items) where
   pub fit-under : IsUnder tree (super_of root land.blocks.draft) (told land.blocks.draft history)
@@ -359,7 +359,7 @@ module _ (tree : Tree) (root : Root) (land : Ground) (history : Option (List Eve
 
 -- ---- its node was owned
 
-module _ (tree : Tree) (root : Root) (land mid : Ground) (history : Option (List Event)) (level : ℕ)
+module _ (tree : Tree) (root : Root) (land mid : Ground) (history : History) (level : ℕ)
     (expected : Expected) (at now : ℕ) (edit : Edit) (items : List Item)
     (fit : IsPartFit tree root land history (suc level) expected at edit items)
     (owned : IsOwned tree root land mid history expected at now) (makes : CanMake tree root)

@@ -3,7 +3,7 @@
 use Rattle.std.proofs.Common.{◌≡◌, ◌≢◌, ◌⊎◌, ℕ, zero, suc, ◌+◌, ◌-◌, ◌*◌, List, [], ◌∷◌, ◌++◌, take, drop, arith, refl}
 use Rattle.std.proofs.Common.{sym, ap, subst, ◌∙◌, append-nil, inl, inr, Option, Some, None}
 use Rattle.std.specs.Prelude.{IsTrue, Contains, slice_get}
-use Rattle.qg_device.specs.History.{Event}
+use Rattle.qg_device.specs.History.{History, Unrecorded}
 use Rattle.qg_node.specs.declared.item.Item.{Item}
 use Rattle.qg_node.specs.declared.pointer.Pointer.{Pointer}
 use Rattle.qg_node.specs.declared.node.Header.{Header}
@@ -56,7 +56,7 @@ use Rattle.qg_tree_edits.proofs.Ways.{ways_each-same}
 -- ---- a part that is fit for an edit
 
 -- these are the items under it
-pub fit-branch : (tree : Tree) (root : Root) (land : Ground) (history : Option (List Event)) (level : ℕ)
+pub fit-branch : (tree : Tree) (root : Root) (land : Ground) (history : History) (level : ℕ)
     (expected : Expected) (at : ℕ) (edit : Edit) (items : List Item)
     → IsPartFit tree root land history level expected at edit items
     → IsBranch tree (super_of root land.blocks.draft) (told land.blocks.draft history) level at items
@@ -163,7 +163,7 @@ ends_as nodesize owner set end now (Some node) instead header pointers new cut p
     })
 
 module _ (tree : Tree) (root : Root) (land mid low set end : Ground)
-    (history own_later child_later set_later end_later : Option (List Event)) (level : ℕ) (expected : Expected)
+    (history own_later child_later set_later end_later : History) (level : ℕ) (expected : Expected)
     (at now : ℕ) (edit : Edit)
     (place : ℕ) (pointers : List Pointer) (front mine back items items_new : List Item) (pointer : Pointer)
     (child_at : ℕ) (child : Instead) (header : Header) (rest : Option Node) (instead : Instead)
@@ -258,7 +258,7 @@ module _ (tree : Tree) (root : Root) (land mid low set end : Ground)
   new_old : (q : ℕ) → ReachesEach (told set.blocks.draft history) level settled.pointers_new q → Old q
   new_old q reaches = elim (settled.reach q reaches) [ inl parts ↦ parts_old q parts | inr free ↦ low_old q free ]
 
-  set_others : (disk : Option (List Event)) (q : ℕ) → (Old q → ⊥)
+  set_others : (disk : History) (q : ℕ) → (Old q → ⊥)
       → told set.blocks.draft disk q ≡ told land.blocks.draft disk q
   set_others disk q not_old =
       settled.others disk q (λ same. not_old (now_old q same)) (λ free. not_old (low_old q free))
@@ -302,7 +302,7 @@ module _ (tree : Tree) (root : Root) (land mid low set end : Ground)
       → (q : ℕ) → q ≡ two.more → Old q
   more_old two q same = set_old q (subst (λ (a : ℕ). IsTrue (is_free_slot set.space a)) (sym same) two.made.puts.free)
 
-  end_others : (disk : Option (List Event)) (q : ℕ) → (Old q → ⊥)
+  end_others : (disk : History) (q : ℕ) → (Old q → ⊥)
       → told end.blocks.draft disk q ≡ told set.blocks.draft disk q
   end_others disk q not_old = elim ends [
     | inl one ↦ ap (λ (g : Ground). told g.blocks.draft disk q) one.same
@@ -517,7 +517,7 @@ module _ (tree : Tree) (root : Root) (land mid low set end : Ground)
   unfolding Top
   reach q reaches = elim (from_instead q reaches) [ inl top ↦ top.0 | inr each ↦ new_old q each ]
 
-  others : (disk : Option (List Event)) (q : ℕ) → (Old q → ⊥)
+  others : (disk : History) (q : ℕ) → (Old q → ⊥)
       → told end.blocks.draft disk q ≡ told land.blocks.draft disk q
   others disk q not_old = end_others disk q not_old ∙ set_others disk q not_old
 
@@ -603,7 +603,7 @@ module _ (tree : Tree) (root : Root) (land mid low set end : Ground)
   low_now q (inr (inr (i, p, other, is, reaches))) = below_apart i p is q (other_was i p other is q reaches)
 
   -- from the other children as many ways lead on as before
-  other_same : (disk : Option (List Event)) (i : ℕ) (p : Pointer) → i ≢ place → slice_get pointers i ≡ Some p → (r : ℕ)
+  other_same : (disk : History) (i : ℕ) (p : Pointer) → i ≢ place → slice_get pointers i ≡ Some p → (r : ℕ)
       → Reaches (told mid.blocks.draft history) level p.child r
       → told low.blocks.draft disk r ≡ told mid.blocks.draft disk r
   other_same disk i p other is r reaches =
@@ -716,7 +716,7 @@ module _ (tree : Tree) (root : Root) (land mid low set end : Ground)
         | inl here ↦ absurd (below_apart i p is q reaches here)
         | inr below ↦
             same q below.0 (sym (fresh_at-told land.blocks.draft mid.blocks.draft q
-            (owned.others None q (below_apart i p is q reaches))) ∙ none)
+            (owned.others (Unrecorded 0) q (below_apart i p is q reaches))) ∙ none)
             ∙ sym (owned.others history q (below_apart i p is q reaches))
       ]
 
@@ -731,7 +731,7 @@ module _ (tree : Tree) (root : Root) (land mid low set end : Ground)
   beside_same nodes same q (i, p, other, is, reaches) none =
       let was = other_was i p other is q reaches in
       below_same nodes same i p is q was
-      (sym (fresh_at-told mid.blocks.draft low.blocks.draft q (other_same None i p other is q was)) ∙ none)
+      (sym (fresh_at-told mid.blocks.draft low.blocks.draft q (other_same (Unrecorded 0) i p other is q was)) ∙ none)
       ∙ sym (other_stays i p other is q was)
 
   -- no clean node lies where it was owned, and what is counted besides leads on to nothing else
@@ -920,7 +920,7 @@ module _ (tree : Tree) (root : Root) (land mid low set end : Ground)
 -- ---- the same by what is known of the node once its child was edited
 
 module _ (tree : Tree) (root : Root) (land mid low set end : Ground)
-    (history own_later child_later set_later end_later : Option (List Event)) (level : ℕ) (expected : Expected)
+    (history own_later child_later set_later end_later : History) (level : ℕ) (expected : Expected)
     (at now : ℕ) (edit : Edit)
     (place : ℕ) (pointers : List Pointer) (front mine back items items_new : List Item) (pointer : Pointer)
     (child_at : ℕ) (child : Instead) (rest : Option Node) (instead : Instead)

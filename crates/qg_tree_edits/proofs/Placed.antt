@@ -1,6 +1,7 @@
 -- A node that is put into a slot that was free.
 use Rattle.std.proofs.Common.{◌≡◌, ◌≢◌, ℕ, ◌+◌, ◌≤◌, true, refl, sym, ap, ◌∙◌}
 use Rattle.std.specs.Prelude.{Some, None}
+use Rattle.qg_device.specs.History.{Unrecorded}
 use Rattle.qg_node.specs.declared.node.Node.{Node}
 use Rattle.qg_node.specs.declared.node.Node.TheVariants.{Leaf, Inner}
 use Rattle.qg_node.specs.Nodes.{header_of}
@@ -26,7 +27,7 @@ pub KeepsFresh-put : (old new : Ground) (generation now : ℕ) (put : Node) → 
 KeepsFresh-put old new generation now put drafted puts at node here =
     let differ : at ≢ now = λ same. fresh-taken old generation at node drafted here (ap (is_free_slot old.space) same
     ∙ puts.free) in
-    fresh_at-told old.blocks.draft new.blocks.draft at (puts.others None at differ) ∙ here
+    fresh_at-told old.blocks.draft new.blocks.draft at (puts.others (Unrecorded 0) at differ) ∙ here
 
 node_at-level : (node : Node) (at : ℕ) → (header_of (node_at at node)).level ≡ (header_of node).level
 node_at-level (Leaf header items) at = refl

@@ -2,7 +2,7 @@
 use Rattle.std.proofs.Common.{◌≡◌, ◌≢◌, ◌⊎◌, ℕ, ◌+◌, ◌-◌, ◌*◌, ◌≤◌, List, refl, sym, ap, subst, ◌∙◌, inl, inr, Option}
 use Rattle.std.proofs.Common.{Some, None}
 use Rattle.std.specs.Prelude.{IsTrue}
-use Rattle.qg_device.specs.History.{Event}
+use Rattle.qg_device.specs.History.{History}
 use Rattle.qg_node.specs.declared.node.Node.{Node}
 use Rattle.qg_node.specs.declared.node.Node.TheVariants.{Leaf, Inner}
 use Rattle.qg_node.specs.Nodes.{header_of, used_bytes}
@@ -50,14 +50,14 @@ IsNode-with_owner size owner (Inner header pointers) is = record {
 -- ---- what stands there
 
 -- the node holds the whole
-pub record IsOneThere (set end : Ground) (history : Option (List Event)) (now : ℕ) (whole : Node)
+pub record IsOneThere (set end : Ground) (history : History) (now : ℕ) (whole : Node)
     (instead : Instead) : Type 0 where
   pub instead_is : instead ≡ alone now
   pub same : end ≡ set
   pub there : told end.blocks.draft history now ≡ Some whole
 
 -- it holds a front, and the rest lies in a slot that was free, and has this owner
-pub record AreTwoThere (owner : ℕ) (set end : Ground) (history : Option (List Event)) (nodesize now : ℕ) (whole : Node)
+pub record AreTwoThere (owner : ℕ) (set end : Ground) (history : History) (nodesize now : ℕ) (whole : Node)
     (instead : Instead) : Type 0 where
   pub front : Node
   pub other : Node
@@ -69,7 +69,7 @@ pub record AreTwoThere (owner : ℕ) (set end : Ground) (history : Option (List 
   pub makes : Makes set end more (with_owner owner other)
   pub differ : more ≢ now
 
-module _ (owner : ℕ) (set end : Ground) (history : Option (List Event)) (nodesize now generation : ℕ)
+module _ (owner : ℕ) (set end : Ground) (history : History) (nodesize now generation : ℕ)
     (before whole : Node) (drafted : IsDrafted set generation) where
   pub parts-there : (rest : Option Node) (instead : Instead) → IsCutThere nodesize set now before whole rest
       → IsPlacedBehind owner set end now rest instead
@@ -99,10 +99,10 @@ module _ (owner : ℕ) (set end : Ground) (history : Option (List Event)) (nodes
       })
 
 -- only a slot that was free is told otherwise
-pub placed-told : (owner : ℕ) (set end : Ground) (history : Option (List Event)) (nodesize now : ℕ) (whole : Node)
+pub placed-told : (owner : ℕ) (set end : Ground) (history : History) (nodesize now : ℕ) (whole : Node)
     (instead : Instead)
     → IsOneThere set end history now whole instead ⊎ AreTwoThere owner set end history nodesize now whole instead
-    → (disk : Option (List Event)) (q : ℕ) → (IsTrue (is_free_slot set.space q) → ⊥)
+    → (disk : History) (q : ℕ) → (IsTrue (is_free_slot set.space q) → ⊥)
     → told end.blocks.draft disk q ≡ told set.blocks.draft disk q
 placed-told owner set end history nodesize now whole instead (inl one) disk q taken =
     ap (λ (g : Ground). told g.blocks.draft disk q) one.same
@@ -110,7 +110,7 @@ placed-told owner set end history nodesize now whole instead (inr two) disk q ta
     two.makes.puts.others disk q (λ same. taken (ap (is_free_slot set.space) same ∙ two.makes.puts.free))
 
 -- no slot gets free
-pub placed-free : (owner : ℕ) (set end : Ground) (history later : Option (List Event)) (nodesize now generation : ℕ)
+pub placed-free : (owner : ℕ) (set end : Ground) (history later : History) (nodesize now generation : ℕ)
     (whole : Node) (instead : Instead) → IsDrafted set generation → Rests set end later generation
     → IsOneThere set end history now whole instead ⊎ AreTwoThere owner set end history nodesize now whole instead
     → (q : ℕ) → IsTrue (is_free_slot end.space q) → IsTrue (is_free_slot set.space q)

@@ -1,7 +1,7 @@
 -- A child was joined with its neighbour: what their node finds then, over any disk.
 use Rattle.std.proofs.Common.{◌≡◌, ◌≢◌, ℕ, ◌≤◌, ◌<◌, List, arith, refl, sym, ap, ◌∙◌, Option, Some, None}
 use Rattle.std.specs.Prelude.{Err}
-use Rattle.qg_device.specs.History.{Event}
+use Rattle.qg_device.specs.History.{History, Unrecorded}
 use Rattle.qg_num.specs.declared.key.Key.{Key}
 use Rattle.qg_num.specs.declared.fault.BlockFault.{BlockFault}
 use Rattle.qg_num.specs.declared.fault.BlockFault.TheVariants.{NoMemory, Disk, Image}
@@ -39,7 +39,7 @@ fresh-apart land high low at q node here levelled other below same =
     let equal : high ≡ low = sym levelled ∙ ap (λ (n : Node). (header_of n).level) one ∙ other.levelled in
     omega (arith, equal, below)
 
-module _ (tree : Tree) (root : Root) (land mid new : Ground) (history later last : Option (List Event))
+module _ (tree : Tree) (root : Root) (land mid new : Ground) (history later last : History)
     (pointers : List Pointer) (to : Option Key) (level place child : ℕ) (pair : Pair) (instead : Instead)
     (is : IsPaired tree root land mid history pointers to level place child pair)
     (rests : Rests land mid later root.next) (fresh : IsFreshOn land level child) (thin : IsThinAt land child)
@@ -58,7 +58,8 @@ module _ (tree : Tree) (root : Root) (land mid new : Ground) (history later last
   rejoined-above at node here high =
       let there = is.owned.keeps at node here in
       let told_same = united-told mid new pair.left pair.right instead differ
-      (are-pair tree root land mid history later pointers to level place child pair is rests fresh thin) united None at
+      (are-pair tree root land mid history later pointers to level place child pair is rests fresh thin) united
+      (Unrecorded 0) at
       (fresh-apart mid (header_of node).level level at pair.left node there refl left high)
       (fresh-apart mid (header_of node).level level at pair.right node there refl right high) in
       fresh_at-told mid.blocks.draft new.blocks.draft at told_same ∙ there

@@ -2,7 +2,7 @@
 use Rattle.std.proofs.Common.{◌≡◌, ◌≢◌, ◌⊎◌, ℕ, ◌+◌, ◌≤◌, ◌<◌, List, ◌++◌, take, drop, arith, sym, ap, ◌∙◌, inl, inr}
 use Rattle.std.proofs.Common.{Option, Some}
 use Rattle.std.specs.Prelude.{slice_get}
-use Rattle.qg_device.specs.History.{Event}
+use Rattle.qg_device.specs.History.{History}
 use Rattle.qg_num.specs.declared.key.Key.{Key}
 use Rattle.qg_node.specs.declared.item.Item.{Item}
 use Rattle.qg_node.specs.declared.pointer.Pointer.{Pointer}
@@ -26,7 +26,7 @@ use Rattle.qg_tree_edits.proofs.Served.{size-blocks}
 use Rattle.qg_tree_edits.proofs.Spliced.{drop-get, take-get}
 use Rattle.qg_tree_edits.proofs.UnitedHolds.{united-fills, united-holds, united-told}
 
-module _ (tree : Tree) (root : Root) (land mid new : Ground) (history later last : Option (List Event)) (level at : ℕ)
+module _ (tree : Tree) (root : Root) (land mid new : Ground) (history later last : History) (level at : ℕ)
     (to : Option Key) (place child : ℕ) (items : List Item)
     (un : IsUnsettled tree root land history level at to place (alone child) items) (pair : Pair) (instead : Instead)
     (is : IsPaired tree root land mid history un.pointers to level place child pair)

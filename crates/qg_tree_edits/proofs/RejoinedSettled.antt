@@ -2,7 +2,7 @@
 use Rattle.std.proofs.Common.{◌≡◌, ◌≢◌, ◌⊎◌, ℕ, ◌+◌, ◌≤◌, ◌<◌, List, ◌∷◌, ◌++◌, take, drop, refl, ap, subst, ◌∙◌, inl}
 use Rattle.std.proofs.Common.{inr, Option, Some}
 use Rattle.std.specs.Prelude.{IsTrue, slice_get}
-use Rattle.qg_device.specs.History.{Event}
+use Rattle.qg_device.specs.History.{History}
 use Rattle.qg_num.specs.declared.key.Key.{Key}
 use Rattle.qg_node.specs.declared.item.Item.{Item}
 use Rattle.qg_node.specs.declared.pointer.Pointer.{Pointer}
@@ -31,7 +31,7 @@ use Rattle.qg_tree_edits.proofs.RejoinedHolds.{rejoined-can, size}
 use Rattle.qg_tree_edits.proofs.Spliced.{spliced-get}
 use Rattle.qg_tree_edits.proofs.UnitedHolds.{united-free, united-gone, united-reach, united-told}
 
-module _ (tree : Tree) (root : Root) (land mid new end : Ground) (history later last : Option (List Event))
+module _ (tree : Tree) (root : Root) (land mid new end : Ground) (history later last : History)
     (level at : ℕ) (to : Option Key) (place child : ℕ) (items : List Item) (rest : Option Node)
     (un : IsUnsettled tree root land history level at to place (alone child) items) (pair : Pair) (instead : Instead)
     (is : IsPaired tree root land mid history un.pointers to level place child pair)
@@ -164,7 +164,7 @@ module _ (tree : Tree) (root : Root) (land mid new end : Ground) (history later 
   unfolding Parts
   parts_or = pair-parts tree root land mid history later level at to place child items un pair is makes drafted rests
 
-  others : (disk : Option (List Event)) (q : ℕ) → q ≢ at → (IsTrue (is_free_slot land.space q) → ⊥) → (Parts q → ⊥)
+  others : (disk : History) (q : ℕ) → q ≢ at → (IsTrue (is_free_slot land.space q) → ⊥) → (Parts q → ⊥)
       → told end.blocks.draft disk q ≡ told land.blocks.draft disk q
   unfolding Parts
   others disk q differ_at not_free not_parts =

@@ -1,12 +1,12 @@
 -- A tree whose leaf was edited, and whose root was set.
 use Rattle.std.proofs.Common.{◌≡◌, ◌⊎◌, ℕ, ◌+◌, ◌*◌, ◌<◌, true, List, [], ◌∷◌, ◌++◌, drop, length, arith, refl, sym, ap}
-use Rattle.std.proofs.Common.{subst, ◌∙◌, inl, inr, Option, Some, None}
+use Rattle.std.proofs.Common.{subst, ◌∙◌, inl, inr, Some, None}
 use Rattle.std.specs.Prelude.{IsTrue, OnOk, Result, Ok, Err}
 use Rattle.std.specs.List.{list_all}
 use Rattle.std.specs.Ordering.{is_lt}
 use Rattle.std.proofs.Math.Seq.{drop-append_seam}
 use Rattle.std.proofs.lemmas.Bool.{and_parts}
-use Rattle.qg_device.specs.History.{Event}
+use Rattle.qg_device.specs.History.{History}
 use Rattle.qg_num.specs.Key.{key_cmp}
 use Rattle.qg_num.specs.declared.key.Key.{Key}
 use Rattle.qg_node.specs.declared.item.Item.{Item}
@@ -41,7 +41,7 @@ use Rattle.qg_tree_edits.proofs.ListEdited.{ClearsNone, leaf-whole}
 use Rattle.qg_tree_edits.proofs.PartBelow.{told-ascends}
 use Rattle.qg_tree_edits.proofs.Turning.{told-append, told-more, told-within}
 
-module _ (tree : Tree) (root : Root) (land : Ground) (history : Option (List Event)) (edit : Edit) (items : List Item)
+module _ (tree : Tree) (root : Root) (land : Ground) (history : History) (edit : Edit) (items : List Item)
     (rooted : IsRooted tree root land history items) (can : CanEdit edit items)
     (expected : Expected) (at : ℕ) (expects : expected ≡ root_expected (Some root.height) None)
     (there : at ≡ root.address) where
@@ -118,7 +118,7 @@ module _ (tree : Tree) (root : Root) (land : Ground) (history : Option (List Eve
       }
 
       -- and all is told
-      pub told-root : (later : Option (List Event)) → Rests land mid later root.next → (below above : List Telling)
+      pub told-root : (later : History) → Rests land mid later root.next → (below above : List Telling)
           → IsPartTold land mid history root.height at instead below
           → IsRootTold root after mid new history instead above
           → IsTreeTold root after land new history (below ++ above)
@@ -149,7 +149,7 @@ module _ (tree : Tree) (root : Root) (land : Ground) (history : Option (List Eve
           (omega arith) (omega arith) (omega arith) all
 
 -- a root may get a node above it
-pub low-root : (tree : Tree) (root : Root) (land : Ground) (history : Option (List Event)) (items : List Item)
+pub low-root : (tree : Tree) (root : Root) (land : Ground) (history : History) (items : List Item)
     → IsDrafted land root.next → IsRooted tree root land history items → root.height < 7
 low-root tree root land history items drafted rooted =
     let low = height-low tree root land history items drafted rooted.tells in
@@ -158,7 +158,7 @@ low-root tree root land history items drafted rooted =
 -- ---- what that makes of all items
 
 -- an edit that clears no leaf
-pub replaced-whole : (tree : Tree) (before after : Root) (old new : Ground) (history : Option (List Event))
+pub replaced-whole : (tree : Tree) (before after : Root) (old new : Ground) (history : History)
     (edit : Edit) (items : List Item) → ClearsNone edit.change
     → IsEdited tree before after old new history edit items
     → IsReplaced tree before after old new history (edited edit items)
@@ -178,7 +178,7 @@ none_in_front key (item ∷ front) is all =
     absurd cc
 
 -- and one that clears the first
-pub replaced-first : (tree : Tree) (before after : Root) (old new : Ground) (history : Option (List Event))
+pub replaced-first : (tree : Tree) (before after : Root) (old new : Ground) (history : History)
     (edit : Edit) (items : List Item) → edit.key ≡ least → edit.change ≡ Clear
     → IsEdited tree before after old new history edit items
     → IsReplaced tree before after old new history

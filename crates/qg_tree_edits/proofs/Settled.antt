@@ -2,7 +2,7 @@
 use Rattle.std.proofs.Common.{◌≡◌, ◌⊎◌, ℕ, ◌+◌, ◌-◌, ◌≤◌, ◌<◌, List, [], ◌∷◌, ◌++◌, take, drop, arith, subst, inl, inr}
 use Rattle.std.proofs.Common.{Option, Some}
 use Rattle.std.specs.Prelude.{IsTrue, slice_get}
-use Rattle.qg_device.specs.History.{Event}
+use Rattle.qg_device.specs.History.{History}
 use Rattle.qg_num.specs.declared.key.Key.{Key}
 use Rattle.qg_node.specs.declared.item.Item.{Item}
 use Rattle.qg_node.specs.declared.pointer.Pointer.{Pointer}
@@ -21,7 +21,7 @@ use Rattle.qg_tree_edits.proofs.LedTold.{led-ways}
 use Rattle.qg_tree_edits.proofs.Spliced.{spliced-get}
 use Rattle.qg_tree_edits.proofs.Turning.{told-more, told-none}
 
-module _ (tree : Tree) (root : Root) (land new : Ground) (history : Option (List Event)) (level at : ℕ)
+module _ (tree : Tree) (root : Root) (land new : Ground) (history : History) (level at : ℕ)
     (to : Option Key) (place : ℕ) (child : Instead) (items : List Item) (rest : Option Node)
     (un : IsUnsettled tree root land history level at to place child items)
     (can : CanLead tree (super_of root land.blocks.draft) land history level at place (place + 1) child un.pointers

@@ -1,9 +1,9 @@
 -- A root that is one node, or the child of a node with one pointer.
 use Rattle.std.proofs.Common.{◌≡◌, ◌≢◌, ◌⊎◌, ℕ, zero, suc, ◌+◌, ◌-◌, ◌≤◌, true, List, [], ◌∷◌, length, append-nil}
-use Rattle.std.proofs.Common.{arith, refl, sym, ap, subst, ◌∙◌, inl, inr, Option, Some, None}
+use Rattle.std.proofs.Common.{arith, refl, sym, ap, subst, ◌∙◌, inl, inr, Some, None}
 use Rattle.std.specs.Prelude.{IsTrue}
 use Rattle.std.proofs.lemmas.Bool.{le-leb}
-use Rattle.qg_device.specs.History.{Event}
+use Rattle.qg_device.specs.History.{History}
 use Rattle.qg_node.specs.declared.item.Item.{Item}
 use Rattle.qg_node.specs.declared.pointer.Pointer.{Pointer}
 use Rattle.qg_node.specs.declared.node.Header.{Header}
@@ -72,7 +72,7 @@ pub lone-high : (size : ℕ) (node : Node) (child : ℕ) → IsNode size node �
 lone-high size (Leaf header items) child sound is = absurd cc
 lone-high size (Inner header pointers) child sound is = sound.levelled.0
 
-module _ (tree : Tree) (root : Root) (land : Ground) (history : Option (List Event)) (now : ℕ) (items : List Item)
+module _ (tree : Tree) (root : Root) (land : Ground) (history : History) (now : ℕ) (items : List Item)
     (node : Node)
     (stands : StandsForRoot tree root land history (alone now) items) (drafted : IsDrafted land root.next)
     (here : fresh_at land.blocks.draft now ≡ Some node)
@@ -109,7 +109,7 @@ module _ (tree : Tree) (root : Root) (land : Ground) (history : Option (List Eve
       told-more land nodes clean Old before after 0 0 0 1 1 1 [] (omega arith) (omega arith) (omega arith)
       (told-none land nodes clean Old before after (λ q. omega arith))
 
-  module _ (mid new : Ground) (later : Option (List Event)) (child low : ℕ) (header : Header) (pointer : Pointer)
+  module _ (mid new : Ground) (later : History) (child low : ℕ) (header : Header) (pointer : Pointer)
       (lone : node ≡ Inner header (pointer ∷ [])) (is_child : pointer.child ≡ child)
       (height : root.height ≡ suc low) (rewritten : IsRewritten land mid now node) (space : mid.space ≡ land.space)
       (gone : LetsGo mid new now) (rests : Rests land new later root.next) where

@@ -1,7 +1,7 @@
 -- What a book is told where the neighbour of a child is owned.
 use Rattle.std.proofs.Common.{◌≡◌, ◌≢◌, ℕ, false, List, ◌++◌, refl, sym, ap, ◌∙◌, inl, inr, Option, Some, None}
 use Rattle.std.proofs.lemmas.Bool.{false_from_ne_true}
-use Rattle.qg_device.specs.History.{Event}
+use Rattle.qg_device.specs.History.{History}
 use Rattle.qg_num.specs.declared.key.Key.{Key}
 use Rattle.qg_node.specs.declared.item.Item.{Item}
 use Rattle.qg_node.specs.declared.node.Node.{Node}
@@ -21,7 +21,7 @@ use Rattle.qg_tree_edits.proofs.Beside.{beside-differs}
 use Rattle.qg_descent.proofs.BranchFrames.{reach-top}
 
 -- the neighbour is what the way to it leads to expect
-pub beside-judged : (tree : Tree) (root : Root) (land : Ground) (history : Option (List Event)) (level at : ℕ)
+pub beside-judged : (tree : Tree) (root : Root) (land : Ground) (history : History) (level at : ℕ)
     (to : Option Key) (place child : ℕ) (items : List Item)
     (un : IsUnsettled tree root land history level at to place (alone child) items) (beside : Neighbour)
     → (is : IsBeside un.pointers to level place beside)
@@ -38,7 +38,7 @@ beside-judged tree root land history level at to place child items un beside is 
           ∙ judged.2,
     )
 
-module _ (tree : Tree) (root : Root) (land new : Ground) (history : Option (List Event)) (level at : ℕ)
+module _ (tree : Tree) (root : Root) (land new : Ground) (history : History) (level at : ℕ)
     (to : Option Key) (place child : ℕ) (items : List Item)
     (un : IsUnsettled tree root land history level at to place (alone child) items) (beside : Neighbour) (now : ℕ)
     (is : IsBeside un.pointers to level place beside)

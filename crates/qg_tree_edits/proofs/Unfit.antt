@@ -3,7 +3,7 @@ use Rattle.std.proofs.Common.{◌≡◌, ◌≢◌, ◌⊎◌, ℕ, zero, suc, �
 use Rattle.std.proofs.Common.{subst, ◌∙◌, inl, inr, Option, Some, None}
 use Rattle.std.specs.Prelude.{⊤, MatchOption}
 use Rattle.std.specs.Ordering.{is_lt}
-use Rattle.qg_device.specs.History.{Event, content}
+use Rattle.qg_device.specs.History.{Event, History, Recorded, content}
 use Rattle.qg_num.specs.Key.{key_cmp}
 use Rattle.qg_num.specs.declared.key.Key.{Key}
 use Rattle.qg_num.specs.declared.rule.Rule.{Rule}
@@ -53,7 +53,7 @@ misread-same tree root old new events expected at rule address same bad = record
 -- ---- where a node stands
 
 -- the neighbour of a fresh child is the child only where its pointer leads there
-pub beside-child : (tree : Tree) (root : Root) (old new : Ground) (history : Option (List Event)) (expected : Expected)
+pub beside-child : (tree : Tree) (root : Root) (old new : Ground) (history : History) (expected : Expected)
     (at now child level generation : ℕ) → IsDrafted old generation → IsFreshOn old level child
     → IsOwned tree root old new history expected at now → now ≡ child → at ≡ child
 beside-child tree root old new history expected at now child level generation drafted fresh owned same =
@@ -64,7 +64,7 @@ beside-child tree root old new history expected at now child level generation dr
     ]
 
 -- a node that is owned stands for the one that was
-pub owned-stands : (tree : Tree) (root : Root) (old new : Ground) (history : Option (List Event)) (expected : Expected)
+pub owned-stands : (tree : Tree) (root : Root) (old new : Ground) (history : History) (expected : Expected)
     (at now : ℕ) → IsOwned tree root old new history expected at now → StandsFor old at now
 owned-stands tree root old new history expected at now owned =
     elim owned.same [ inl kept ↦ inl kept.1 | inr copied ↦ inr copied.1 ]
@@ -181,7 +181,7 @@ module _ (old new : Ground) (at level : ℕ) (node : Node) (here : fresh_at old.
 
 -- ---- a child and the neighbour that was owned
 
-module _ (tree : Tree) (root : Root) (land mid : Ground) (history : Option (List Event)) (pointers : List Pointer)
+module _ (tree : Tree) (root : Root) (land mid : Ground) (history : History) (pointers : List Pointer)
     (to : Option Key) (level place child : ℕ) (pair : Pair)
     (is : IsPaired tree root land mid history pointers to level place child pair) where
   -- one of the two is the child
@@ -221,8 +221,8 @@ module _ (tree : Tree) (root : Root) (edit : Edit) (events : List Event) (expect
   fails-read zero bad = inl bad
   fails-read (suc level) bad = inl bad
 
-  module _ (mid : Ground) (now : ℕ) (history : Option (List Event)) (is : history ≡ Some events) where
-    fails_leaf : (owned : IsOwned tree root old mid (Some events) expected at now)
+  module _ (mid : Ground) (now : ℕ) (history : History) (is : history ≡ Recorded events) where
+    fails_leaf : (owned : IsOwned tree root old mid (Recorded events) expected at now)
         → IsBrokenByChange mid.space.sizes.nodesize edit.key edit.change owned.mine rule address
         → FailsUnder tree root edit events 0 expected at old new rule address
     unfolding FailsUnder
@@ -233,12 +233,12 @@ module _ (tree : Tree) (root : Root) (edit : Edit) (events : List Event) (expect
         → IsBrokenByChange mid.space.sizes.nodesize edit.key edit.change owned.mine rule address
         → FailsUnder tree root edit events 0 expected at old new rule address
     fails-leaf =
-        subst (λ (h : Option (List Event)). (owned : IsOwned tree root old mid h expected at now)
+        subst (λ (h : History). (owned : IsOwned tree root old mid h expected at now)
         → IsBrokenByChange mid.space.sizes.nodesize edit.key edit.change owned.mine rule address
         → FailsUnder tree root edit events 0 expected at old new rule address) (sym is) fails_leaf
 
     module _ (level place : ℕ) (way : Way) where
-      fails_below : (owned : IsOwned tree root old mid (Some events) expected at now)
+      fails_below : (owned : IsOwned tree root old mid (Recorded events) expected at now)
           → LeadsDown owned.mine expected.to level edit place way
           → FailsUnder tree root edit events level way.expected way.address mid new rule address
           → FailsUnder tree root edit events (suc level) expected at old new rule address
@@ -251,12 +251,12 @@ module _ (tree : Tree) (root : Root) (edit : Edit) (events : List Event) (expect
           → FailsUnder tree root edit events level way.expected way.address mid new rule address
           → FailsUnder tree root edit events (suc level) expected at old new rule address
       fails-below =
-          subst (λ (h : Option (List Event)). (owned : IsOwned tree root old mid h expected at now)
+          subst (λ (h : History). (owned : IsOwned tree root old mid h expected at now)
           → LeadsDown owned.mine expected.to level edit place way
           → FailsUnder tree root edit events level way.expected way.address mid new rule address
           → FailsUnder tree root edit events (suc level) expected at old new rule address) (sym is) fails_below
 
-      fails_above : (child : ℕ) (owned : IsOwned tree root old mid (Some events) expected at now)
+      fails_above : (child : ℕ) (owned : IsOwned tree root old mid (Recorded events) expected at now)
           → LeadsDown owned.mine expected.to level edit place way → StandsFor mid way.address child
           → CantSettle tree root new events owned.mine now expected.to level place child rule address
           → FailsUnder tree root edit events (suc level) expected at old new rule address
@@ -270,7 +270,7 @@ module _ (tree : Tree) (root : Root) (edit : Edit) (events : List Event) (expect
           → CantSettle tree root new events owned.mine now expected.to level place child rule address
           → FailsUnder tree root edit events (suc level) expected at old new rule address
       fails-above child =
-          subst (λ (h : Option (List Event)). (owned : IsOwned tree root old mid h expected at now)
+          subst (λ (h : History). (owned : IsOwned tree root old mid h expected at now)
           → LeadsDown owned.mine expected.to level edit place way → StandsFor mid way.address child
           → CantSettle tree root new events owned.mine now expected.to level place child rule address
           → FailsUnder tree root edit events (suc level) expected at old new rule address) (sym is) (fails_above child)

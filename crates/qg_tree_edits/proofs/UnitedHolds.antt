@@ -3,7 +3,7 @@ use Rattle.std.proofs.Common.{◌≡◌, ◌≢◌, ◌⊎◌, ℕ, zero, suc, �
 use Rattle.std.proofs.Common.{ap, subst, ◌∙◌, inl, inr, Option, Some, None}
 use Rattle.std.specs.Prelude.{Contains, IsTrue, slice_get}
 use Rattle.std.proofs.lemmas.List.{append-nil}
-use Rattle.qg_device.specs.History.{Event}
+use Rattle.qg_device.specs.History.{History, Unrecorded}
 use Rattle.qg_node.specs.declared.item.Item.{Item}
 use Rattle.qg_node.specs.declared.pointer.Pointer.{Pointer}
 use Rattle.qg_node.specs.declared.node.Header.{Header}
@@ -76,7 +76,8 @@ ends_as old mid new left right instead a b Whole differ here there joined ends =
     let whole = (joined.is a b here there).0 in
     inl (record {
       instead_is = ends.0;
-      here = fresh_at-told mid.blocks.draft new.blocks.draft left (ends.1.others None left differ) ∙ joined.left_there
+      here = fresh_at-told mid.blocks.draft new.blocks.draft left (ends.1.others (Unrecorded 0) left differ)
+          ∙ joined.left_there
           ∙ ap (λ (n : Node). Some n) whole.all;
       fits = subst (λ (n : Node). Fits old.space.sizes.nodesize n) whole.all whole.fits;
       lets = ends.1;
@@ -142,7 +143,7 @@ record AreInners (tree : Tree) (super : Super) (nodes : ℕ → Option Node) (le
   each : AreBranches tree super nodes level first lefts
   each_other : AreBranches tree super nodes level second rights
 
-fresh_is : (land : Ground) (history : Option (List Event)) (at : ℕ) (node there : Node)
+fresh_is : (land : Ground) (history : History) (at : ℕ) (node there : Node)
     → fresh_at land.blocks.draft at ≡ Some node → told land.blocks.draft history at ≡ Some there → node ≡ there
 fresh_is land history at node there here is = let e = sym (told-fresh_at land.blocks.draft history at node here) ∙ is in
     cc
@@ -160,7 +161,7 @@ module _ (old new : Ground) (left right : ℕ) (instead : Instead) (differ : lef
   united_ends = ends_as old is.mid new left right instead pair.a pair.b is.joined differ pair.left_here pair.right_here
       is.there is.ends
 
-  mid_told : (history : Option (List Event)) (q : ℕ) → q ≢ right
+  mid_told : (history : History) (q : ℕ) → q ≢ right
       → told new.blocks.draft history q ≡ told is.mid.blocks.draft history q
   mid_told history q not_right = elim united_ends [
     | inl one ↦ one.lets.others history q not_right
@@ -168,7 +169,7 @@ module _ (old new : Ground) (left right : ℕ) (instead : Instead) (differ : lef
   ]
 
   -- nothing else is told otherwise
-  pub united-told : (history : Option (List Event)) (q : ℕ) → q ≢ left → q ≢ right
+  pub united-told : (history : History) (q : ℕ) → q ≢ left → q ≢ right
       → told new.blocks.draft history q ≡ told old.blocks.draft history q
   united-told history q not_left not_right = mid_told history q not_right
       ∙ both-told old is.mid left right differ pair is.rewritten history q not_left not_right
@@ -247,7 +248,7 @@ module _ (old new : Ground) (left right : ℕ) (instead : Instead) (differ : lef
 
   -- ---- items
 
-  module _ (tree : Tree) (super : Super) (history : Option (List Event)) where
+  module _ (tree : Tree) (super : Super) (history : History) where
     -- an address is reached below one of the two
     IsBelow : ℕ → ℕ → Type 0
     IsBelow level q = (q ≢ left) × (q ≢ right)

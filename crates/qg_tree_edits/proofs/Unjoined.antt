@@ -1,7 +1,7 @@
 -- What `settle` hands on where a child needs no neighbour.
 use Rattle.std.proofs.Common.{◌≡◌, ℕ, ◌+◌, List, [], refl, sym, subst, Option, Some, None}
 use Rattle.std.specs.Prelude.{MatchOption}
-use Rattle.qg_device.specs.History.{Event}
+use Rattle.qg_device.specs.History.{History}
 use Rattle.qg_num.specs.declared.key.Key.{Key}
 use Rattle.qg_node.specs.declared.item.Item.{Item}
 use Rattle.qg_node.specs.declared.node.Node.{Node}
@@ -19,7 +19,7 @@ use Rattle.qg_tree_edits.specs.Editing.{CanLead, FillsThere, IsFreshOn, IsUnsett
 use Rattle.qg_tree_edits.proofs.Served.{filled-not_thin, node-drafted, size-blocks}
 
 -- the node in the child's place is full enough: it is not thin, or has one behind it
-full_there : (tree : Tree) (root : Root) (land : Ground) (history : Option (List Event)) (level generation : ℕ)
+full_there : (tree : Tree) (root : Root) (land : Ground) (history : History) (level generation : ℕ)
     (child : Instead) (rest : List Item) → IsDrafted land generation → IsFreshOn land level child.now
     → (child.more ≡ None → (node : Node) → fresh_at land.blocks.draft child.now ≡ Some node
     → IsThin land.blocks.draft.sizes.nodesize node → ⊥)
@@ -45,7 +45,7 @@ full_there tree root land history level generation child rest drafted fresh full
             (node-drafted land generation child.now fresh.node drafted fresh.here)) (full is fresh.node fresh.here);
       }
 
-pub can-lead : (tree : Tree) (root : Root) (land : Ground) (history : Option (List Event)) (level at generation : ℕ)
+pub can-lead : (tree : Tree) (root : Root) (land : Ground) (history : History) (level at generation : ℕ)
     (to : Option Key) (place : ℕ) (child : Instead) (items : List Item)
     → IsDrafted land generation → StandsInstead land level child
     → (child.more ≡ None → (node : Node) → fresh_at land.blocks.draft child.now ≡ Some node

@@ -1,7 +1,7 @@
 -- What a call on a whole tree leaves, and why it answers a fault (this project's own). Addresses are in bytes.
-use Rattle.std.specs.Prelude.{◌≡◌, ℕ, List, ◌++◌, Option, Some, Result, OnOk}
+use Rattle.std.specs.Prelude.{◌≡◌, ℕ, List, ◌++◌, Result, OnOk}
 use Rattle.qg_device.specs.Cause.{HasCause}
-use Rattle.qg_device.specs.History.{Event}
+use Rattle.qg_device.specs.History.{Event, History, Recorded}
 use Rattle.qg_num.specs.declared.fault.BlockFault.{BlockFault}
 use Rattle.qg_num.specs.declared.fault.BlockFault.TheVariants.{Disk}
 use Rattle.qg_node.specs.declared.item.Item.{Item}
@@ -21,7 +21,7 @@ use Rattle.qg_tree_edits.specs.Failing.{IsUnfit, NamesOnly}
 -- Where a tree stands with items that the edit may be done to: it stands with them once they are edited. Where its
 -- first leaf is cleared, each other leaf keeps its items. And the book is told what becomes of the ways
 pub record EditsTree {B T : Type 0} (follows : B → List Telling → B → Type 0) (tree : Tree) (before after : Root)
-    (edit : Edit) (old new : Ground) (history : Option (List Event)) (items : List Item) (book later : B)
+    (edit : Edit) (old new : Ground) (history : History) (items : List Item) (book later : B)
     (result : Result T BlockFault) : Type 0 where
   pub edited : OnOk result (IsEdited tree before after old new history edit items)
   pub leaves : edit.key ≡ least → edit.change ≡ Clear
@@ -33,7 +33,7 @@ pub record EditsTree {B T : Type 0} (follows : B → List Telling → B → Type
 
 -- a tree stands with these items then, and the book is told what becomes of the ways
 pub record ReplacesItems {B T : Type 0} (follows : B → List Telling → B → Type 0) (tree : Tree) (before after : Root)
-    (old new : Ground) (history : Option (List Event)) (items : List Item) (book later : B)
+    (old new : Ground) (history : History) (items : List Item) (book later : B)
     (result : Result T BlockFault) : Type 0 where
   pub replaced : OnOk result (IsReplaced tree before after old new history items)
   pub told : (start : B) (log : List Telling) → follows start log book
@@ -41,11 +41,11 @@ pub record ReplacesItems {B T : Type 0} (follows : B → List Telling → B → 
       × IsTreeTold before after old new history tellings)
 
 -- Over a disk that tells no rule is named where a tree stands with items that the edit may be done to, and else only
--- where something does not fit there. `Disk` is answered only where the disk's count of faults rose
+-- where something does not fit there. `Disk` is answered exactly where the disk met a fault
 pub record FailsToEditTree {T : Type 0} (tree : Tree) (root : Root) (edit : Edit) (old new : Ground)
-    (history : Option (List Event)) (before now : ℕ) (result : Result T BlockFault) : Type 0 where
-  pub sound : (events : List Event) → history ≡ Some events → (items : List Item)
+    (history : History) (before now : ℕ) (result : Result T BlockFault) : Type 0 where
+  pub sound : (events : List Event) → history ≡ Recorded events → (items : List Item)
       → IsRooted tree root old history items → CanEdit edit items → BreaksNone result
-  pub broken : (events : List Event) → history ≡ Some events
+  pub broken : (events : List Event) → history ≡ Recorded events
       → NamesOnly (IsUnfit tree root edit old new events) result
   pub cause : HasCause Disk before now result

@@ -3,7 +3,7 @@
 use Rattle.std.specs.Prelude.{◌≡◌, ⊤, ◌⊎◌, ◌==◌, if◌then◌else◌, ℕ, zero, suc, ◌+◌, ◌-◌, ◌*◌, ◌<◌, ◌≤◌, List, [], ◌∷◌}
 use Rattle.std.specs.Prelude.{map, take, drop, Option, Some, None, IsTrue, Contains, is_some}
 use Rattle.std.specs.List.{All, list_any, sum_by}
-use Rattle.qg_device.specs.History.{Event}
+use Rattle.qg_device.specs.History.{History}
 use Rattle.qg_node.specs.declared.item.Item.{Item}
 use Rattle.qg_node.specs.declared.pointer.Pointer.{Pointer}
 use Rattle.qg_node.specs.declared.node.Header.{Header}
@@ -176,22 +176,22 @@ TellsUnited right instead tellings =
 -- ---- what a book is told in the course of an edit
 
 -- nodes tell the same as a land of some addresses, where no node is fresh
-abbrev pub TellSame : (ℕ → Type 0) → (ℕ → Option Node) → Ground → Option (List Event) → Type 0
+abbrev pub TellSame : (ℕ → Type 0) → (ℕ → Option Node) → Ground → History → Type 0
 TellSame Among nodes land history =
     (q : ℕ) → Among q → fresh_at land.blocks.draft q ≡ None → nodes q ≡ told land.blocks.draft history q
 
 -- what is told at an address where no node is fresh
-abbrev pub clean_at : Ground → Option (List Event) → ℕ → Option Node
+abbrev pub clean_at : Ground → History → ℕ → Option Node
 clean_at land history q =
     if is_some (fresh_at land.blocks.draft q) then None else told land.blocks.draft history q
 
 -- what is told at an address that the last commit holds; no node is fresh there
-abbrev pub committed_at : Ground → Option (List Event) → ℕ → Option Node
+abbrev pub committed_at : Ground → History → ℕ → Option Node
 committed_at land history q =
     if list_any (λ slot. slot == q) land.space.held_slots then told land.blocks.draft history q else None
 
 -- each of these nodes is told at an address that the last commit holds, and where no node is fresh
-abbrev pub AreCommitted : Ground → Option (List Event) → (ℕ → Option Node) → Type 0
+abbrev pub AreCommitted : Ground → History → (ℕ → Option Node) → Type 0
 AreCommitted land history clean =
     (q : ℕ) (node : Node) → clean q ≡ Some node
     → Contains land.space.held_slots q × (fresh_at land.blocks.draft q ≡ None)
@@ -200,7 +200,7 @@ AreCommitted land history clean =
 -- the pointers of a node were set to what stands in the place of the child at an index, and this was told meanwhile:
 -- a neighbour may have been copied, and left, where nothing was cut off the node. What was copied was not fresh and is
 -- what stood there, and so it is for any nodes that tell the same of the other children where they are not fresh
-pub record IsSettledTold (tree : Tree) (root : Root) (old new : Ground) (history : Option (List Event))
+pub record IsSettledTold (tree : Tree) (root : Root) (old new : Ground) (history : History)
     (level at place : ℕ) (child : Instead) (pointers : List Pointer) (header : Header) (items : List Item)
     (rest : Option Node) (tellings : List Telling) : Type 0 where
   pub settled : IsSettled tree root old new history level at place child pointers header items rest
@@ -214,7 +214,7 @@ pub record IsSettledTold (tree : Tree) (root : Root) (old new : Ground) (history
 -- the part of a tree that the node of a level at an address is the top of was edited, and this was told meanwhile.
 -- What was copied was not fresh and is what stood there, and so it is for any nodes that tell the same of the part
 -- where it is not fresh
-abbrev pub IsPartTold : Ground → Ground → Option (List Event) → ℕ → ℕ → Instead → List Telling → Type 0
+abbrev pub IsPartTold : Ground → Ground → History → ℕ → ℕ → Instead → List Telling → Type 0
 IsPartTold old new history level at instead tellings =
     (nodes clean : ℕ → Option Node)
     → TellSame (Reaches (told old.blocks.draft history) level at) nodes old history → AreCommitted old history clean
@@ -223,7 +223,7 @@ IsPartTold old new history level at instead tellings =
     (2 * (level + 1)) (level + 1) (level + 1) tellings
 
 -- what stands in the place of a tree's root became the tree, and this was told meanwhile: nothing was copied
-abbrev pub IsRootTold : Root → Root → Ground → Ground → Option (List Event) → Instead → List Telling → Type 0
+abbrev pub IsRootTold : Root → Root → Ground → Ground → History → Instead → List Telling → Type 0
 IsRootTold before after old new history instead tellings =
     (nodes clean : ℕ → Option Node) → AreCommitted old history clean
     → IsTold old nodes clean (ReachesInstead (told old.blocks.draft history) before.height instead)
@@ -233,7 +233,7 @@ IsRootTold before after old new history instead tellings =
 -- A tree was edited, and this was told meanwhile: what was copied was not fresh before, and is what stood there. By the
 -- time that a node was copied or left, no node that the last commit holds leads to it, as it stood before. At most
 -- 2·height + 3 nodes came, of which height + 2 were made, and height + 2 were left
-abbrev pub IsTreeTold : Root → Root → Ground → Ground → Option (List Event) → List Telling → Type 0
+abbrev pub IsTreeTold : Root → Root → Ground → Ground → History → List Telling → Type 0
 IsTreeTold before after old new history tellings =
     IsTold old (clean_at old history) (committed_at old history)
     (Reaches (told old.blocks.draft history) before.height before.address)

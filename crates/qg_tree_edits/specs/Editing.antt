@@ -3,7 +3,7 @@ use Rattle.std.specs.Prelude.{◌≡◌, ◌≢◌, ⊤, ◌⊎◌, ℕ, suc, �
 use Rattle.std.specs.Prelude.{Option, Some, None, IsSome, IsTrue, MatchOption, slice_get}
 use Rattle.std.specs.List.{All, list_all}
 use Rattle.std.specs.Ordering.{is_lt}
-use Rattle.qg_device.specs.History.{Event}
+use Rattle.qg_device.specs.History.{History}
 use Rattle.qg_num.specs.Key.{key_cmp}
 use Rattle.qg_num.specs.declared.key.Key.{Key}
 use Rattle.qg_node.specs.declared.item.Item.{Item}
@@ -46,7 +46,7 @@ use Rattle.qg_tree_edits.specs.First.{first_leaf, least, leaves, leaves_joined, 
 
 -- nodes and space in which a tree is edited by the generation to come: clean nodes are the disk's, fresh ones may be
 -- written, and the disk has room for all slots
-pub record IsEditable (land : Ground) (history : Option (List Event)) (bytes generation : ℕ) : Type 0 where
+pub record IsEditable (land : Ground) (history : History) (bytes generation : ℕ) : Type 0 where
   pub backed : IsBacked land.blocks history
   pub drafted : IsDrafted land generation
   pub room : second_place ≤ bytes
@@ -93,7 +93,7 @@ pub record IsCutThere (nodesize : ℕ) (new : Ground) (at : ℕ) (before whole :
 
 -- a node that the way leads to expect was judged, and is or was copied to a fresh one, which has the same items or
 -- pointers. A fresh one stays where it is. All other nodes are told as before
-pub record IsOwned (tree : Tree) (root : Root) (old new : Ground) (history : Option (List Event)) (expected : Expected)
+pub record IsOwned (tree : Tree) (root : Root) (old new : Ground) (history : History) (expected : Expected)
     (at now : ℕ) : Type 0 where
   pub node : Node
   pub formed : form_failure tree (super_of root old.blocks.draft) expected at node ≡ None
@@ -103,7 +103,7 @@ pub record IsOwned (tree : Tree) (root : Root) (old new : Ground) (history : Opt
   pub here : fresh_at new.blocks.draft now ≡ Some mine
   pub same : ((mine ≡ node) × (now ≡ at) × (new.space ≡ old.space))
       ⊎ ((mine ≡ node_copy node now root.owner root.next) × IsTrue (is_free_slot old.space now))
-  pub others : (history : Option (List Event)) (q : ℕ) → q ≢ now
+  pub others : (history : History) (q : ℕ) → q ≢ now
       → told new.blocks.draft history q ≡ told old.blocks.draft history q
   pub keeps : KeepsFresh old new
   pub stays : IsSome (fresh_at old.blocks.draft at) → now ≡ at
@@ -151,7 +151,7 @@ pub record HoldInstead (tree : Tree) (super : Super) (nodes : ℕ → Option Nod
 
 -- a part of a tree that an edit may be done to: the walk meets no failure there, no free slot is reached, bodies are
 -- short, and the edit finds what it relies on
-pub record IsPartFit (tree : Tree) (root : Root) (land : Ground) (history : Option (List Event)) (level : ℕ)
+pub record IsPartFit (tree : Tree) (root : Root) (land : Ground) (history : History) (level : ℕ)
     (expected : Expected) (at : ℕ) (edit : Edit) (items : List Item) : Type 0 where
   pub levelled : expected.level ≡ Some level
   pub walked : walk_failure (form_failure tree (super_of root land.blocks.draft))
@@ -174,7 +174,7 @@ pub record IsLeafEdited (edit : Edit) (old new : List Item) : Type 0 where
 -- what an edit leaves of a part of a tree: what stands in its place holds the items once those of one leaf are edited,
 -- the first one where the key is the least; it reaches what was reached before, and slots that were free; only these
 -- are told otherwise, whatever a disk tells, only these get free, and no free slot is reached
-pub record IsPartEdited (tree : Tree) (root : Root) (old new : Ground) (history : Option (List Event)) (level at : ℕ)
+pub record IsPartEdited (tree : Tree) (root : Root) (old new : Ground) (history : History) (level at : ℕ)
     (edit : Edit) (items : List Item) (instead : Instead) : Type 0 where
   pub items_new : List Item
   pub edits : IsLeafEdited edit items items_new
@@ -182,7 +182,7 @@ pub record IsPartEdited (tree : Tree) (root : Root) (old new : Ground) (history 
   pub holds : HoldInstead tree (super_of root old.blocks.draft) (told new.blocks.draft history) level instead items_new
   pub reach : (q : ℕ) → ReachesInstead (told new.blocks.draft history) level instead q
       → Reaches (told old.blocks.draft history) level at q ⊎ IsTrue (is_free_slot old.space q)
-  pub others : (disk : Option (List Event)) (q : ℕ) → (IsTrue (is_free_slot old.space q) → ⊥)
+  pub others : (disk : History) (q : ℕ) → (IsTrue (is_free_slot old.space q) → ⊥)
       → (Reaches (told old.blocks.draft history) level at q → ⊥)
       → told new.blocks.draft disk q ≡ told old.blocks.draft disk q
   pub freed : (q : ℕ) → IsTrue (is_free_slot new.space q) → IsTrue (is_free_slot old.space q)
@@ -303,7 +303,7 @@ ReachesEach nodes level pointers q = (i : ℕ) × (pointer : Pointer) × (slice_
 
 -- The child at a place of a fresh node was edited. These are the items under it and the other children. The other
 -- children are what the way to them leads to expect; no two of all reach the same address, and none a free slot
-pub record IsUnsettled (tree : Tree) (root : Root) (land : Ground) (history : Option (List Event)) (level at : ℕ)
+pub record IsUnsettled (tree : Tree) (root : Root) (land : Ground) (history : History) (level at : ℕ)
     (to : Option Key) (place : ℕ) (child : Instead) (items : List Item) : Type 0 where
   pub header : Header
   pub pointers : List Pointer
@@ -339,7 +339,7 @@ pub record IsUnsettled (tree : Tree) (root : Root) (land : Ground) (history : Op
 -- Its pointers were set: they lead to the same items. Where the node has too much, it holds a front of them. What they
 -- reach was reached before or is a slot that was free; only these and the node itself are told otherwise, whatever a
 -- disk tells, only these get free, and no free slot is reached
-pub record IsSettled (tree : Tree) (root : Root) (old new : Ground) (history : Option (List Event)) (level at place : ℕ)
+pub record IsSettled (tree : Tree) (root : Root) (old new : Ground) (history : History) (level at place : ℕ)
     (child : Instead) (pointers : List Pointer) (header : Header) (items : List Item) (rest : Option Node) : Type
     0 where
   pub pointers_new : List Pointer
@@ -348,7 +348,7 @@ pub record IsSettled (tree : Tree) (root : Root) (old new : Ground) (history : O
   pub cut : IsCutThere old.space.sizes.nodesize new at (Inner header pointers) (Inner header pointers_new) rest
   pub reach : (q : ℕ) → ReachesEach (told new.blocks.draft history) level pointers_new q
       → ReachesParts (told old.blocks.draft history) level pointers place child q ⊎ IsTrue (is_free_slot old.space q)
-  pub others : (disk : Option (List Event)) (q : ℕ) → q ≢ at → (IsTrue (is_free_slot old.space q) → ⊥)
+  pub others : (disk : History) (q : ℕ) → q ≢ at → (IsTrue (is_free_slot old.space q) → ⊥)
       → (ReachesParts (told old.blocks.draft history) level pointers place child q → ⊥)
       → told new.blocks.draft disk q ≡ told old.blocks.draft disk q
   pub freed : (q : ℕ) → IsTrue (is_free_slot new.space q) → IsTrue (is_free_slot old.space q)
@@ -359,7 +359,7 @@ pub record IsSettled (tree : Tree) (root : Root) (old new : Ground) (history : O
 -- ---- pointers that are set
 
 -- what is known where pointers of a fresh node are set: what they and the others lead to, and that all items ascend
-pub record CanLead (tree : Tree) (super : Super) (land : Ground) (history : Option (List Event)) (level at from to : ℕ)
+pub record CanLead (tree : Tree) (super : Super) (land : Ground) (history : History) (level at from to : ℕ)
     (instead : Instead) (pointers : List Pointer) (header : Header) (items : List Item) : Type 0 where
   pub here : fresh_at land.blocks.draft at ≡ Some (Inner header pointers)
   pub member : IsMember tree super (suc level) header
@@ -375,7 +375,7 @@ pub record CanLead (tree : Tree) (super : Super) (land : Ground) (history : Opti
   pub ascending : IsTrue (is_ascending (map (λ item. item.key) items))
 
 -- they are set: these lead to the same items. Nothing but the node is told otherwise, whatever a disk tells
-pub record HasLed (tree : Tree) (super : Super) (old new : Ground) (history : Option (List Event))
+pub record HasLed (tree : Tree) (super : Super) (old new : Ground) (history : History)
     (level at from to : ℕ) (instead : Instead) (pointers : List Pointer) (header : Header) (items : List Item)
     (rest : Option Node) : Type 0 where
   pub now : Pointer
@@ -387,19 +387,19 @@ pub record HasLed (tree : Tree) (super : Super) (old new : Ground) (history : Op
       ++ drop to pointers) items
   pub cut : IsCutThere old.space.sizes.nodesize new at (Inner header pointers)
       (Inner header (take from pointers ++ (now ∷ more) ++ drop to pointers)) rest
-  pub others : (disk : Option (List Event)) (q : ℕ) → q ≢ at
+  pub others : (disk : History) (q : ℕ) → q ≢ at
       → told new.blocks.draft disk q ≡ told old.blocks.draft disk q
   pub space : new.space ≡ old.space
 
 -- ---- the leaves of a node whose first child was edited
 
 -- a child of a level is an empty leaf, if it is a leaf
-abbrev pub IsEmptyIfLeaf : Ground → Option (List Event) → ℕ → ℕ → Type 0
+abbrev pub IsEmptyIfLeaf : Ground → History → ℕ → ℕ → Type 0
 IsEmptyIfLeaf land history level child = level ≡ 0 → leaves (told land.blocks.draft history) level child ≡ [] ∷ []
 
 -- The pointers of a node were set, whose first child was edited: each leaf below keeps its items, and a child that was
 -- an empty leaf is gone
-pub record KeepsLeaves (old new : Ground) (history : Option (List Event)) (level at child : ℕ)
+pub record KeepsLeaves (old new : Ground) (history : History) (level at child : ℕ)
     (pointers : List Pointer) : Type 0 where
   pub kept : leaves (told new.blocks.draft history) (suc level) at
       ≡ leaves_joined level (leaves (told old.blocks.draft history) level child)

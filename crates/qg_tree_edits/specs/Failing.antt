@@ -3,7 +3,7 @@
 use Rattle.std.specs.Prelude.{◌≡◌, ⊤, ◌⊎◌, ℕ, zero, suc, ◌≤◌, ◌<◌, List, [], ◌∷◌, map, length, Option, Some, None}
 use Rattle.std.specs.Prelude.{Result, Ok, Err, IsTrue, MatchOption}
 use Rattle.std.specs.Ordering.{is_lt}
-use Rattle.qg_device.specs.History.{Event, content}
+use Rattle.qg_device.specs.History.{Event, Recorded, content}
 use Rattle.qg_num.specs.Key.{key_cmp}
 use Rattle.qg_num.specs.declared.key.Key.{Key}
 use Rattle.qg_num.specs.declared.rule.Rule.{Rule}
@@ -131,11 +131,11 @@ StandsFor land at now = (now ≡ at) ⊎ IsTrue (is_free_slot land.space now)
 unfoldable pub FailsUnder : Tree → Root → Edit → List Event → ℕ → Expected → ℕ → Ground → Ground → Rule → ℕ → Type 0
 FailsUnder tree root edit events zero expected at old new rule address =
     IsMisread tree root old events expected at rule address
-    ⊎ ((mid : Ground) × (now : ℕ) × (owned : IsOwned tree root old mid (Some events) expected at now)
+    ⊎ ((mid : Ground) × (now : ℕ) × (owned : IsOwned tree root old mid (Recorded events) expected at now)
     × IsBrokenByChange mid.space.sizes.nodesize edit.key edit.change owned.mine rule address)
 FailsUnder tree root edit events (suc level) expected at old new rule address =
     IsMisread tree root old events expected at rule address
-    ⊎ ((mid : Ground) × (now : ℕ) × (owned : IsOwned tree root old mid (Some events) expected at now)
+    ⊎ ((mid : Ground) × (now : ℕ) × (owned : IsOwned tree root old mid (Recorded events) expected at now)
     × (place : ℕ) × (way : Way) × LeadsDown owned.mine expected.to level edit place way
     × (FailsUnder tree root edit events level way.expected way.address mid new rule address
     ⊎ ((child : ℕ) × StandsFor mid way.address child

@@ -2,7 +2,7 @@
 use Rattle.std.specs.Prelude.{◌≡◌, ℕ, ◌+◌, ◌-◌, ◌*◌, ◌<◌, ◌≤◌, List, ◌++◌, length, Option, Some, None, Result, IfOk}
 use Rattle.std.specs.Prelude.{IsErrOf, OnOk, OnErr}
 use Rattle.qg_device.specs.Cause.{HasCause}
-use Rattle.qg_device.specs.History.{Event}
+use Rattle.qg_device.specs.History.{Event, History, Recorded}
 use Rattle.qg_num.specs.declared.key.Key.{Key}
 use Rattle.qg_num.specs.declared.rule.Rule.{Rule}
 use Rattle.qg_num.specs.declared.fault.BlockFault.{BlockFault}
@@ -45,7 +45,7 @@ use Rattle.qg_tree_edits.specs.Failing.{LacksNeighbour, NamesOnly, StandsFor}
 
 -- what a step asks over any disk: nodes and space in which a tree is edited by the generation to come, a number and a
 -- generation that nodes may have which are made for it, and so many free slots
-pub record IsReadyFor (many : ℕ) (tree : Tree) (root : Root) (land : Ground) (history : Option (List Event)) (bytes : ℕ)
+pub record IsReadyFor (many : ℕ) (tree : Tree) (root : Root) (land : Ground) (history : History) (bytes : ℕ)
     : Type 0 where
   pub editable : IsEditable land history bytes root.next
   pub makes : CanMake tree root
@@ -56,18 +56,18 @@ pub record IsReadyFor (many : ℕ) (tree : Tree) (root : Root) (land : Ground) (
 -- Over any disk: the node is owned that the way leads to expect. At most one slot fewer is free, and each fresh node
 -- has the tree's number as owner, or the owner that the fresh node at its address had
 pub record OwnsNode (tree : Tree) (root : Root) (expected : Expected) (at : ℕ) (old new : Ground)
-    (history : Option (List Event)) (result : Result ℕ BlockFault) : Type 0 where
+    (history : History) (result : Result ℕ BlockFault) : Type 0 where
   pub is : IfOk result (λ now. IsOwned tree root old new history expected at now)
   pub count : OnOk result (free_slots old.space ≤ 1 + free_slots new.space)
   pub owners : OnOk result (IsOwnedBy root.owner old new)
 
 -- No rule is named where such a node is told, and over a disk that tells only where it is misread. `Disk` is answered
--- only where the disk's count of faults rose
+-- exactly where the disk met a fault
 pub record FailsToOwn (tree : Tree) (root : Root) (expected : Expected) (at : ℕ) (old new : Ground)
-    (history : Option (List Event)) (before now : ℕ) (result : Result ℕ BlockFault) : Type 0 where
+    (history : History) (before now : ℕ) (result : Result ℕ BlockFault) : Type 0 where
   pub sound : (node : Node) → told old.blocks.draft history at ≡ Some node
       → form_failure tree (super_of root old.blocks.draft) expected at node ≡ None → BreaksNone result
-  pub broken : (events : List Event) → history ≡ Some events
+  pub broken : (events : List Event) → history ≡ Recorded events
       → NamesOnly (IsRefused tree root old new events expected at) result
   pub cause : HasCause Disk before now result
 
@@ -102,7 +102,7 @@ pub record SetsRoot {T : Type 0} (levels slots : ℕ) (before after : Root) (old
 -- Where these are the items under what stands in the place of the root: the tree has them. Where one node stands there,
 -- each leaf keeps its items. And the book is told what becomes of the ways
 pub record RootsItems {B T : Type 0} (follows : B → List Telling → B → Type 0) (tree : Tree) (before after : Root)
-    (old new : Ground) (history : Option (List Event)) (instead : Instead) (items : List Item) (book later : B)
+    (old new : Ground) (history : History) (instead : Instead) (items : List Item) (book later : B)
     (result : Result T BlockFault) : Type 0 where
   pub rooted : OnOk result (HasRoot tree before after old new history instead items)
   pub leaves : instead.more ≡ None
@@ -113,12 +113,12 @@ pub record RootsItems {B T : Type 0} (follows : B → List Telling → B → Typ
       × IsRootTold before after old new history instead tellings)
 
 -- Over a disk that tells no rule is named where the items ascend and the tree may get higher, and else only where no
--- root fits. `Disk` is answered only where the disk's count of faults rose
-pub record FailsToRoot {T : Type 0} (tree : Tree) (root : Root) (old new : Ground) (history : Option (List Event))
+-- root fits. `Disk` is answered exactly where the disk met a fault
+pub record FailsToRoot {T : Type 0} (tree : Tree) (root : Root) (old new : Ground) (history : History)
     (instead : Instead) (before now : ℕ) (result : Result T BlockFault) : Type 0 where
-  pub sound : (events : List Event) → history ≡ Some events → (items : List Item)
+  pub sound : (events : List Event) → history ≡ Recorded events → (items : List Item)
       → StandsForRoot tree root old history instead items → root.height < 7 → BreaksNone result
-  pub broken : (events : List Event) → history ≡ Some events → NamesOnly (CantGrow root new) result
+  pub broken : (events : List Event) → history ≡ Recorded events → NamesOnly (CantGrow root new) result
   pub cause : HasCause Disk before now result
 
 -- ---- a part of a tree is edited
@@ -138,7 +138,7 @@ pub record EditsPart (edit : Edit) (owner level at : ℕ) (old new : Ground) (re
 -- Where the edit may be done to a part of a tree with these items: it is edited. Where the first leaf is cleared, each
 -- other leaf keeps its items. And the book is told what becomes of the ways
 pub record EditsItems {B : Type 0} (follows : B → List Telling → B → Type 0) (tree : Tree) (root : Root)
-    (edit : Edit) (level at : ℕ) (old new : Ground) (history : Option (List Event)) (items : List Item)
+    (edit : Edit) (level at : ℕ) (old new : Ground) (history : History) (items : List Item)
     (book later : B) (result : Result Instead BlockFault) : Type 0 where
   pub edited : IfOk result (λ instead. IsPartEdited tree root old new history level at edit items instead)
   pub leaves : edit.key ≡ least → edit.change ≡ Clear
@@ -149,13 +149,13 @@ pub record EditsItems {B : Type 0} (follows : B → List Telling → B → Type 
       × IsPartTold old new history level at instead tellings)
 
 -- Over a disk that tells no rule is named where the edit may be done to a part of a tree, and else only where something
--- does not fit there. `Disk` is answered only where the disk's count of faults rose
+-- does not fit there. `Disk` is answered exactly where the disk met a fault
 pub record FailsToEdit (tree : Tree) (root : Root) (edit : Edit) (level : ℕ) (expected : Expected) (at : ℕ)
-    (old new : Ground) (history : Option (List Event)) (before now : ℕ) (result : Result Instead BlockFault)
+    (old new : Ground) (history : History) (before now : ℕ) (result : Result Instead BlockFault)
     : Type 0 where
-  pub sound : (events : List Event) → history ≡ Some events → (items : List Item)
+  pub sound : (events : List Event) → history ≡ Recorded events → (items : List Item)
       → IsPartFit tree root old history level expected at edit items → BreaksNone result
-  pub broken : (events : List Event) → history ≡ Some events
+  pub broken : (events : List Event) → history ≡ Recorded events
       → NamesOnly (FailsUnder tree root edit events level expected at old new) result
   pub cause : HasCause Disk before now result
 
@@ -178,7 +178,7 @@ pub record FailsInPlace {T : Type 0} (land : Ground) (at : ℕ) (IsSuch : Node �
 -- pointers would not ascend. `Disk` is never answered
 pub record FailsToLead {T : Type 0} (land : Ground) (at from to : ℕ) (instead : Instead)
     (result : Result T BlockFault) : Type 0 where
-  pub sound : (tree : Tree) (super : Super) (history : Option (List Event)) (level : ℕ) (pointers : List Pointer)
+  pub sound : (tree : Tree) (super : Super) (history : History) (level : ℕ) (pointers : List Pointer)
       (header : Header) (items : List Item)
       → CanLead tree super land history level at from to instead pointers header items → BreaksNone result
   pub broken : (node : Node) → fresh_at land.blocks.draft at ≡ Some node
@@ -191,7 +191,7 @@ pub record FailsToLead {T : Type 0} (land : Ground) (at from to : ℕ) (instead 
 -- was. The book is told where the right one is left, and what stood of book, land and disk between two edits stands
 -- still
 pub record UnitesDrafted {B D : Type 0} (follows : B → List Telling → B → Type 0) (Settled : B → Ground → D → Type 0)
-    (old new : Ground) (after : Option (List Event)) (generation right : ℕ) (book later : B) (disk left : D)
+    (old new : Ground) (after : History) (generation right : ℕ) (book later : B) (disk left : D)
     (result : Result Instead BlockFault) : Type 0 where
   pub rests : Rests old new after generation
   pub told : (before : B) (log : List Telling) → follows before log book
@@ -200,13 +200,13 @@ pub record UnitesDrafted {B D : Type 0} (follows : B → List Telling → B → 
   pub settled : Settled book old disk → OnOk result (Settled later new left)
 
 -- Over a disk that tells no rule is named where the keys of two fresh neighbours follow each other and their bodies are
--- short, and else only where they don't. `Disk` is answered only where the disk's count of faults rose
-pub record FailsToUnite {T : Type 0} (old new : Ground) (left right : ℕ) (history : Option (List Event))
+-- short, and else only where they don't. `Disk` is answered exactly where the disk met a fault
+pub record FailsToUnite {T : Type 0} (old new : Ground) (left right : ℕ) (history : History)
     (before now : ℕ) (result : Result T BlockFault) : Type 0 where
-  pub sound : (events : List Event) → history ≡ Some events → (a b : Node) → fresh_at old.blocks.draft left ≡ Some a
+  pub sound : (events : List Event) → history ≡ Recorded events → (a b : Node) → fresh_at old.blocks.draft left ≡ Some a
       → fresh_at old.blocks.draft right ≡ Some b → IsInFront a b → HasShortBodies a → HasShortBodies b
       → BreaksNone result
-  pub broken : (events : List Event) → history ≡ Some events → (a b : Node)
+  pub broken : (events : List Event) → history ≡ Recorded events → (a b : Node)
       → fresh_at old.blocks.draft left ≡ Some a → fresh_at old.blocks.draft right ≡ Some b
       → NamesOnly (ArentJoined new left right a b) result
   pub cause : HasCause Disk before now result
@@ -227,22 +227,22 @@ pub record IsThinOn (land : Ground) (level at : ℕ) : Type 0 where
 -- fewer is free, and each fresh node has the tree's number as owner, or the owner that the fresh node at its address
 -- had
 pub record OwnsNeighbour (tree : Tree) (root : Root) (level at : ℕ) (to : Option Key) (place child : ℕ)
-    (old new : Ground) (history : Option (List Event)) (result : Result Pair BlockFault) : Type 0 where
+    (old new : Ground) (history : History) (result : Result Pair BlockFault) : Type 0 where
   pub is : (node : Node) → fresh_at old.blocks.draft at ≡ Some node
       → IfOk result (λ pair. IsPaired tree root old new history (own_pointers node) to level place child pair)
   pub count : OnOk result (free_slots old.space ≤ 1 + free_slots new.space)
   pub owners : OnOk result (IsOwnedBy root.owner old new)
 
 -- No rule is named where the child at an index of a node of a tree was edited, and over a disk that tells only where it
--- has no neighbour, or that one is misread, or is the child. `Disk` is answered only where the disk's count of faults
--- rose
+-- has no neighbour, or that one is misread, or is the child. `Disk` is answered exactly where the disk met a
+-- fault
 pub record FailsToPair (tree : Tree) (root : Root) (level at : ℕ) (to : Option Key) (place child : ℕ)
-    (old new : Ground) (history : Option (List Event)) (before now : ℕ) (result : Result Pair BlockFault)
+    (old new : Ground) (history : History) (before now : ℕ) (result : Result Pair BlockFault)
     : Type 0 where
   pub sound : (items : List Item) → IsUnsettled tree root old history level at to place (alone child) items
       → BreaksNone result
   pub broken : (node : Node) → fresh_at old.blocks.draft at ≡ Some node → IsFreshOn old level child
-      → (events : List Event) → history ≡ Some events
+      → (events : List Event) → history ≡ Recorded events
       → NamesOnly (LacksNeighbour tree root new events node at to level place child) result
   pub cause : HasCause Disk before now result
 
@@ -261,7 +261,7 @@ pub record SetsPointers (root : Root) (level at : ℕ) (child : Instead) (old ne
 -- to them. Where the first child stands alone, each leaf below keeps its items, and a child that was an empty leaf is
 -- gone. And the book is told what becomes of the ways
 pub record SettlesItems {B : Type 0} (follows : B → List Telling → B → Type 0) (tree : Tree) (root : Root)
-    (level at place : ℕ) (child : Instead) (old new : Ground) (history : Option (List Event))
+    (level at place : ℕ) (child : Instead) (old new : Ground) (history : History)
     (pointers : List Pointer) (header : Header) (items : List Item) (book later : B)
     (result : Result (Option Node) BlockFault) : Type 0 where
   pub settled : IfOk result (λ rest. IsSettled tree root old new history level at place child pointers header items
@@ -273,12 +273,13 @@ pub record SettlesItems {B : Type 0} (follows : B → List Telling → B → Typ
       × IsSettledTold tree root old new history level at place child pointers header items rest tellings)
 
 -- Over a disk that tells no rule is named where the child at an index of a node of a tree was edited, and else only
--- where something does not fit there. `Disk` is answered only where the disk's count of faults rose
+-- where something does not fit there. `Disk` is answered exactly where the disk met a fault
 pub record FailsToSettle (tree : Tree) (root : Root) (level at : ℕ) (to : Option Key) (place : ℕ) (child : Instead)
-    (old new : Ground) (history : Option (List Event)) (before now : ℕ) (result : Result (Option Node) BlockFault)
+    (old new : Ground) (history : History) (before now : ℕ) (result : Result (Option Node) BlockFault)
     : Type 0 where
-  pub sound : (events : List Event) → history ≡ Some events → (items : List Item)
+  pub sound : (events : List Event) → history ≡ Recorded events → (items : List Item)
       → IsUnsettled tree root old history level at to place child items → BreaksNone result
-  pub broken : (node : Node) → fresh_at old.blocks.draft at ≡ Some node → (events : List Event) → history ≡ Some events
+  pub broken : (node : Node) → fresh_at old.blocks.draft at ≡ Some node → (events : List Event)
+      → history ≡ Recorded events
       → NamesOnly (CantSettle tree root new events node at to level place child.now) result
   pub cause : HasCause Disk before now result

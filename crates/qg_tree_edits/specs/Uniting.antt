@@ -1,6 +1,6 @@
 -- Two neighbours in a tree, of which one isn't a quarter full (this project's own). Addresses are in bytes.
 use Rattle.std.specs.Prelude.{◌≡◌, ◌⊎◌, ◌≢◌, ℕ, ◌+◌, List, Option, Some}
-use Rattle.qg_device.specs.History.{Event}
+use Rattle.qg_device.specs.History.{History}
 use Rattle.qg_num.specs.declared.key.Key.{Key}
 use Rattle.qg_node.specs.declared.pointer.Pointer.{Pointer}
 use Rattle.qg_image.specs.declared.tree.Tree.{Tree}
@@ -32,7 +32,7 @@ pub record AreUnited (old new : Ground) (left right : ℕ) (instead : Instead) :
 -- ---- the neighbour that a child is joined with
 
 -- the child at a place and the neighbour that was owned, from left to right
-pub record IsPaired (tree : Tree) (root : Root) (old new : Ground) (history : Option (List Event))
+pub record IsPaired (tree : Tree) (root : Root) (old new : Ground) (history : History)
     (pointers : List Pointer) (to : Option Key) (level place child : ℕ) (pair : Pair) : Type 0 where
   pub beside : Neighbour
   pub now : ℕ

@@ -1,8 +1,8 @@
 // A child was edited: the pointers of its node are set, and a child that is not a quarter full is joined with its
 // neighbour.
-ghost use Rattle.std.specs.Prelude.{◌≡◌, ◌+◌, ◌-◌, ◌*◌, ◌<◌, ◌≤◌, ℕ, List, Option, None, Some, IfOk, IsSome, IsTrue};
+ghost use Rattle.std.specs.Prelude.{◌≡◌, ◌+◌, ◌-◌, ◌*◌, ◌<◌, ◌≤◌, ℕ, List, None, Some, IfOk, IsSome, IsTrue};
 ghost use Rattle.std.specs.Prelude.{false, length};
-ghost use Rattle.qg_device.specs.History.{Event};
+ghost use Rattle.qg_device.specs.History.{History};
 ghost use Rattle.qg_node.specs.declared.item.Item.{Item as ItemValue};
 ghost use Rattle.qg_node.specs.declared.node.Node.{Node as NodeValue};
 ghost use Rattle.qg_node.specs.declared.pointer.Pointer.{Pointer as PointerValue};
@@ -148,7 +148,7 @@ fn lead_to(
         → IsRewritten land.old land.new at node }
     ensures rest { (node : NodeValue) → fresh_at land.old.blocks.draft at ≡ Some node
         → IfOk result (λ rest. StaysCut land.old.space.sizes.nodesize node land.new at rest) }
-    ensures led { (tree : TreeValue) (super : SuperValue) (history : Option (List Event)) (level : ℕ)
+    ensures led { (tree : TreeValue) (super : SuperValue) (history : History) (level : ℕ)
         (pointers : List PointerValue) (header : HeaderValue) (items : List ItemValue)
         → CanLead tree super land.old history level at from to instead pointers header items
         → IfOk result (λ rest. HasLed tree super land.old land.new history level at from to instead pointers header

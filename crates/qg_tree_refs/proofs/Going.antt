@@ -4,7 +4,7 @@ use Rattle.std.specs.Prelude.{cond, Option, Some, None}
 use Rattle.std.specs.Ordering.{nat_cmp}
 use Rattle.std.specs.BTreeMap.{is_at}
 use Rattle.std.specs.Map.{lookup, remove_entry}
-use Rattle.qg_device.specs.History.{Event}
+use Rattle.qg_device.specs.History.{History, Unrecorded}
 use Rattle.qg_node.specs.declared.node.Node.{Node}
 use Rattle.qg_blocks.specs.Held.{Draft}
 use Rattle.qg_blocks.specs.Told.{IsBacked, fresh_at, held_at, told}
@@ -47,8 +47,9 @@ module _ (old new : Ground) (at : ℕ)
   }
 
   -- and what stands between calls stands
-  pub Rests-gone : (history : Option (List Event)) (generation : ℕ) → held_at new.blocks at ≡ None
-      → ((other : ℕ) → other ≢ at → told new.blocks.draft None other ≡ told old.blocks.draft None other)
+  pub Rests-gone : (history : History) (generation : ℕ) → held_at new.blocks at ≡ None
+      → ((other : ℕ) → other ≢ at → told new.blocks.draft (Unrecorded 0) other ≡ told old.blocks.draft
+      (Unrecorded 0) other)
       → new.blocks.bound ≡ old.blocks.bound → IsBacked new.blocks history → IsDrafted old generation
       → Rests old new history generation
   Rests-gone history generation gone others bound backed drafted =

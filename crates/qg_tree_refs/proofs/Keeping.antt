@@ -5,7 +5,7 @@ use Rattle.std.specs.Prelude.{◌⊎◌, ◌==◌, IsSome, nat_lt, if◌then◌e
 use Rattle.std.specs.List.{filter_map, flat_map}
 use Rattle.std.proofs.lemmas.Bool.{lt-ltb}
 use Rattle.std.proofs.lemmas.Bool.Decides.{eqb_tells}
-use Rattle.qg_device.specs.History.{Event}
+use Rattle.qg_device.specs.History.{History}
 use Rattle.qg_node.specs.declared.pointer.Pointer.{Pointer}
 use Rattle.qg_node.specs.declared.item.Item.{Item}
 use Rattle.qg_node.specs.declared.node.Header.{Header}
@@ -70,7 +70,7 @@ still_as a b same some = subst (λ (o : Option Node). IsSome o) (sym same) some
 
 -- ---- a node that is made
 
-module _ (old new : TreeRefs) (before land : Ground) (history : Option (List Event)) (at level : ℕ) (mine : Node)
+module _ (old new : TreeRefs) (before land : Ground) (history : History) (at level : ℕ) (mine : Node)
     (settled : IsSettled old before history) (sound : IsBook (book_of old.refs))
     (done : Exchanges (book_of old.refs) (book_of new.refs) (record { full = None; gains = []; losses = [] })
     (Some (comes old at level)))
@@ -149,7 +149,7 @@ copy_none TurnKeyed placed tree other q differ =
 copy_none TakeOver placed tree other q differ = times_there (way_to (header_of placed.node).address tree) q
     (KeyedBlock other) (λ same. differ (sym same))
 
-module _ (old new : TreeRefs) (before land after : Ground) (history : Option (List Event)) (node : Node) (copy : ℕ)
+module _ (old new : TreeRefs) (before land after : Ground) (history : History) (node : Node) (copy : ℕ)
     (mine : Node)
     (settled : IsSettled old before history) (sound : IsBook (book_of old.refs))
     (done : Exchanges (book_of old.refs) (book_of new.refs) (exchange_by_copy (book_of old.refs) old.tree node)
@@ -304,7 +304,7 @@ pub record IsEmptied (old new : Ground) (at : ℕ) (node : Node) : Type 0 where
       × ((header_of before).level ≡ (header_of other).level)
   pub still : (q : ℕ) → IsSome (fresh_at old.blocks.draft q) → IsSome (fresh_at new.blocks.draft q)
 
-module _ (old new : TreeRefs) (before land after : Ground) (history : Option (List Event)) (at : ℕ) (node : Node)
+module _ (old new : TreeRefs) (before land after : Ground) (history : History) (at : ℕ) (node : Node)
     (settled : IsSettled old before history) (sound : IsBook (book_of old.refs))
     (done : Exchanges (book_of old.refs) (book_of new.refs) (exchange_by_leaving (book_of old.refs) old.tree node) None)
     (nodesize : new.nodesize ≡ old.nodesize) (next : new.next ≡ old.next) (emptied : IsEmptied before land at node)

@@ -5,7 +5,7 @@ use Rattle.std.specs.Prelude.{◌⊎◌, ◌==◌, IsSome, IsTrue, Contains, nat
 use Rattle.std.specs.Option.{option_or}
 use Rattle.std.proofs.lemmas.Bool.{cases_Bool, lt-ltb, true≢false}
 use Rattle.std.proofs.lemmas.Bool.Decides.{eqb_tells}
-use Rattle.qg_device.specs.History.{Event}
+use Rattle.qg_device.specs.History.{Event, Unrecorded}
 use Rattle.qg_node.specs.declared.node.Node.{Node}
 use Rattle.qg_node.specs.Nodes.{header_of}
 use Rattle.qg_items.specs.declared.extent.Reference.{Reference}
@@ -239,7 +239,7 @@ no_list (x ∷ xs) none = absurd (omega (arith, none))
 module _ (book : Book) (old new : Ground) (at : ℕ) (let_go : IsLetGo book old new at) where
   -- other addresses are as they were
   pub fresh-left : (q : ℕ) → q ≢ at → fresh_at new.blocks.draft q ≡ fresh_at old.blocks.draft q
-  fresh-left q differ = fresh_at-told old.blocks.draft new.blocks.draft q (let_go.gone.others None q differ)
+  fresh-left q differ = fresh_at-told old.blocks.draft new.blocks.draft q (let_go.gone.others (Unrecorded 0) q differ)
 
   slot_elsewhere : (q n : ℕ) → q ≢ at → length (references_at book at) ≡ n → has_slot new.space q ≡ has_slot old.space q
   slot_elsewhere q zero differ none =

@@ -3,7 +3,7 @@
 use Rattle.std.proofs.Common.{◌≡◌, ◌≢◌, ℕ, ◌<◌, List, [], Option, Some, None, refl, sym, ap, subst, ◌∙◌, inl, inr}
 use Rattle.std.specs.Prelude.{◌⊎◌, IsSome}
 use Rattle.std.specs.Option.{option_or}
-use Rattle.qg_device.specs.History.{Event}
+use Rattle.qg_device.specs.History.{History}
 use Rattle.qg_node.specs.declared.node.Node.{Node}
 use Rattle.qg_node.specs.declared.node.Node.TheVariants.{Leaf, Inner}
 use Rattle.qg_node.specs.Nodes.{header_of, own_items, own_pointers}
@@ -74,7 +74,7 @@ module _ (old new : TreeRefs) (telling : Telling) (step : Step old telling new) 
 
 -- ---- a node that is made
 
-pub Settled-made : (old new : TreeRefs) (before land : Ground) (history : Option (List Event)) (at : ℕ) (mine : Node)
+pub Settled-made : (old new : TreeRefs) (before land : Ground) (history : History) (at : ℕ) (mine : Node)
     → IsTable old.refs → (old.misfit ≡ None → IsSettled old before history)
     → (step : Step old (Made at) new) → step.level ≡ (header_of mine).level → IsPutAt before land at mine
     → new.misfit ≡ None → IsSettled new land history
@@ -87,7 +87,7 @@ Settled-made old new before land history at mine table settled step levelled put
 
 -- ---- a copy
 
-pub Settled-copied : (old new : TreeRefs) (before land after : Ground) (history : Option (List Event)) (at : ℕ)
+pub Settled-copied : (old new : TreeRefs) (before land after : Ground) (history : History) (at : ℕ)
     (node : Node) (copy : ℕ) (mine : Node)
     → IsTable old.refs → (old.misfit ≡ None → IsSettled old before history)
     → Step old (Copied node copy) new → IsPutAt before land copy mine
@@ -107,7 +107,7 @@ Settled-copied old new before land after history at node copy mine table settled
 
 -- ---- a node that is left
 
-pub Settled-left : (old new : TreeRefs) (before land after : Ground) (history : Option (List Event)) (at : ℕ)
+pub Settled-left : (old new : TreeRefs) (before land after : Ground) (history : History) (at : ℕ)
     (node : Node)
     → IsTable old.refs → (old.misfit ≡ None → IsSettled old before history)
     → (step : Step old (Left node) new) → (step.misfit ≡ None → other_level (book_of old.refs) node ≡ None)

@@ -3,7 +3,7 @@ use Rattle.std.proofs.Common.{◌≡◌, ◌≢◌, ℕ, ◌<◌, ◌≤◌, Boo
 use Rattle.std.proofs.Common.{arith, refl, sym, ap, subst, ◌∙◌, inl, inr}
 use Rattle.std.specs.Prelude.{◌⊎◌, IsSome, IsTrue, Contains, nat_lt}
 use Rattle.std.proofs.lemmas.Bool.{lt-ltb, ltb-true}
-use Rattle.qg_device.specs.History.{Event}
+use Rattle.qg_device.specs.History.{History}
 use Rattle.qg_node.specs.declared.node.Node.{Node}
 use Rattle.qg_node.specs.Nodes.{header_of}
 use Rattle.qg_super.specs.declared.sizes.Sizes.{Sizes}
@@ -56,14 +56,14 @@ some_is : (o : Option Node) (node : Node) → o ≡ Some node → IsSome o
 some_is None node is = cc
 some_is (Some other) node is = refl
 
-told_alike : (a b : Option Node) (sizes others : Sizes) (history : Option (List Event)) (q : ℕ) → a ≡ None → b ≡ None
+told_alike : (a b : Option Node) (sizes others : Sizes) (history : History) (q : ℕ) → a ≡ None → b ≡ None
     → others ≡ sizes → told_or b others history q ≡ told_or a sizes history q
 told_alike a b sizes others history q first last same =
     ap (λ (o : Option Node). told_or o others history q) last
     ∙ ap (λ (s : Sizes). told_or None s history q) same
     ∙ sym (ap (λ (o : Option Node). told_or o sizes history q) first)
 
-pub told-clean : (old new : Ground) (history : Option (List Event)) (q : ℕ)
+pub told-clean : (old new : Ground) (history : History) (q : ℕ)
     → new.blocks.draft.sizes ≡ old.blocks.draft.sizes → fresh_at old.blocks.draft q ≡ None
     → fresh_at new.blocks.draft q ≡ None → told new.blocks.draft history q ≡ told old.blocks.draft history q
 unfolding told
@@ -74,7 +74,7 @@ told-clean old new history q sizes first last =
 referred_as : (n m : ℕ) → nat_lt 0 n ≡ nat_lt 0 m → 0 < n → 0 < m
 referred_as n m same some = ltb-true 0 m (sym same ∙ lt-ltb 0 n some)
 
-module _ (before after : TreeRefs) (old new : Ground) (history : Option (List Event))
+module _ (before after : TreeRefs) (old new : Ground) (history : History)
     (settled : IsSettled before old history)
     (nodesize : after.nodesize ≡ before.nodesize) (next : after.next ≡ before.next)
     (sizes : new.space.sizes ≡ old.space.sizes) (node_sizes : new.blocks.draft.sizes ≡ old.blocks.draft.sizes)

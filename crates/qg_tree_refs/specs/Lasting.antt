@@ -2,7 +2,7 @@
 use Rattle.std.proofs.Common.{◌≡◌, ℕ, ◌<◌, true, false, List, Option, Some, None, refl, sym, ap, subst, ◌∙◌, inl, inr}
 use Rattle.std.specs.Prelude.{◌⊎◌, IsSome, IsTrue, Contains, is_some, nat_lt}
 use Rattle.std.proofs.lemmas.Bool.{true≢false}
-use Rattle.qg_device.specs.History.{Event}
+use Rattle.qg_device.specs.History.{History}
 use Rattle.qg_node.specs.declared.node.Node.{Node}
 use Rattle.qg_node.specs.Nodes.{header_of}
 use Rattle.qg_super.specs.declared.sizes.Sizes.{Sizes}
@@ -24,7 +24,7 @@ none_before (Some node) new none stays =
     absurd (true≢false (sym (stays refl) ∙ ap (λ (o : Option Node). is_some o) none))
 
 -- where none is, the disk's node is told
-disk_told : (old new : Ground) (history : Option (List Event)) (at : ℕ)
+disk_told : (old new : Ground) (history : History) (at : ℕ)
     → new.blocks.draft.sizes ≡ old.blocks.draft.sizes → fresh_at old.blocks.draft at ≡ None
     → fresh_at new.blocks.draft at ≡ None → told new.blocks.draft history at ≡ told old.blocks.draft history at
 unfolding told
@@ -33,7 +33,7 @@ disk_told old new history at sizes was none =
     ∙ ap (λ (s : Sizes). told_or None s history at) sizes
     ∙ sym (ap (λ (o : Option Node). told_or o old.blocks.draft.sizes history at) was)
 
-module _ (book : TreeRefs) (old new : Ground) (history : Option (List Event)) (space : new.space ≡ old.space)
+module _ (book : TreeRefs) (old new : Ground) (history : History) (space : new.space ≡ old.space)
     (levels : KeepsLevels old new) (settled : IsSettled book old history) where
   slots_still : (at : ℕ) → IsTrue (is_slot new.space.sizes at)
       → has_slot new.space at ≡ nat_lt 0 (references_to (book_of book.refs) at)

@@ -1,7 +1,7 @@
 -- What stands of a subvolume's book, of nodes and of space between two edits of its tree (this project's own).
 -- Addresses are in bytes.
-use Rattle.std.specs.Prelude.{◌≡◌, ◌⊎◌, ℕ, ◌<◌, List, Option, Some, None, IsSome, IsTrue, Contains, nat_lt}
-use Rattle.qg_device.specs.History.{Event}
+use Rattle.std.specs.Prelude.{◌≡◌, ◌⊎◌, ℕ, ◌<◌, List, Some, None, IsSome, IsTrue, Contains, nat_lt}
+use Rattle.qg_device.specs.History.{History}
 use Rattle.qg_node.specs.declared.node.Node.{Node}
 use Rattle.qg_node.specs.Nodes.{header_of}
 use Rattle.qg_super.specs.Places.{is_slot}
@@ -21,7 +21,7 @@ what_of bytes generation node = record { bytes = bytes; level = Some (header_of 
 -- The present state has a slot exactly where references lead to it, and what lies there is fresh, or the last commit
 -- holds it. Of a fresh node the book knows the level, and the generation to come, and of no other node this generation;
 -- of one that references lead to and that a disk tells, level and generation
-pub record IsSettled (book : TreeRefs) (land : Ground) (history : Option (List Event)) : Type 0 where
+pub record IsSettled (book : TreeRefs) (land : Ground) (history : History) : Type 0 where
   pub slots : (at : ℕ) → IsTrue (is_slot land.space.sizes at)
       → has_slot land.space at ≡ nat_lt 0 (references_to (book_of book.refs) at)
   pub written : (at : ℕ) → IsTrue (has_slot land.space at)

@@ -1,7 +1,7 @@
 // What a tree tells its book.
-ghost use Rattle.std.specs.Prelude.{◌≡◌, ◌+◌, ◌<◌, ◌≤◌, ℕ, true, [], length, List, Option, Some, None, IfOk, IsSome};
+ghost use Rattle.std.specs.Prelude.{◌≡◌, ◌+◌, ◌<◌, ◌≤◌, ℕ, true, [], length, List, Some, None, IfOk, IsSome};
 ghost use Rattle.qg_device.specs.Cause.{HasCause};
-ghost use Rattle.qg_device.specs.History.{Event};
+ghost use Rattle.qg_device.specs.History.{History};
 ghost use Rattle.qg_node.specs.declared.node.Node.{Node as NodeValue};
 ghost use Rattle.qg_node.specs.Nodes.{header_of};
 ghost use Rattle.qg_blocks.specs.Told.{BreaksNone, IsBacked, fresh_at, held_at, told};
@@ -65,7 +65,7 @@ pub fn let_go(refs: &Extents, land: &mut Ground, at: Address)
     ensures gone { LetsGo land.old land.new at }
     ensures sizes { land.new.blocks.draft.sizes ≡ land.old.blocks.draft.sizes }
     ensures gives { fresh_at land.old.blocks.draft at ≡ None → GivesBack land.old land.new at }
-    ensures rests { (history : Option (List Event)) (generation : ℕ) → IsBacked land.old.blocks history
+    ensures rests { (history : History) (generation : ℕ) → IsBacked land.old.blocks history
         → IsDrafted land.old generation → Rests land.old land.new history generation }
 {
     if refs.how_many(at) > 0 {
@@ -167,6 +167,6 @@ impl<D: Disk, L: Ledger> Book<D, L> for TreeRefs {
     ghost lasts = { λ book old new before after history size backed spares stands. tt };
 
     ghost keeps = { λ book old new before after history space levels settled fits.
-        subst (λ (h : Option (List Event)). IsSettled book new h) (sym history)
+        subst (λ (h : History). IsSettled book new h) (sym history)
         (settled_still book old new (D.history before) space levels (settled fits)) };
 }

@@ -14,4 +14,5 @@ mod tree_refs;
 
 pub use book::let_go;
 pub use laws::{heavier_law, need_law};
+pub use qg_weighed::BookCopy;
 pub use tree_refs::TreeRefs;

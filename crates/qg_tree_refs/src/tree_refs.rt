@@ -1,5 +1,5 @@
 // A subvolume's book.
-ghost use Rattle.std.specs.Prelude.{◌≡◌, ◌<◌, None, IfOk, IfSome, OnErr, OnOk, length};
+ghost use Rattle.std.specs.Prelude.{◌≡◌, ◌<◌, None, IfOk, IfSome, OnOk, length};
 ghost use Rattle.std.specs.Option.{option_or};
 ghost use Rattle.qg_ground.specs.Tellings.Telling.{Copied, Made, Left};
 
@@ -12,7 +12,7 @@ use qg_extents::Extents;
 use qg_node::Node;
 use qg_num::{Address, Generation, NoMemory, RootId};
 use qg_refs::What;
-use qg_weighed::Weighed;
+use qg_weighed::{BookCopy, Weighed};
 use std::marker::Model;
 
 /// A subvolume's book: what its tree tells becomes references in the book in memory (on-disk format, "backreferences"),
@@ -113,15 +113,21 @@ impl TreeRefs {
         self.refs
     }
 
-    /// A commit recorded the references: they are held from now on, and what comes is of this generation. Where memory
-    /// is refused, all is as it was.
-    pub fn recorded(&mut self, next: Generation) -> Result<(), NoMemory>
-        ensures ok { OnOk result (self.new ≡ record self.old { held = self.old.refs; next = next }) }
-        ensures err { OnErr result (self.new ≡ self.old) }
+    /// What a commit is to record: the references as they are.
+    pub fn to_record(&self) -> Result<BookCopy, NoMemory>
+        ensures { IfOk result (λ copy. copy ≡ self.now.refs) }
     {
-        self.refs.hold()?;
+        self.refs.to_record()
+    }
+
+    /// A commit recorded the references, of which this is a copy: they are held from now on, and what comes is of this
+    /// generation. It takes no memory.
+    pub fn recorded(&mut self, copy: BookCopy, next: Generation)
+        requires { copy ≡ self.old.refs }
+        ensures { self.new ≡ record self.old { held = self.old.refs; next = next } }
+    {
+        self.refs.hold(copy);
         self.next = next;
-        Ok(())
     }
 
     /// Gives and takes references. The answer is where the first lies that could not be given or taken.

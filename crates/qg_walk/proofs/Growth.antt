@@ -8,7 +8,7 @@ use Rattle.std.proofs.lemmas.Bool.{and_from, eqb-true}
 use Rattle.std.proofs.lemmas.List.{map-append}
 use Rattle.std.proofs.lemmas.List.Elements.{All-append, All-nil}
 use Rattle.qg_num.specs.Fields.{IsBytes}
-use Rattle.qg_device.specs.History.{Event, content}
+use Rattle.qg_device.specs.History.{Event, History, Recorded, content}
 use Rattle.qg_num.specs.declared.key.Key.{Key}
 use Rattle.qg_num.specs.declared.rule.Rule.TheVariants as rule
 use Rattle.qg_node.specs.declared.item.Item.{Item}
@@ -64,10 +64,10 @@ inner_stands super image address level header pointers items nodes is above own 
 -- ---- one node
 
 pub HasAdded-leaf : {P N : Type 0} (tree : Tree) (meaning : Item → Option P) (keeps : N → List Node
-    → Type 0) (super : Super) (history : Option (List Event)) (expected : Expected) (address : ℕ)
+    → Type 0) (super : Super) (history : History) (expected : Expected) (address : ℕ)
     (header : Header) (items : List Item) (old new : Found P N)
     → IsJudged tree super expected address (Leaf header items)
-    → ((events : List Event) → history ≡ Some events
+    → ((events : List Event) → history ≡ Recorded events
     → node_found super (content events) address ≡ Ok (Leaf header items))
     → list_all (is_item_of tree super.generation) items ≡ true → All (λ item. IsBytes item.body) items
     → AddsSaid meaning items old.parts new.parts
@@ -96,10 +96,10 @@ HasAdded-leaf tree meaning keeps super history expected address header items old
     }
 
 pub HasAdded-inner : {P N : Type 0} (tree : Tree) (meaning : Item → Option P) (keeps : N → List Node
-    → Type 0) (super : Super) (history : Option (List Event)) (expected : Expected) (address : ℕ)
+    → Type 0) (super : Super) (history : History) (expected : Expected) (address : ℕ)
     (header : Header) (pointers : List Pointer) (old middle new : Found P N)
     → IsJudged tree super expected address (Inner header pointers)
-    → ((events : List Event) → history ≡ Some events
+    → ((events : List Event) → history ≡ Recorded events
     → node_found super (content events) address ≡ Ok (Inner header pointers))
     → middle.parts ≡ old.parts
     → ((before : List Node) → keeps old.nodes before → keeps middle.nodes (before ++ Inner header pointers ∷ []))
@@ -137,7 +137,7 @@ HasAdded-inner tree meaning keeps super history expected address header pointers
 
 -- those in front of the rest were walked
 pub record HasPassed {P N : Type 0} (tree : Tree) (meaning : Item → Option P) (keeps : N → List Node
-    → Type 0) (super : Super) (history : Option (List Event)) (from to : Option Key) (level : ℕ)
+    → Type 0) (super : Super) (history : History) (from to : Option Key) (level : ℕ)
     (pointers rest : List Pointer) (old new : Found P N) : Type 0 where
   pub front : List Pointer
   pub whole : pointers ≡ front ++ rest
@@ -168,7 +168,7 @@ joined-more under (next ∷ front) pointer first more h k =
     (λ own is. joined-more under front pointer own more is k) h
 
 pub HasPassed-none : {P N : Type 0} (tree : Tree) (meaning : Item → Option P) (keeps : N → List Node
-    → Type 0) (super : Super) (history : Option (List Event)) (from to : Option Key) (level : ℕ)
+    → Type 0) (super : Super) (history : History) (from to : Option Key) (level : ℕ)
     (pointers : List Pointer) (old : Found P N)
     → HasPassed tree meaning keeps super history from to level pointers pointers old old
 HasPassed-none tree meaning keeps super history from to level pointers old = record {
@@ -191,13 +191,13 @@ HasPassed-none tree meaning keeps super history from to level pointers old = rec
 }
 
 pub HasPassed-more : {P N : Type 0} (tree : Tree) (meaning : Item → Option P) (keeps : N → List Node
-    → Type 0) (super : Super) (history : Option (List Event)) (from to : Option Key) (level : ℕ)
+    → Type 0) (super : Super) (history : History) (from to : Option Key) (level : ℕ)
     (pointers : List Pointer)
     (pointer : Pointer) (others : List Pointer) (old middle new : Found P N)
     → HasPassed tree meaning keeps super history from to level pointers (pointer ∷ others) old middle
     → HasAdded tree meaning keeps super history (Some pointer.key) (next_key to others) (below_node super pointer.child)
     middle new
-    → ((events : List Event) → history ≡ Some events → level_in super (content events) pointer.child ≡ level)
+    → ((events : List Event) → history ≡ Recorded events → level_in super (content events) pointer.child ≡ level)
     → is_from from pointer.key ≡ true → is_to (next_key to others) pointer.key ≡ true
     → HasPassed tree meaning keeps super history from to level pointers others old new
 HasPassed-more tree meaning keeps super history from to level pointers pointer others old middle new passed more
@@ -237,7 +237,7 @@ HasPassed-more tree meaning keeps super history from to level pointers pointer o
     }
 
 pub HasPassed-all : {P N : Type 0} (tree : Tree) (meaning : Item → Option P) (keeps : N → List Node
-    → Type 0) (super : Super) (history : Option (List Event)) (from to : Option Key) (level : ℕ)
+    → Type 0) (super : Super) (history : History) (from to : Option Key) (level : ℕ)
     (pointers rest : List Pointer) (old new : Found P N)
     → rest ≡ [] → HasPassed tree meaning keeps super history from to level pointers rest old new
     → HasAdded tree meaning keeps super history from to (below_pointers super level pointers) old new
@@ -250,10 +250,10 @@ HasPassed-all tree meaning keeps super history from to level pointers rest old n
 
 -- where a leaf's items were said and none broke its rule
 pub HasAdded-said : {P N : Type 0} (tree : Tree) (meaning : Item → Option P) (keeps : N → List Node
-    → Type 0) (super : Super) (history : Option (List Event)) (expected : Expected) (address : ℕ)
+    → Type 0) (super : Super) (history : History) (expected : Expected) (address : ℕ)
     (header : Header) (items : List Item) (old new : Found P N) (result : Result Unit OpenFault)
     → IsJudged tree super expected address (Leaf header items)
-    → ((events : List Event) → history ≡ Some events
+    → ((events : List Event) → history ≡ Recorded events
     → node_found super (content events) address ≡ Ok (Leaf header items))
     → FailsAs result (unless (list_all (is_item_of tree super.generation) items) rule.Item address)
     → OnOk result (All (λ item. IsBytes item.body) items) → OnOk result (AddsSaid meaning items old.parts new.parts)

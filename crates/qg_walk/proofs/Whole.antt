@@ -2,7 +2,7 @@
 use Rattle.std.proofs.Common.{◌≡◌, ℕ, zero, suc, ◌-◌, true, List, [], ◌∷◌, ◌++◌, refl, sym, ap, ◌∙◌, Option, Some, None}
 use Rattle.std.specs.Prelude.{Result, Ok, Err, is_none}
 use Rattle.std.specs.List.{list_all}
-use Rattle.qg_device.specs.History.{Event, content}
+use Rattle.qg_device.specs.History.{Event, History, Recorded, content}
 use Rattle.qg_num.specs.declared.key.Key.{Key}
 use Rattle.qg_num.specs.declared.rule.Rule.TheVariants as rule
 use Rattle.qg_node.specs.declared.item.Item.{Item}
@@ -107,9 +107,9 @@ unfolding tree_nodes
 tree_nodes-is tree super image expected root nodes is = rw is refl
 
 pub IsWalk-added : {P N : Type 0} (tree : Tree) (meaning : Item → Option P) (keeps : N → List Node
-    → Type 0) (super : Super) (history : Option (List Event)) (events : List Event) (from to : Option Key)
+    → Type 0) (super : Super) (history : History) (events : List Event) (from to : Option Key)
     (expected : Expected) (root : ℕ)
-    (old new : Found P N) → history ≡ Some events → old.parts ≡ [] → keeps old.nodes []
+    (old new : Found P N) → history ≡ Recorded events → old.parts ≡ [] → keeps old.nodes []
     → tree_failure tree super (content events) expected root ≡ None
     → HasAdded tree meaning keeps super history from to (below_node super root) old new
     → IsWalk tree meaning keeps super (content events) expected root new.parts new.nodes
@@ -131,7 +131,7 @@ IsWalk-added tree meaning keeps super history events from to expected root old n
     }
 
 pub slots-added : {P N : Type 0} (tree : Tree) (meaning : Item → Option P) (keeps : N → List Node
-    → Type 0) (super : Super) (history : Option (List Event)) (from to : Option Key) (root : ℕ)
+    → Type 0) (super : Super) (history : History) (from to : Option Key) (root : ℕ)
     (old new : Found P N) → keeps old.nodes []
     → HasAdded tree meaning keeps super history from to (below_node super root) old new
     → AreInSlots (sizes_of super) keeps new.nodes
@@ -139,7 +139,7 @@ slots-added tree meaning keeps super history from to root old new no_nodes added
     record { nodes = added.nodes; kept = added.more_nodes [] no_nodes; slots = added.slots }
 
 pub held-added : {P N : Type 0} (tree : Tree) (meaning : Item → Option P) (keeps : N → List Node
-    → Type 0) (super : Super) (history : Option (List Event)) (from to : Option Key) (root : ℕ) (old new : Found P N)
+    → Type 0) (super : Super) (history : History) (from to : Option Key) (root : ℕ) (old new : Found P N)
     → old.parts ≡ [] → HasAdded tree meaning keeps super history from to (below_node super root) old new
     → AreHeld tree meaning super.generation new.parts
 held-added tree meaning keeps super history from to root old new no_parts added =

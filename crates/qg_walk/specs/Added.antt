@@ -2,7 +2,7 @@
 use Rattle.std.specs.Prelude.{◌≡◌, All, ℕ, Bool, true, not, List, [], ◌∷◌, ◌++◌, map, Option, Some, None, IsTrue}
 use Rattle.std.specs.List.{list_all}
 use Rattle.std.specs.Ordering.{is_lt}
-use Rattle.qg_device.specs.History.{Event, content}
+use Rattle.qg_device.specs.History.{Event, History, Recorded, content}
 use Rattle.qg_num.specs.Fields.{IsBytes}
 use Rattle.qg_num.specs.Key.{key_cmp}
 use Rattle.qg_num.specs.declared.key.Key.{Key}
@@ -82,7 +82,7 @@ found_by list walked = record { parts = list walked.parts; nodes = walked.nodes 
 -- within a range, and by what is kept of some nodes, which lie in slots. Where the disk tells what it holds, those are
 -- the items and nodes that stand there
 pub record HasAdded {P N : Type 0} (tree : Tree) (meaning : Item → Option P) (keeps : N → List Node
-    → Type 0) (super : Super) (history : Option (List Event)) (from to : Option Key) (below : List ℕ
+    → Type 0) (super : Super) (history : History) (from to : Option Key) (below : List ℕ
     → Below) (old new : Found P N) : Type 0 where
   pub items : List Item
   pub nodes : List Node
@@ -94,8 +94,8 @@ pub record HasAdded {P N : Type 0} (tree : Tree) (meaning : Item → Option P) (
   pub slots : IsTrue (list_all (λ node. is_slot (sizes_of super) (header_of node).address) nodes)
   pub more_parts : new.parts ≡ old.parts ++ parts
   pub more_nodes : (before : List Node) → keeps old.nodes before → keeps new.nodes (before ++ nodes)
-  pub items_stand : (events : List Event) → history ≡ Some events → (below (content events)).items ≡ Some items
-  pub nodes_stand : (events : List Event) → history ≡ Some events → (below (content events)).nodes ≡ Some nodes
+  pub items_stand : (events : List Event) → history ≡ Recorded events → (below (content events)).items ≡ Some items
+  pub nodes_stand : (events : List Event) → history ≡ Recorded events → (below (content events)).nodes ≡ Some nodes
 
 -- what was said grew by what each of some items says, in their order
 pub record AddsSaid {P : Type 0} (meaning : Item → Option P) (items : List Item) (old new : List P) : Type 0 where

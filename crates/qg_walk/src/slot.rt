@@ -1,7 +1,7 @@
 // Reading what stands in a slot.
-ghost use Rattle.std.specs.Prelude.{◌≡◌, ◌≤◌, List, length, Some, IfOk, IsTrue};
+ghost use Rattle.std.specs.Prelude.{◌≡◌, ◌≤◌, List, length, IfOk, IsTrue};
 ghost use Rattle.qg_device.specs.Cause.{HasCause};
-ghost use Rattle.qg_device.specs.History.{Event, content};
+ghost use Rattle.qg_device.specs.History.{Event, Recorded, content};
 ghost use Rattle.qg_super.specs.Places.{is_served, total_bytes};
 ghost use Rattle.qg_super.specs.SuperText.{sizes_of};
 ghost use Rattle.qg_image.specs.Walk.{node_found};
@@ -27,7 +27,7 @@ pub(crate) fn node_at<D: Disk>(
     requires served { IsTrue (is_served (sizes_of superblock.now)) }
     requires inside { total_bytes (sizes_of superblock.now) ≤ D.size disk.old }
     requires buffer { length buffer.old ≡ superblock.now.nodesize }
-    ensures told { (events : List Event) → D.history disk.old ≡ Some events
+    ensures told { (events : List Event) → D.history disk.old ≡ Recorded events
         → FindsAs result (node_found superblock.now (content events) address) }
     ensures stands { IfOk result (λ node. StandsAt superblock.now address node) }
     ensures history { D.history disk.new ≡ D.history disk.old }

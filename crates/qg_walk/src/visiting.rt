@@ -1,7 +1,7 @@
 // Reading one node, and judging it.
-ghost use Rattle.std.specs.Prelude.{◌≡◌, ◌≤◌, ◌∷◌, ◌++◌, [], List, length, Some, Ok, IfOk, IsTrue};
+ghost use Rattle.std.specs.Prelude.{◌≡◌, ◌≤◌, ◌∷◌, ◌++◌, [], List, length, Ok, IfOk, IsTrue};
 ghost use Rattle.qg_device.specs.Cause.{HasCause};
-ghost use Rattle.qg_device.specs.History.{Event, content};
+ghost use Rattle.qg_device.specs.History.{Event, Recorded, content};
 ghost use Rattle.qg_node.specs.declared.node.Node.{Node as NodeValue};
 ghost use Rattle.qg_super.specs.Places.{is_served, total_bytes};
 ghost use Rattle.qg_super.specs.SuperText.{sizes_of};
@@ -33,10 +33,10 @@ pub fn visit<P: TreePart, N: NodeList, D: Disk>(
     requires served { IsTrue (is_served (sizes_of superblock.now)) }
     requires inside { total_bytes (sizes_of superblock.now) ≤ D.size disk.old }
     requires buffer { length buffer.old ≡ superblock.now.nodesize }
-    ensures failure { (events : List Event) → D.history disk.old ≡ Some events
+    ensures failure { (events : List Event) → D.history disk.old ≡ Recorded events
         → FailsAs result (standing_failure P.tree superblock.now expected.now address
         (node_found superblock.now (content events) address)) }
-    ensures found { (events : List Event) → D.history disk.old ≡ Some events
+    ensures found { (events : List Event) → D.history disk.old ≡ Recorded events
         → IfOk result (λ node. node_found superblock.now (content events) address ≡ Ok node) }
     ensures judged { IfOk result (λ node. IsJudged P.tree superblock.now expected.now address node) }
     ensures kept { IfOk result (λ node. (before : List NodeValue) → N.keeps nodes.old before

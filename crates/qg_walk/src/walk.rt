@@ -1,7 +1,7 @@
 // The walk from a root down.
-ghost use Rattle.std.specs.Prelude.{◌≡◌, ◌≤◌, ℕ, [], List, length, Some, None, IfOk, OnOk, IfErr, IsTrue};
+ghost use Rattle.std.specs.Prelude.{◌≡◌, ◌≤◌, ℕ, [], List, length, None, IfOk, OnOk, IfErr, IsTrue};
 ghost use Rattle.qg_device.specs.Cause.{HasCause};
-ghost use Rattle.qg_device.specs.History.{Event, content};
+ghost use Rattle.qg_device.specs.History.{Event, Recorded, content};
 ghost use Rattle.qg_super.specs.Places.{is_served, total_bytes};
 ghost use Rattle.qg_super.specs.SuperText.{sizes_of};
 ghost use Rattle.qg_image.specs.Walk.{node_failure, node_found, pointers_failure, tree_failure, walk_failure};
@@ -44,10 +44,10 @@ pub fn walk_tree<P: TreePart, L: PartList<P>, N: NodeList, D: Disk>(
     requires none { N.keeps nodes [] }
 
     // Over a disk that tells what it holds.
-    ensures found { (events : List Event) → D.history disk.old ≡ Some events
+    ensures found { (events : List Event) → D.history disk.old ≡ Recorded events
         → IfOk result (λ walked. IsWalk P.tree P.meaning N.keeps superblock.now (content events) expected.now root
         (L.list walked.parts) walked.nodes) }
-    ensures unsound { (events : List Event) → D.history disk.old ≡ Some events
+    ensures unsound { (events : List Event) → D.history disk.old ≡ Recorded events
         → IfErr result (λ fault. TellsFailure fault
         (tree_failure P.tree superblock.now (content events) expected.now root)) }
 
@@ -90,7 +90,7 @@ fn walk<P: TreePart, L: PartList<P>, N: NodeList, D: Disk>(
     requires served { IsTrue (is_served (sizes_of superblock.now)) }
     requires inside { total_bytes (sizes_of superblock.now) ≤ D.size disk.old }
     requires buffer { length buffer.old ≡ superblock.now.nodesize }
-    ensures failure { (events : List Event) (depth : ℕ) → D.history disk.old ≡ Some events
+    ensures failure { (events : List Event) (depth : ℕ) → D.history disk.old ≡ Recorded events
         → levels_below expected.now.level ≤ depth
         → FailsAs result (walk_failure (node_failure P.tree superblock.now) (node_found superblock.now (content events))
         depth expected.now address) }
@@ -147,7 +147,7 @@ fn walk_pointers<P: TreePart, L: PartList<P>, N: NodeList, D: Disk>(
     requires inside { total_bytes (sizes_of superblock.now) ≤ D.size disk.old }
     requires buffer { length buffer.old ≡ superblock.now.nodesize }
     requires spaced { AreSpaced expected.now.from expected.now.to pointers.now }
-    ensures failure { (events : List Event) (depth : ℕ) → D.history disk.old ≡ Some events → level ≤ depth
+    ensures failure { (events : List Event) (depth : ℕ) → D.history disk.old ≡ Recorded events → level ≤ depth
         → FailsAs result (pointers_failure
         (walk_failure (node_failure P.tree superblock.now) (node_found superblock.now (content events)) depth)
         level expected.now.to pointers.now) }

@@ -5,6 +5,7 @@ ghost use Rattle.qg_refs.specs.Counts.{greatest_count};
 ghost use Rattle.qg_extents.specs.Table.{IsTable, book_of};
 ghost use Rattle.qg_weighed.specs.Weight.{weight_of};
 
+use crate::BookCopy;
 use crate::lacking::lacking;
 use crate::whole::{plus, table_bytes};
 use qg_extents::Extents;
@@ -133,16 +134,21 @@ impl Weighed {
         let _ascending = self.refs.len();
     }
 
-    /// A commit recorded the references. Where memory is refused, all is as it was.
-    pub fn hold(&mut self) -> Result<(), NoMemory>
-        ensures refs { self.new.refs ≡ self.old.refs }
-        ensures ok { OnOk result (self.new.held ≡ self.old.refs) }
-        ensures err { OnErr result (self.new ≡ self.old) }
+    /// What a commit is to record: the references as they are.
+    pub fn to_record(&self) -> Result<BookCopy, NoMemory>
+        ensures { IfOk result (λ copy. copy ≡ self.now.refs) }
     {
-        let held = self.refs.clone()?;
+        let refs = self.refs.clone()?;
         let bytes = table_bytes(self.refs.table())?;
-        self.held = held;
-        self.bytes = bytes;
-        Ok(())
+        Ok(BookCopy { refs, bytes })
+    }
+
+    /// A commit recorded the references, of which this is a copy. It takes no memory.
+    pub fn hold(&mut self, copy: BookCopy)
+        requires { copy ≡ self.old.refs }
+        ensures held { self.new ≡ record self.old { held = self.old.refs } }
+    {
+        self.held = copy.refs;
+        self.bytes = copy.bytes;
     }
 }

@@ -1,7 +1,7 @@
 // What no clause says: that calls succeed with ample memory, and that the book of a tree which shares no node gives
 // back slots. Addresses and counts were worked out by hand.
-ghost use Rattle.std.specs.Prelude.{◌≡◌, ◌<◌, ℕ, List, Option, IfOk};
-ghost use Rattle.qg_device.specs.History.{Event};
+ghost use Rattle.std.specs.Prelude.{◌≡◌, ◌<◌, ℕ, List, IfOk};
+ghost use Rattle.qg_device.specs.History.{History};
 ghost use Rattle.qg_blocks.specs.Told.{IsBacked};
 ghost use Rattle.qg_ground.specs.Land.{IsDrafted};
 
@@ -51,7 +51,7 @@ fn write_first<D: Disk>(alloc: Global, disk: &mut D) -> Result<(), Fail> {
 #[tactic(auto, unfolding(qg_super::specs::Places::is_served))]
 fn land(alloc: Global) -> Result<Ground, Fail>
     ensures size { IfOk result (λ land. land.space.sizes.nodesize ≡ 4096) }
-    ensures backed { IfOk result (λ land. (history : Option (List Event)) → IsBacked land.blocks history) }
+    ensures backed { IfOk result (λ land. (history : History) → IsBacked land.blocks history) }
     ensures drafted { IfOk result (λ land. (generation : ℕ) → IsDrafted land generation) }
 {
     let mut land = Ground::new(

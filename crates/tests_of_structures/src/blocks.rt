@@ -1,7 +1,7 @@
 // What no clause says: that calls succeed, in which order clean nodes go, and what is answered over a disk that changes
 // by itself. Which rule is broken was worked out by hand.
-ghost use Rattle.std.specs.Prelude.{◌≡◌, ◌<◌, IfOk, IsSome, IsTrue, List, OnOk, Option, Some};
-ghost use Rattle.qg_device.specs.History.{Event};
+ghost use Rattle.std.specs.Prelude.{◌≡◌, ◌<◌, IfOk, IsSome, IsTrue, List, OnOk, Some};
+ghost use Rattle.qg_device.specs.History.{History};
 ghost use Rattle.qg_node.specs.declared.node.Node.{Node as NodeValue};
 ghost use Rattle.qg_blocks.specs.Held.{nothing_fresh, slots_of};
 ghost use Rattle.qg_blocks.specs.Told.{IsBacked, IsNodeAt, fresh_at};
@@ -63,7 +63,7 @@ fn leaf(alloc: Global, address: u64, generation: u64) -> Node {
 #[tactic(auto, unfolding(qg_super::specs::Places::is_served))]
 fn no_nodes(alloc: Global) -> Result<Blocks, NoMemory>
     ensures draft { IfOk result (λ blocks. blocks.draft ≡ nothing_fresh (slots_of 4096 64)) }
-    ensures backed { IfOk result (λ blocks. (history : Option (List Event)) → IsBacked blocks history) }
+    ensures backed { IfOk result (λ blocks. (history : History) → IsBacked blocks history) }
 {
     Blocks::with_bound(alloc, 4096, 64, 1)
 }
@@ -121,7 +121,7 @@ fn laid_out<D: Disk>(alloc: Global, disk: &mut D) -> Result<Blocks, Fail>
 // Three fresh leaves of generation 1.
 fn three_fresh(alloc: Global) -> Result<Blocks, NoMemory>
     ensures sizes { IfOk result (λ blocks. blocks.draft.sizes ≡ slots_of 4096 64) }
-    ensures backed { IfOk result (λ blocks. (history : Option (List Event)) → IsBacked blocks history) }
+    ensures backed { IfOk result (λ blocks. (history : History) → IsBacked blocks history) }
 {
     let mut blocks = no_nodes(alloc)?;
     blocks.put_fresh(leaf(alloc, THIRD, 1))?;
@@ -213,7 +213,7 @@ fn addresses_without_a_node(rt: HostRuntime) -> Result<(), Fail> {
 
 // Another node in the place of a fresh one.
 fn set(rt: &impl Abort, blocks: &mut Blocks, node: Node)
-    ensures { (history : Option (List Event)) → IsBacked blocks.old history → IsBacked blocks.new history }
+    ensures { (history : History) → IsBacked blocks.old history → IsBacked blocks.new history }
 {
     let address = node.header().address;
     assert!(rt; blocks.is_fresh(address));

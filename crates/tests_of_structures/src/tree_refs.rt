@@ -1,7 +1,7 @@
 // Tables of what copies do, and leaving a node, by hand (docs/MACHINE.md), and that calls succeed with ample memory.
 // Addresses are in bytes.
-ghost use Rattle.std.specs.Prelude.{◌≡◌, ◌<◌, ℕ, List, Option, IfOk};
-ghost use Rattle.qg_device.specs.History.{Event};
+ghost use Rattle.std.specs.Prelude.{◌≡◌, ◌<◌, ℕ, List, IfOk};
+ghost use Rattle.qg_device.specs.History.{History};
 ghost use Rattle.qg_refs.specs.Counts.{greatest_count};
 ghost use Rattle.qg_blocks.specs.Told.{IsBacked};
 ghost use Rattle.qg_ground.specs.Land.{IsDrafted};
@@ -78,7 +78,7 @@ fn write_root<D: Disk>(alloc: Global, disk: &mut D) -> Result<(), Fail> {
 #[tactic(auto, unfolding(qg_super::specs::Places::is_served))]
 fn land(alloc: Global) -> Result<Ground, Fail>
     ensures size { IfOk result (λ land. land.space.sizes.nodesize ≡ 4096) }
-    ensures backed { IfOk result (λ land. (history : Option (List Event)) → IsBacked land.blocks history) }
+    ensures backed { IfOk result (λ land. (history : History) → IsBacked land.blocks history) }
     ensures drafted { IfOk result (λ land. (generation : ℕ) → IsDrafted land generation) }
 {
     let mut land = Ground::new(
@@ -208,7 +208,8 @@ fn take_over<D: Disk, L: Ledger>(
     assert!(rt; is_taken_over(&land, &book, copy));
     // A node and its reference take 49 + 25, the extent and its reference 49 + 53. The last commit recorded the root.
     assert!(rt; book.bytes() == 74 + 74 + 102);
-    book.recorded(Generation::new(3))?;
+    let copy = book.to_record()?;
+    book.recorded(copy, Generation::new(3));
     assert!(rt; book.bytes() == 74 + 102);
     Ok(())
 }

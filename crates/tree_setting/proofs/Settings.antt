@@ -1,7 +1,9 @@
 -- What the calls of a tree ask between any two of them.
-use Rattle.std.proofs.Common.{◌≡◌, ◌<◌, ◌≤◌, ℕ, List, Option, length, lit≤, map, true, ap, subst, sym, ◌∙◌, refl}
+use Rattle.std.proofs.Common.{◌≡◌, ◌<◌, ◌≤◌, ℕ, List, length, lit≤, map, true, ap, subst, sym, ◌∙◌, refl}
+use Rattle.std.specs.Prelude.{Result, Ok, Err, MatchResult}
 use Rattle.std.specs.List.{All}
-use Rattle.qg_device.specs.History.{Event}
+use Rattle.qg_device.specs.History.{History}
+use Rattle.qg_num.specs.declared.fault.BlockFault.{BlockFault}
 use Rattle.qg_super.specs.declared.sizes.Sizes.{Sizes}
 use Rattle.qg_node.specs.declared.item.Item.{Item}
 use Rattle.qg_node.specs.Nodes.{is_ascending}
@@ -19,16 +21,17 @@ use Rattle.qg_ground.proofs.Editing.{ArePlaced-drafted}
 use Rattle.qg_ground.proofs.Lands.{IsDrafted-none, Rests-draft}
 use Rattle.qg_descent.specs.Tree.{Root}
 use Rattle.qg_tree_edits.specs.Editing.{CanMake, IsEditable}
+use Rattle.qg_tree_edits.specs.Rooting.{Grows}
 use Rattle.qg_tree_build.specs.Building.{CanBuild, most_nodes}
 use Rattle.qg_descent.specs.Way.{HasRead, IsReadable}
 
-module _ (land : Ground) (history : Option (List Event)) (bytes generation : ℕ) where
+module _ (land : Ground) (history : History) (bytes generation : ℕ) where
   -- it is read
   pub readable_land : IsEditable land history bytes generation → IsReadable land.blocks history bytes
   readable_land is = record { backed = is.backed; placed = ArePlaced-drafted land generation bytes is.room is.drafted }
 
   -- and is edited as before when it was
-  pub read_land : IsEditable land history bytes generation → (blocks : Held) (after : Option (List Event)) (left : ℕ)
+  pub read_land : IsEditable land history bytes generation → (blocks : Held) (after : History) (left : ℕ)
       → HasRead land.blocks blocks history after bytes left → IsReadable blocks after left
       → IsEditable (record land { blocks = blocks }) after left generation
   read_land is blocks after left read readable =
@@ -37,7 +40,7 @@ module _ (land : Ground) (history : Option (List Event)) (bytes generation : ℕ
       record { backed = readable.backed; drafted = rests.drafted; room = rw read.size is.room }
 
 -- what rests is edited, on a disk with room
-pub rested_land : (old new : Ground) (history : Option (List Event)) (bytes generation : ℕ)
+pub rested_land : (old new : Ground) (history : History) (bytes generation : ℕ)
     → Rests old new history generation → second_place ≤ bytes
     → IsEditable new history bytes generation
 rested_land old new history bytes generation rests room = record {
@@ -58,6 +61,21 @@ makes_files root address height next is later = record {
   next = rw is later;
 }
 
+-- a tree that was edited, or that was left as it was, keeps its number and generation
+pub edited_names : (before after : Root) (old new : Ground) (result : Result (Unit {0}) BlockFault)
+    → MatchResult result (λ done. Grows 0 before after old new) (λ fault. after ≡ before)
+    → (after.owner ≡ before.owner) × (after.next ≡ before.next)
+edited_names before after old new (Ok done) grows = (grows.stays.owner, grows.stays.next)
+edited_names before after old new (Err fault) same =
+    (ap (λ (root : Root). root.owner) same, ap (λ (root : Root). root.next) same)
+
+pub edited_makes : (before after : Root) → (after.owner ≡ before.owner) × (after.next ≡ before.next)
+    → CanMake Files before → CanMake Files after
+edited_makes before after names makes = record {
+  owner = rw names.0 makes.owner;
+  next = rw names.1 makes.next;
+}
+
 -- nodes and space of these sizes, of which no node is fresh
 module _ (land : Ground) (sizes : Sizes) (served : is_served sizes ≡ true)
     (draft : land.blocks.draft ≡ nothing_fresh sizes) (space : land.space.sizes ≡ sizes) where
@@ -71,7 +89,7 @@ module _ (land : Ground) (sizes : Sizes) (served : is_served sizes ≡ true)
       } in
       IsDrafted-none land generation ground (ap (λ (d : Draft). d.fresh) draft)
 
-  pub empty_land : (history : Option (List Event)) (bytes generation : ℕ) → IsBacked land.blocks history
+  pub empty_land : (history : History) (bytes generation : ℕ) → IsBacked land.blocks history
       → second_place ≤ bytes → IsEditable land history bytes generation
   empty_land history bytes generation backed room = record {
     backed = backed;
@@ -84,7 +102,7 @@ pub draft_sizes : (draft : Draft) (sizes : Sizes) → draft ≡ nothing_fresh si
 draft_sizes draft sizes is = ap (λ (d : Draft). d.sizes) is
 
 -- a tree may be built there, of items that are as a list of them
-pub can_build : (land : Ground) (sizes : Sizes) (history : Option (List Event)) (bytes owner next free : ℕ)
+pub can_build : (land : Ground) (sizes : Sizes) (history : History) (bytes owner next free : ℕ)
     (items list : List Item) → is_served sizes ≡ true → land.blocks.draft ≡ nothing_fresh sizes
     → land.space.sizes ≡ sizes → IsBacked land.blocks history → second_place ≤ bytes → owner ≡ 5 → next ≡ 1
     → list ≡ items → free ≡ free_slots land.space → is_ascending (map (λ item. item.key) list) ≡ true

@@ -1,6 +1,6 @@
 // What a commit does with nodes and slots.
-ghost use Rattle.std.specs.Prelude.{◌≡◌, ◌+◌, ◌<◌, ◌≤◌, ◌^◌, List, Option, OnOk, IfOk, IsTrue, length};
-ghost use Rattle.qg_device.specs.History.{Event, Wrote, with_event};
+ghost use Rattle.std.specs.Prelude.{◌≡◌, ◌+◌, ◌<◌, ◌≤◌, ◌^◌, List, OnOk, IfOk, IsTrue, length};
+ghost use Rattle.qg_device.specs.History.{History, Wrote, with_event};
 ghost use Rattle.qg_super.specs.Places.{is_served, second_place};
 ghost use Rattle.qg_blocks.specs.Held.{most_clean, nothing_fresh, slots_of};
 ghost use Rattle.qg_blocks.specs.Told.{IsBacked, IsNodeAt};
@@ -28,7 +28,7 @@ pub(crate) fn empty_land(
     requires most { bound ≤ most_clean }
     ensures draft { IfOk result (λ land. land.blocks.draft ≡ nothing_fresh (slots_of nodesize slots)) }
     ensures space { IfOk result (λ land. land.space ≡ nothing_held (slots_of nodesize slots)) }
-    ensures backed { IfOk result (λ land. (history : Option (List Event)) → IsBacked land.blocks history) }
+    ensures backed { IfOk result (λ land. (history : History) → IsBacked land.blocks history) }
 {
     Ok(Ground {
         blocks: Blocks::with_bound(alloc, nodesize, slots, bound)?,

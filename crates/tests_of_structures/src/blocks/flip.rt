@@ -1,7 +1,8 @@
 // A disk that changes by itself.
-ghost use Rattle.std.specs.Prelude.{◌≡◌, ◌+◌, ◌<◌, ◌≤◌, ◌^◌, IsErrOf, None, OnOk, length, max};
+ghost use Rattle.std.specs.Prelude.{◌≡◌, ◌+◌, ◌<◌, ◌≤◌, ◌^◌, IsErrOf, OnOk, length, max};
 ghost use Rattle.qg_device.specs.Cause.{HasCause};
-ghost use Rattle.qg_disk.specs.Call.{size_of};
+ghost use Rattle.qg_device.specs.History.{Unrecorded, with_changes};
+ghost use Rattle.qg_disk.specs.Call.{history_of, size_of};
 ghost use Rattle.qg_disk.specs.Disk.{Cuts, Syncs, Writes};
 
 use qg_disk::{Disk, DiskFault, SureDisk};
@@ -43,13 +44,13 @@ impl FlipDisk {
 impl Disk for FlipDisk {
     ghost use Rattle.qg_disk.specs.FileDisk.{sized_untold};
 
-    ghost history = { λ _. None };
+    ghost history = { λ calls. Unrecorded (with_changes (history_of calls) 0) };
 
     ghost size = { size_of };
 
     ghost faults = { λ _. 0 };
 
-    ghost sized = { λ calls events told. sized_untold (size_of calls) events told };
+    ghost sized = { λ calls events told. sized_untold (size_of calls) (with_changes (history_of calls) 0) events told };
 
     fn len(&self) -> u64 {
         self.disk.len()

@@ -1,6 +1,6 @@
 use Rattle.std.proofs.Common.{◌≡◌, ℕ, List, [], ◌∷◌, length, None, Some, refl, sym, ap, ◌∙◌}
 use Rattle.std.specs.Prelude.{Option}
-use Rattle.qg_device.specs.History.{Event, content}
+use Rattle.qg_device.specs.History.{Event, Recorded, content}
 use Rattle.qg_super.specs.declared.superblock.Super.{Super}
 use Rattle.qg_super.specs.SuperText.{choose}
 use Rattle.qg_image.specs.declared.failure.Failure.{Failure}
@@ -60,7 +60,7 @@ trees_left bytes super trees places whole none none' are =
     ∙ rest_failure_trees super bytes trees are
 
 -- the verdict, by what was read of the superblocks
-whole : (g : Over) (c : After-len g) (events : List Event) → g.D.Disk.history c.args.disk.now ≡ Some events
+whole : (g : Over) (c : After-len g) (events : List Event) → g.D.Disk.history c.args.disk.now ≡ Recorded events
     → verdict (content events) ≡ first_failure
     (places_failure c.in-Some.superblock c.in_ok-places.places.first c.in_ok-places.places.second c.len.result
     ∷ roots_failure c.in-Some.superblock (content events) ∷ rest_failure c.in-Some.superblock (content events) ∷ [])

@@ -1,6 +1,5 @@
-use Rattle.std.proofs.Common.{◌∙◌, Err, ap}
 use Rattle.qg_device.specs.History.{content}
-use Rattle.qg_check.proofs.Reported.{report-told}
+use Rattle.qg_check.proofs.Reported.{report-cause, report-told}
 use Rattle.qg_check.proofs.report.count_image.Goals as goal
 
 pub returns-in-Ok-clause-report : goal.returns-in-Ok-clause-report
@@ -12,7 +11,6 @@ returns-in-Err-clause-report g c = λ events told.
     (c.in-Err.ensures.failure events told)
 
 pub returns-in-Err-clause-cause : goal.returns-in-Err-clause-cause
-returns-in-Err-clause-cause g c = record {
-  later = c.count.ensures.cause.later;
-  rose = λ is. c.count.ensures.cause.rose (c.in-Err.is ∙ ap Err (c.report_of.ensures.disk is));
-}
+returns-in-Err-clause-cause g c =
+    report-cause (g.D.Disk.faults c.args.disk.now) (g.D.Disk.faults c.count.new.disk) c.in-Err.fault c.report_of.result
+    c.report_of.ensures.told c.in-Err.ensures.cause

@@ -1,4 +1,5 @@
-use Rattle.std.proofs.Common.{true, ◌≡◌, ◌++◌, ◌∷◌, [], Some, length, refl, sym, ap, subst, ◌∙◌}
+use Rattle.std.proofs.Common.{true, ◌≡◌, ◌++◌, ◌∷◌, [], length, refl, sym, ap, subst, ◌∙◌}
+use Rattle.qg_device.specs.History.{Recorded}
 use Rattle.qg_node.specs.declared.node.Node.{Node}
 use Rattle.qg_node.specs.NodeText.{IsNodeSize}
 use Rattle.qg_super.specs.declared.superblock.Super.{Super}
@@ -139,7 +140,7 @@ returns-clause-fresh g c before was =
     let served : is_served c.args.sizes ≡ true = sym c.is_served.ensures ∙ c.if-not-is_served.false in
     let super = fresh_super c.args.sizes (slot_at c.args.sizes 0) in
     let calls : g.D.Disk.history c.write_superblocks.new.disk
-    ≡ Some (with_image super (fresh_nodes c.args.sizes) before) =
+    ≡ Recorded (with_image super (fresh_nodes c.args.sizes) before) =
     returns-clause-calls g c ∙ rw was refl in
     rw calls (made-HoldsFreshImage c.args.sizes c.in_ok-trees.trees served c.in_ok-trees.ensures.fits
     c.in_ok-trees.ensures.trees c.in_ok-trees.ensures.table before)

@@ -1,7 +1,7 @@
 use Rattle.std.proofs.Common.{ℕ, ap, inl, sym, ◌∙◌}
-use Rattle.std.specs.Prelude.{◌∷◌, Option, Some}
+use Rattle.std.specs.Prelude.{◌∷◌, Option}
 use Rattle.std.proofs.lemmas.Result.{err_from_is_err_and}
-use Rattle.qg_device.specs.History.{Synced, with_event}
+use Rattle.qg_device.specs.History.{Recorded, Synced, with_event}
 use Rattle.qg_commit.specs.Opening.{with_repair}
 use Rattle.qg_commit.proofs.OpeningCalls.{outlives_fault, outlives_opened}
 use Rattle.qg_commit.proofs.Touched.{looked-kept, looked-sync, opening-kept, opening-written}
@@ -54,7 +54,7 @@ returns-clause-repaired g c = λ events told.
     let history = g.D.Disk.history in
     let synced = c.in_ok-sync.ensures.event ∙ ap (with_event Synced) told in
     let read = c.read_image.ensures.history ∙ synced in
-    let repair = λ (stale : Option ℕ). Some (with_repair c.in_ok-image.image.superblock stale (Synced ∷ events)) in
+    let repair = λ (stale : Option ℕ). Recorded (with_repair c.in_ok-image.image.superblock stale (Synced ∷ events)) in
     elim c.match-image.branch [
       | in-Some+in_ok-write_place w ↦
           ap history w.disk-is ∙ w.in_ok-write_place.ensures.calls (Synced ∷ events) read ∙ ap repair (sym w.in-Some.is)

@@ -1,7 +1,7 @@
 use Rattle.std.proofs.Common.{◌≡◌, ◌+◌, ◌<◌, ◌∷◌, length, drop, subst, sym, ap, ◌∙◌, arith, refl, rules}
 use Rattle.std.specs.List.{AllByRecursion}
-use Rattle.std.specs.Option.{option_map}
 use Rattle.std.proofs.lemmas.List.{drop_more}
+use Rattle.qg_device.specs.History.{history_after}
 use Rattle.qg_node.specs.declared.node.Header.{Header}
 use Rattle.qg_node.specs.declared.node.Node.{Node}
 use Rattle.qg_commit.specs.Calls.{node_calls, with_nodes, IsWritable}
@@ -42,7 +42,7 @@ loop-node-preserved g c =
           rw long
           (next_call size c.node-item.result (drop i c.args.nodes.now) (drop (i + 1) c.args.nodes.now) c.value.result
           c.write_node.new.bytes
-          (option_map (with_nodes size c.args.nodes.now) (history c.args.disk.now)) (history c.loop-node.disk)
+          (history_after (with_nodes size c.args.nodes.now) (history c.args.disk.now)) (history c.loop-node.disk)
           (history c.write_at.new.self)
           cut there c.write_node.ensures.text c.in_ok-write_at.ensures.event c.loop-node.invariant.calls);
       leads = λ new.
@@ -53,7 +53,7 @@ loop-node-preserved g c =
           cut there c.write_node.ensures.text c.in_ok-write_at.ensures.event comes));
       writable = rw long (subst (AllByRecursion (IsWritable size)) cut c.loop-node.invariant.writable).1;
       size = omega arith;
-      count = search rules;
+      count = c.in_ok-write_at.ensures.cause.fine ∙ c.loop-node.invariant.count;
     }
 
 pub returns-clause-front : goal.returns-clause-front

@@ -4,10 +4,10 @@ use Rattle.std.proofs.lemmas.List.{nil_from_length}
 use Rattle.std.proofs.lemmas.List.Elements.{All-tail}
 use Rattle.qg_node.specs.Nodes.{own_pointers}
 use Rattle.qg_descent.specs.declared.way.Way.{Way}
-use Rattle.qg_drop.proofs.Resting.{unbroken-handed}
+use Rattle.qg_device.proofs.Causes.{cause-told}
+use Rattle.qg_drop.proofs.Resting.{handed, unbroken-handed}
 use Rattle.qg_drop.specs.Counting.{LeadsToBranch, ways_reached, ways_told}
 use Rattle.qg_drop.proofs.Counted.{children-lead, inner-count, leaf-count, read-on, some-below, tells-read, top-told}
-use Rattle.qg_drop.proofs.Stepping.{cause-handed, never-err}
 use Rattle.qg_drop.proofs.Ways.{ways-first, ways-levelled}
 use Rattle.qg_drop.proofs.counting.+counting.Goals as goal
 
@@ -56,7 +56,7 @@ count_each-ways-preserved g t c =
       read = read-on c.args.blocks.now c.ways.blocks c.count_under.new.blocks (g.D.Disk.history c.args.disk.now)
           (g.D.Disk.history c.ways.disk) (g.D.Disk.history c.count_under.new.disk) (g.D.Disk.size c.args.disk.now)
           (g.D.Disk.size c.ways.disk) (g.D.Disk.size c.count_under.new.disk) met.read made.read;
-      count = let now = made.cause.later in let before = met.count in omega (arith, now, before);
+      count = let now = made.cause.fine in let before = met.count in omega (arith, now, before);
     }
 
 pub count_each-count_under-requires : goal.count_each-count_under-requires
@@ -95,9 +95,9 @@ count_each-returns-in_err-more-clause-read g t c =
 
 pub count_each-returns-in_err-more-clause-cause : goal.count_each-returns-in_err-more-clause-cause
 count_each-returns-in_err-more-clause-cause g t c =
-    cause-handed (g.D.Disk.faults c.args.disk.now) (g.D.Disk.faults c.ways.disk)
-    (g.D.Disk.faults c.count_under.new.disk) c.from_residual.result _ c.from_residual.ensures.1
-    c.ways.invariant.count c.in_err-more.ensures.cause
+    cause-told (g.D.Disk.faults c.args.disk.now) (g.D.Disk.faults c.ways.disk)
+    (g.D.Disk.faults c.count_under.new.disk) c.from_residual.result _ c.ways.invariant.count
+    (handed c.from_residual.result _ c.from_residual.ensures.1) c.in_err-more.ensures.cause
 
 pub count_each-returns-clause-counted : goal.count_each-returns-clause-counted
 count_each-returns-clause-counted g t c state tells all =
@@ -115,10 +115,7 @@ pub count_each-returns-clause-read : goal.count_each-returns-clause-read
 count_each-returns-clause-read g t c = c.ways.invariant.read
 
 pub count_each-returns-clause-cause : goal.count_each-returns-clause-cause
-count_each-returns-clause-cause g t c = record {
-  later = c.ways.invariant.count;
-  rose = λ is. absurd (never-err _ _ is);
-}
+count_each-returns-clause-cause g t c = record { fine = c.ways.invariant.count; met = tt }
 
 pub count_under-returns-in_err-visit-clause-sound : goal.count_under-returns-in_err-visit-clause-sound
 count_under-returns-in_err-visit-clause-sound g t c state same tells leads =

@@ -28,5 +28,5 @@ invariant-count_each-ways g l = record {
       → l.reads + ways_reached state l.level l.rest ≤ l.initial.reads + ways_reached state l.level l.ways;
   read : HasRead l.initial.blocks l.blocks (g.D.Disk.history l.initial.disk) (g.D.Disk.history l.disk)
       (g.D.Disk.size l.initial.disk) (g.D.Disk.size l.disk);
-  count : g.D.Disk.faults l.initial.disk ≤ g.D.Disk.faults l.disk;
+  count : g.D.Disk.faults l.disk ≡ g.D.Disk.faults l.initial.disk;
 }

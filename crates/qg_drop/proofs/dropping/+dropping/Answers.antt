@@ -13,7 +13,8 @@ use Rattle.qg_ground.specs.declared.ground.Ground.{Ground}
 use Rattle.qg_ground.proofs.Editing.{ArePlaced-drafted}
 use Rattle.qg_extents.specs.Table.{book_of}
 use Rattle.qg_tree_refs.specs.Heavier.{BookGetsHeavier}
-use Rattle.qg_drop.proofs.Resting.{unbroken-handed}
+use Rattle.qg_device.proofs.Causes.{cause-told}
+use Rattle.qg_drop.proofs.Resting.{handed, unbroken-handed}
 use Rattle.qg_drop.specs.declared.child.Child.{Child}
 use Rattle.qg_drop.specs.Dropping.{AreParts, KnowsNoMore, children_told, parts_reached}
 use Rattle.qg_drop.proofs.Children.{children-levelled}
@@ -21,8 +22,8 @@ use Rattle.qg_drop.proofs.Knowing.{knows-on, knows-same}
 use Rattle.qg_drop.proofs.Opened.{open-part}
 use Rattle.qg_drop.proofs.Under.{children-are, top-formed, top-open}
 use Rattle.qg_drop.proofs.Leaving.{holds-read, inner-counts, inner-leaves, leaf-leaves, part-some, peeked}
-use Rattle.qg_drop.proofs.Stepping.{Went, edit-still, few-all, few-part, never-err, never-ok, times_on, rests-on}
-use Rattle.qg_drop.proofs.Stepping.{rests-read, rests-still, times-some, cause-handed, weighs-all, weighs-most}
+use Rattle.qg_drop.proofs.Stepping.{Went, edit-still, few-all, few-part, never-ok, times_on, rests-on}
+use Rattle.qg_drop.proofs.Stepping.{rests-read, rests-still, times-some, weighs-all, weighs-most}
 use Rattle.qg_drop.proofs.Stepping.{weighs-on, went-all, went-none, went-on}
 use Rattle.qg_drop.proofs.dropping.+dropping.Goals as goal
 
@@ -75,7 +76,7 @@ drop_each-parts-preserved g t c =
       rests = rests;
       history = made.disk.0 ∙ met.history;
       size = made.disk.1 ∙ met.size;
-      count = let now = made.cause.later in let before = met.count in omega (arith, now, before);
+      count = let now = made.cause.fine in let before = met.count in omega (arith, now, before);
     }
 
 pub drop_each-drop_under-requires : goal.drop_each-drop_under-requires
@@ -133,9 +134,9 @@ drop_each-returns-in_err-drop_under-clause-disk g t c =
 pub drop_each-returns-in_err-drop_under-clause-cause :
     goal.drop_each-returns-in_err-drop_under-clause-cause
 drop_each-returns-in_err-drop_under-clause-cause g t c =
-    cause-handed (g.D.Disk.faults c.args.disk.now) (g.D.Disk.faults c.parts.disk)
-    (g.D.Disk.faults c.drop_under.new.disk) c.from_residual.result _ c.from_residual.ensures.1
-    c.parts.invariant.count c.in_err-drop_under.ensures.cause
+    cause-told (g.D.Disk.faults c.args.disk.now) (g.D.Disk.faults c.parts.disk)
+    (g.D.Disk.faults c.drop_under.new.disk) c.from_residual.result _ c.parts.invariant.count
+    (handed c.from_residual.result _ c.from_residual.ensures.1) c.in_err-drop_under.ensures.cause
 
 pub drop_each-returns-clause-dropped : goal.drop_each-returns-clause-dropped
 drop_each-returns-clause-dropped g t c state waiting holds are =
@@ -182,10 +183,7 @@ pub drop_each-returns-clause-disk : goal.drop_each-returns-clause-disk
 drop_each-returns-clause-disk g t c = (c.parts.invariant.history, c.parts.invariant.size)
 
 pub drop_each-returns-clause-cause : goal.drop_each-returns-clause-cause
-drop_each-returns-clause-cause g t c = record {
-  later = c.parts.invariant.count;
-  rose = λ is. absurd (never-err _ _ is);
-}
+drop_each-returns-clause-cause g t c = record { fine = c.parts.invariant.count; met = tt }
 
 pub drop_under-visit-requires : goal.drop_under-visit-requires
 drop_under-visit-requires g t c = record {

@@ -1,4 +1,4 @@
-use Rattle.std.proofs.Common.{◌≡◌, ℕ, ◌+◌, ◌*◌, ◌≤◌, Bool, All, Some, length}
+use Rattle.std.proofs.Common.{◌≡◌, ℕ, ◌+◌, ◌*◌, Bool, All, Some, length}
 use Rattle.qg_super.specs.Places.{capacity}
 use Rattle.qg_image.specs.State.{State}
 use Rattle.qg_tree_edits.specs.Editing.{IsEditable}
@@ -30,5 +30,5 @@ invariant-drop_each-parts g l = record {
   rests : RestsButRuns l.initial.land l.land (g.D.Disk.history l.disk) l.tree.next;
   history : g.D.Disk.history l.disk ≡ g.D.Disk.history l.initial.disk;
   size : g.D.Disk.size l.disk ≡ g.D.Disk.size l.initial.disk;
-  count : g.D.Disk.faults l.initial.disk ≤ g.D.Disk.faults l.disk;
+  count : g.D.Disk.faults l.disk ≡ g.D.Disk.faults l.initial.disk;
 }

@@ -1,7 +1,8 @@
 use Rattle.std.proofs.Common.{◌≤◌, length, arith}
 use Rattle.std.proofs.lemmas.List.{take_all}
 use Rattle.qg_exchange.specs.Applying.{after_steps}
-use Rattle.qg_file_edits.proofs.Handed.{cause-later, handed, made-handed}
+use Rattle.qg_device.proofs.Causes.{cause-told}
+use Rattle.qg_file_edits.proofs.Handed.{handed, made-handed}
 use Rattle.qg_file_edits.proofs.Items.{is-at}
 use Rattle.qg_file_edits.proofs.Kept.{leaves-then}
 use Rattle.qg_file_edits.proofs.Stepped.{steps-all, steps-failed, steps-more, steps-none}
@@ -26,7 +27,7 @@ loop-step-preserved g c =
     (g.D.Disk.faults c.args.disk.now) (g.D.Disk.faults c.loop-step.disk) c.args.reads.now c.loop-step.reads
     c.loop-step.invariant c.take_step.new.fs (g.D.Disk.history c.take_step.new.disk) (g.D.Disk.size
     c.take_step.new.disk)
-    (g.D.Disk.faults c.take_step.new.disk) c.take_step.new.reads call.leaves call.own call.cause.later call.told
+    (g.D.Disk.faults c.take_step.new.disk) c.take_step.new.reads call.leaves call.own call.cause.fine call.told
 
 pub returns-in_err-take_step-clause-told : goal.returns-in_err-take_step-clause-told
 returns-in_err-take_step-clause-told g c items names stands applies named =
@@ -52,7 +53,7 @@ returns-in_err-take_step-clause-leaves g c =
 
 pub returns-in_err-take_step-clause-cause : goal.returns-in_err-take_step-clause-cause
 returns-in_err-take_step-clause-cause g c =
-    cause-later (g.D.Disk.faults c.args.disk.now) (g.D.Disk.faults c.loop-step.disk)
+    cause-told (g.D.Disk.faults c.args.disk.now) (g.D.Disk.faults c.loop-step.disk)
     (g.D.Disk.faults c.take_step.new.disk) c.from_residual.result _ c.loop-step.invariant.later
     (handed c.from_residual.result _ c.from_residual.ensures.1) c.in_err-take_step.ensures.cause
 
@@ -74,4 +75,4 @@ pub returns-clause-own : goal.returns-clause-own
 returns-clause-own g c = c.loop-step.invariant.own
 
 pub returns-clause-cause : goal.returns-clause-cause
-returns-clause-cause g c = record { later = c.loop-step.invariant.later; rose = λ is. cc }
+returns-clause-cause g c = record { fine = c.loop-step.invariant.later; met = tt }

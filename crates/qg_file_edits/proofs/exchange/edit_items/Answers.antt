@@ -1,10 +1,11 @@
 use Rattle.std.proofs.Common.{List, sym, subst}
+use Rattle.qg_device.proofs.Causes.{cause-last}
 use Rattle.qg_num.specs.declared.fault.BlockFault.TheVariants.{NoMemory}
 use Rattle.qg_exchange.specs.declared.step.Step.{Step}
 use Rattle.qg_exchange.specs.Steps.{AreSteps}
 use Rattle.qg_file_edits.specs.Exchanging.{after_exchange}
 use Rattle.qg_file_edits.proofs.Edited.{made-not}
-use Rattle.qg_file_edits.proofs.Handed.{cause-last, handed, made-handed}
+use Rattle.qg_file_edits.proofs.Handed.{handed, made-handed}
 use Rattle.qg_file_edits.proofs.Kept.{leaves-itself, leaves-then, own-then-ok}
 use Rattle.qg_file_edits.proofs.Phases.{items-edited, items-failed}
 use Rattle.qg_file_edits.proofs.exchange.edit_items.Goals as goal
@@ -65,5 +66,5 @@ returns-clause-own g c =
 pub returns-clause-cause : goal.returns-clause-cause
 returns-clause-cause g c =
     cause-last (g.D.Disk.faults c.args.disk.now) (g.D.Disk.faults c.take_steps.new.disk)
-    (g.D.Disk.faults c.edit_inode.new.disk) c.edit_inode.result c.in_ok-take_steps.ensures.cause.later
+    (g.D.Disk.faults c.edit_inode.new.disk) c.edit_inode.result c.in_ok-take_steps.ensures.cause.fine
     c.edit_inode.ensures.cause

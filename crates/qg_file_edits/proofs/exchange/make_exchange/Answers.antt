@@ -1,6 +1,7 @@
 use Rattle.std.proofs.Common.{◌++◌, ℕ, List, arith, length, sym, subst, ◌∙◌}
 use Rattle.std.specs.Option.{option_to_list}
 use Rattle.std.specs.List.{filter_map, flat_map}
+use Rattle.qg_device.proofs.Causes.{cause-other}
 use Rattle.qg_num.specs.declared.piece.Piece.{Piece}
 use Rattle.qg_node.specs.declared.item.Item.{Item}
 use Rattle.qg_contents.specs.Written.{items_of_file}
@@ -11,7 +12,7 @@ use Rattle.qg_exchange.specs.Named.{named, names_of}
 use Rattle.qg_fs_layout.specs.Standing.{Stands, name_told}
 use Rattle.qg_file_edits.specs.Naming.{AreCovered, AreNamed}
 use Rattle.qg_file_edits.proofs.Edited.{made-not}
-use Rattle.qg_file_edits.proofs.Handed.{cause-other, handed, made-handed}
+use Rattle.qg_file_edits.proofs.Handed.{handed, made-handed}
 use Rattle.qg_file_edits.proofs.Kept.{leaves-kept, leaves-then, own-kept, own-then}
 use Rattle.qg_file_edits.proofs.Phases.{edit-failed, first-named, last-unnamed, then-edited}
 use Rattle.qg_file_edits.proofs.exchange.make_exchange.Goals as goal
@@ -179,4 +180,4 @@ returns-clause-own g c =
 pub returns-clause-cause : goal.returns-clause-cause
 returns-clause-cause g c =
     cause-other (g.D.Disk.faults c.args.disk.now) (g.D.Disk.faults c.edit_items.new.disk) c.unname_each-unnamed.result
-    c.in_ok-edit_items.ensures.cause.later c.unname_each-unnamed.ensures.fault
+    c.in_ok-edit_items.ensures.cause.fine c.unname_each-unnamed.ensures.fault

@@ -1,7 +1,7 @@
 use Rattle.std.proofs.Common.{◌≡◌, ◌∙◌, ◌++◌, ◌∷◌, [], ℕ, Bool, true, false, List, Option, arith, ap, refl, subst, sym}
 use Rattle.std.specs.Prelude.{◌==◌, IfSome, not}
 use Rattle.std.proofs.lemmas.Bool.{eq-eqb, eqb-true, false≢true, not_from_true, true≢false}
-use Rattle.qg_device.specs.History.{Event}
+use Rattle.qg_device.specs.History.{History}
 use Rattle.qg_image.specs.State.{State}
 use Rattle.qg_extents.specs.Table.{IsTable}
 use Rattle.qg_ground.specs.declared.ground.Ground.{Ground}
@@ -75,7 +75,7 @@ returns-then-ne-clause-sound g c = λ state events keeps told.
 -- ---- what is left
 
 -- what is held before, the book standing for the new subvolume
-holds-for : (kept : Kept) (history : Option (List Event)) (bytes sub : ℕ) (state : State) (book : TreeRefs)
+holds-for : (kept : Kept) (history : History) (bytes sub : ℕ) (state : State) (book : TreeRefs)
     → IsKept kept history bytes → IsKeptOf kept state history → IsTable kept.fs.refs.refs
     → book ≡ record kept.fs.refs { tree = sub } → HoldsState kept.fs.land history book state
 holds-for kept history bytes sub state book fits keeps table is =

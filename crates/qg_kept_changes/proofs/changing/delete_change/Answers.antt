@@ -1,7 +1,7 @@
-use Rattle.std.proofs.Common.{◌≡◌, ◌*◌, ◌∙◌, ℕ, Bool, List, Option, true, ap, inl, subst, sym}
+use Rattle.std.proofs.Common.{◌≡◌, ◌*◌, ◌∙◌, ℕ, Bool, List, true, ap, inl, subst, sym}
 use Rattle.std.specs.List.{Contains}
 use Rattle.std.specs.List.Sorted.{IsStrictlyIncreasing}
-use Rattle.qg_device.specs.History.{Event}
+use Rattle.qg_device.specs.History.{History}
 use Rattle.qg_items.specs.declared.tree.TheConstants.{TOP_LEVEL}
 use Rattle.qg_super.specs.Places.{capacity}
 use Rattle.qg_image.specs.Table.{has_key, keys_of}
@@ -69,7 +69,7 @@ forget_snapshot-requires g c = record {
 -- ---- the tree is there
 
 -- the top-level subvolume's tree is at hand
-top_at_hand : (old mid : Kept) (number : ℕ) (found : Bool) (history : Option (List Event)) (bytes : ℕ)
+top_at_hand : (old mid : Kept) (number : ℕ) (found : Bool) (history : History) (bytes : ℕ)
     → IsKept old history bytes → number ≡ TOP_LEVEL → found ≡ has_key number old.snapshots
     → (found ≡ true → mid.fs.tree.owner ≡ number) → mid.fs.tree.owner ≡ TOP_LEVEL
 top_at_hand old mid number found history bytes fits is there hand =
@@ -94,13 +94,13 @@ returns-in_default-clause-sound g c = λ state events keeps told.
 -- ---- what is held before, the book standing for the subvolume that goes
 
 -- a tree that was taken is that of its subvolume
-record IsTaken (kept : Kept) (history : Option (List Event)) (state : State) (sub : ℕ) (tree : Root) (land : Ground)
+record IsTaken (kept : Kept) (history : History) (state : State) (sub : ℕ) (tree : Root) (land : Ground)
     (book : TreeRefs) : Type 0 where
   holds : HoldsState land history book state
   there : has_subvolume state tree.owner ≡ true
   is : tree ≡ tree_of state tree.owner
 
-taken_so : (mid taken : Kept) (history : Option (List Event)) (bytes sub : ℕ) (state : State) (tree : Root)
+taken_so : (mid taken : Kept) (history : History) (bytes sub : ℕ) (state : State) (tree : Root)
     (book : TreeRefs) → IsKept mid history bytes → IsKeptOf mid state history → IsTable mid.fs.refs.refs
     → has_key sub mid.snapshots ≡ true → taken ≡ record mid { fs = record mid.fs { others = taken.fs.others } }
     → tree.owner ≡ sub → Contains mid.fs.others.items tree → book ≡ record taken.fs.refs { tree = sub }
@@ -134,7 +134,7 @@ returns-in_err-drop_all-clause-sound g c = λ state events keeps told.
 -- ---- what is left
 
 -- nodes and space rest so from before the tree was taken
-rests_so : (mid taken : Kept) (land : Ground) (history : Option (List Event)) (next : ℕ)
+rests_so : (mid taken : Kept) (land : Ground) (history : History) (next : ℕ)
     → taken ≡ record mid { fs = record mid.fs { others = taken.fs.others } } → next ≡ mid.fs.tree.next
     → RestsButRuns taken.fs.land land history next → RestsButRuns mid.fs.land land history mid.fs.tree.next
 rests_so mid taken land history next is same rests =

@@ -1,6 +1,6 @@
 use Rattle.std.proofs.Common.{◌≡◌, ◌+◌, ◌∙◌, ◌++◌, ◌∷◌, [], ℕ, List, Option, arith, ap, length, refl, subst, sym, true}
 use Rattle.std.specs.Prelude.{IfSome}
-use Rattle.qg_device.specs.History.{Event}
+use Rattle.qg_device.specs.History.{History}
 use Rattle.qg_super.specs.Places.{capacity}
 use Rattle.qg_image.specs.Table.{has_key, with_value}
 use Rattle.qg_image.specs.State.{State, has_subvolume}
@@ -75,7 +75,7 @@ inherit_group-requires g c =
 -- ---- what is left
 
 -- what is held before, the book standing for the new subvolume
-holds-for : (kept : Kept) (history : Option (List Event)) (bytes sub : ℕ) (state : State) (book : TreeRefs)
+holds-for : (kept : Kept) (history : History) (bytes sub : ℕ) (state : State) (book : TreeRefs)
     → IsKept kept history bytes → IsKeptOf kept state history → IsTable kept.fs.refs.refs
     → book ≡ record kept.fs.refs { tree = sub } → HoldsState kept.fs.land history book state
 holds-for kept history bytes sub state book fits keeps table is =
@@ -85,7 +85,7 @@ holds-for kept history bytes sub state book fits keeps table is =
     keeps.keeps))
 
 -- the source's subvolume is there
-source_known : (kept : Kept) (history : Option (List Event)) (state : State) → IsFitted kept
+source_known : (kept : Kept) (history : History) (state : State) → IsFitted kept
     → IsKeptOf kept state history → has_subvolume state kept.fs.tree.owner ≡ true
 source_known kept history state fits keeps =
     sub-known kept state history keeps kept.fs.tree.owner

@@ -3,12 +3,14 @@ use Rattle.qg_num.specs.declared.answer.Answer.TheVariants as answer
 use Rattle.qg_num.specs.declared.command.Command.TheVariants.{Commit}
 use Rattle.qg_num.specs.declared.refusal.Refusal.TheVariants as why
 use Rattle.qg_machine.specs.Refusals.{last_generation}
+use Rattle.qg_blocks.proofs.Broken.{broken-handed}
+use Rattle.qg_kept.specs.Calls.{commit_calls, unsure_calls}
 use Rattle.qg_kept.specs.FsLawsKeeping.{other_names}
 use Rattle.qg_kept.proofs.PiecesRead.{handed}
 use Rattle.qg_kept.proofs.Whole.{handed-sound}
 use Rattle.qg_kept_commit.proofs.Cleaned.{looked-nothing}
 use Rattle.qg_kept_commit.proofs.Commits.{commits-step, does_idle, does_refuse, early-state, far-step, pending-state}
-use Rattle.qg_kept_commit.proofs.OnDisk.{on-disk}
+use Rattle.qg_kept_commit.proofs.OnDisk.{on-disk, on-error}
 use Rattle.qg_kept_commit.proofs.committing.commit.Goals as goal
 
 pub returns-then-kept-eq0-clause-step : goal.returns-then-kept-eq0-clause-step
@@ -47,7 +49,7 @@ returns-clause-so_far g c = λ state events keeps told.
     = omega (arith, c.value.ensures, c.if-value-gt-LAST_GENERATION.false) in
     far-step state events (g.D.Disk.history c.commit_now.new.disk)
     (pending-state c.args.kept.now state history keeps some)
-    (early-state c.args.kept.now state history c.requires.kept.fitted keeps early)
+    (early-state c.args.kept.now state history c.requires.kept.fitted keeps early) commit_calls
     (c.in_ok-commit_now.ensures.so_far state events (other_names state) keeps (keeps.reserved some) told)
 
 pub returns-in_err-commit_now-clause-so_far : goal.returns-in_err-commit_now-clause-so_far
@@ -58,7 +60,7 @@ returns-in_err-commit_now-clause-so_far g c = λ state events keeps told.
     = omega (arith, c.value.ensures, c.if-value-gt-LAST_GENERATION.false) in
     far-step state events (g.D.Disk.history c.commit_now.new.disk)
     (pending-state c.args.kept.now state history keeps some)
-    (early-state c.args.kept.now state history c.requires.kept.fitted keeps early)
+    (early-state c.args.kept.now state history c.requires.kept.fitted keeps early) commit_calls
     (c.in_err-commit_now.ensures.so_far state events (other_names state) keeps (keeps.reserved some) told)
 
 pub returns-in_err-commit_now-clause-sound : goal.returns-in_err-commit_now-clause-sound
@@ -85,3 +87,23 @@ returns-then-value-gt-LAST_GENERATION-clause-refused g c = λ is.
 
 pub commit_now-requires-clause-early : goal.commit_now-requires-clause-early
 commit_now-requires-clause-early g c = omega (arith, c.value.ensures, c.if-value-gt-LAST_GENERATION.false)
+
+pub returns-in_err-commit_now-clause-intact : goal.returns-in_err-commit_now-clause-intact
+returns-in_err-commit_now-clause-intact g c =
+    broken-handed (Unit {0}) c.from_residual.result _ _ (handed c.from_residual.result _ c.from_residual.ensures.1)
+    c.in_err-commit_now.ensures.intact
+
+pub returns-in_err-commit_now-clause-err : goal.returns-in_err-commit_now-clause-err
+returns-in_err-commit_now-clause-err g c =
+    on-error c.from_residual.result _ (record {
+      superblock = c.in_err-commit_now.ensures.err;
+      unmade = λ state events keeps told.
+          let history = g.D.Disk.history c.args.disk.now in
+          let some : 0 < c.args.kept.now.pending = omega (arith, c.if-kept-eq0.false) in
+          let early : c.args.kept.now.superblock.generation ≤ last_generation
+          = omega (arith, c.value.ensures, c.if-value-gt-LAST_GENERATION.false) in
+          far-step state events (g.D.Disk.history c.commit_now.new.disk)
+          (pending-state c.args.kept.now state history keeps some)
+          (early-state c.args.kept.now state history c.requires.kept.fitted keeps early) unsure_calls
+          (c.in_err-commit_now.ensures.stops state events (other_names state) keeps (keeps.reserved some) told);
+    })

@@ -1,14 +1,17 @@
 use Rattle.std.proofs.Common.{arith, ap, inl, inr, ◌∙◌}
 use Rattle.qg_super.specs.SuperText.{sizes_of}
+use Rattle.qg_blocks.proofs.Broken.{broken-any}
+use Rattle.qg_kept.proofs.Looked.{with_blocks}
 use Rattle.qg_kept.proofs.PiecesRead.{handed}
 use Rattle.qg_kept.proofs.Whole.{handed-sound}
 use Rattle.qg_kept.specs.declared.kept.Kept.{Kept}
 use Rattle.qg_kept_commit.specs.declared.planning.Plan.{Plan}
 use Rattle.qg_kept_commit.proofs.Cleaned.{surveyed-keeps}
 use Rattle.qg_kept_commit.proofs.CommitKeeps.{plan-still}
-use Rattle.qg_kept_commit.proofs.CommitOver.{backed-then, committed-on, kept-forgotten, kept-then, room-back, room-then}
-use Rattle.qg_kept_commit.proofs.CommitOver.{started, stopped-so, unfresh, written-then}
-use Rattle.qg_kept_commit.proofs.OnDisk.{on-error}
+use Rattle.qg_kept_commit.proofs.CommitOver.{backed-then, calls-over, committed-on, kept-forgotten, kept-then}
+use Rattle.qg_kept_commit.proofs.CommitOver.{room-back, room-then, started, stopped-so, unfresh, written-then}
+use Rattle.qg_kept_commit.proofs.Commits.{stops-starts}
+use Rattle.qg_kept_commit.proofs.OnDisk.{on-err, on-error}
 use Rattle.qg_kept_commit.proofs.committing.commit_now.Goals as goal
 
 -- ---- what is asked
@@ -106,8 +109,8 @@ returns-clause-kept g c =
       sized = g.met.D.Disk.sized c.plan_of.new.disk;
       calls = c.in_ok-trees.ensures.calls;
     })
-    c.keep_commit.new.kept (g.D.Disk.size c.write_trees.new.disk) c.in_ok-keep_commit.ensures.keeps.0
-    c.in_ok-trees.ensures.no_less c.in_ok-keep_commit.ensures.subvolume c.in_ok-keep_commit.ensures.keeps.1
+    c.keep_commit.new.kept (g.D.Disk.size c.write_trees.new.disk) c.keep_commit.ensures.keeps.0
+    c.in_ok-trees.ensures.no_less c.keep_commit.ensures.subvolume c.keep_commit.ensures.keeps.1
 
 pub returns-clause-commits : goal.returns-clause-commits
 returns-clause-commits g c = λ state events names keeps enough told.
@@ -130,8 +133,8 @@ returns-clause-commits g c = λ state events names keeps enough told.
     (surveyed-keeps c.args.kept.now c.plan_of.new.kept (g.D.Disk.history c.args.disk.now)
     (g.D.Disk.history c.plan_of.new.disk)
     (g.D.Disk.size c.args.disk.now) (g.D.Disk.size c.plan_of.new.disk) c.in_ok-plan.ensures.looked state names keeps)
-    (c.in_ok-plan.ensures.told state names keeps) c.keep_commit.new.kept c.in_ok-keep_commit.ensures.keeps.0
-    (λ items pieces. c.in_ok-keep_commit.ensures.stands events (g.D.Disk.size c.plan_of.new.disk) items pieces)
+    (c.in_ok-plan.ensures.told state names keeps) c.keep_commit.new.kept c.keep_commit.ensures.keeps.0
+    (λ items pieces. c.keep_commit.ensures.stands events (g.D.Disk.size c.plan_of.new.disk) items pieces)
 
 pub returns-clause-so_far : goal.returns-clause-so_far
 returns-clause-so_far g c = λ state events names keeps enough told.
@@ -158,6 +161,7 @@ returns-clause-so_far g c = λ state events names keeps enough told.
 
 pub returns-clause-leaves : goal.returns-clause-leaves
 returns-clause-leaves g c =
+    let room =
     room-back c.args.kept.now c.plan_of.new.kept c.keep_commit.new.kept (g.D.Disk.history c.args.disk.now)
     (g.D.Disk.history c.plan_of.new.disk) (g.D.Disk.size c.args.disk.now) (g.D.Disk.size c.plan_of.new.disk)
     c.in_ok-plan.ensures.looked
@@ -176,11 +180,18 @@ returns-clause-leaves g c =
       sized = g.met.D.Disk.sized c.plan_of.new.disk;
       calls = c.in_ok-trees.ensures.calls;
     })
-    c.keep_commit.new.kept c.in_ok-keep_commit.ensures.keeps.0)
+    c.keep_commit.new.kept c.keep_commit.ensures.keeps.0) in
+    let over =
+    calls-over (with_blocks c.plan_of.new.kept c.forget_slots.new.blocks).fs c.in_ok-trees.trees
+    c.keep_commit.new.kept.superblock (g.D.Disk.history c.args.disk.now)
+    (g.D.Disk.history c.plan_of.new.disk) (g.D.Disk.history c.write_trees.new.disk)
+    c.keep_commit.ensures.keeps.0.superblock c.in_ok-plan.ensures.looked.read.history
+    c.in_ok-trees.ensures.calls in
+    record { room = room; nodes = over.0; calls = over.1 }
 
 pub returns-clause-sizes : goal.returns-clause-sizes
 returns-clause-sizes g c = (
-  ap sizes_of c.in_ok-keep_commit.ensures.keeps.0.superblock ∙ ap sizes_of c.in_ok-trees.ensures.laid.laid.leads
+  ap sizes_of c.keep_commit.ensures.keeps.0.superblock ∙ ap sizes_of c.in_ok-trees.ensures.laid.laid.leads
       ∙ ap (λ (kept : Kept). sizes_of kept.superblock) c.in_ok-plan.ensures.looked.rest,
   let size = c.in_ok-plan.ensures.looked.read.size in omega (arith, size, c.in_ok-trees.ensures.no_less),
 )
@@ -190,6 +201,10 @@ returns-clause-sizes g c = (
 pub returns-in_err-plan-clause-so_far : goal.returns-in_err-plan-clause-so_far
 returns-in_err-plan-clause-so_far g c = λ state events names keeps enough told.
     inl (c.in_err-plan.ensures.looked.read.history ∙ told)
+
+pub returns-in_err-plan-clause-stops : goal.returns-in_err-plan-clause-stops
+returns-in_err-plan-clause-stops g c = λ state events names keeps enough told.
+    on-err c.from_residual.result _ (inl (c.in_err-plan.ensures.looked.read.history ∙ told))
 
 pub returns-in_err-plan-clause-sound : goal.returns-in_err-plan-clause-sound
 returns-in_err-plan-clause-sound g c = λ state events names keeps enough told.
@@ -206,9 +221,28 @@ returns-in_err-plan-clause-sizes g c = (
   let size = c.in_err-plan.ensures.looked.read.size in omega (arith, size),
 )
 
+pub returns-in_err-copy-clause-so_far : goal.returns-in_err-copy-clause-so_far
+returns-in_err-copy-clause-so_far g c = λ state events names keeps enough told.
+    inl (c.in_ok-plan.ensures.looked.read.history ∙ told)
+
+pub returns-in_err-copy-clause-stops : goal.returns-in_err-copy-clause-stops
+returns-in_err-copy-clause-stops g c = λ state events names keeps enough told.
+    on-err c.from_residual-in_err-copy.result _ (inl (c.in_ok-plan.ensures.looked.read.history ∙ told))
+
+pub returns-in_err-copy-clause-err : goal.returns-in_err-copy-clause-err
+returns-in_err-copy-clause-err g c =
+    on-error _ _ (ap (λ (kept : Kept). kept.superblock) c.in_ok-plan.ensures.looked.rest)
+
+pub returns-in_err-copy-clause-sizes : goal.returns-in_err-copy-clause-sizes
+returns-in_err-copy-clause-sizes g c = (
+  ap (λ (kept : Kept). sizes_of kept.superblock) c.in_ok-plan.ensures.looked.rest,
+  let size = c.in_ok-plan.ensures.looked.read.size in omega (arith, size),
+)
+
 pub returns-in_err-trees-clause-so_far : goal.returns-in_err-trees-clause-so_far
 returns-in_err-trees-clause-so_far g c = λ state events names keeps enough told.
-    stopped-so c.plan_of.new.kept _ c.in_ok-plan.plan events (g.D.Disk.history c.plan_of.new.disk)
+    stops-starts state events (g.D.Disk.history c.write_trees.new.disk)
+    (stopped-so c.plan_of.new.kept _ c.in_ok-plan.plan events (g.D.Disk.history c.plan_of.new.disk)
     (g.D.Disk.history c.write_trees.new.disk)
     (g.D.Disk.size c.plan_of.new.disk) state names c.forget_slots.ensures.same c.in_ok-plan.ensures.kept
     (c.forget_slots.ensures.backed (g.D.Disk.history c.plan_of.new.disk) c.in_ok-plan.ensures.kept.backed)
@@ -217,7 +251,21 @@ returns-in_err-trees-clause-so_far g c = λ state events names keeps enough told
     (g.D.Disk.size c.args.disk.now) (g.D.Disk.size c.plan_of.new.disk) c.in_ok-plan.ensures.looked state names keeps)
     (c.in_ok-plan.ensures.told state names keeps) (c.in_ok-plan.ensures.looked.read.history ∙ told)
     (g.met.D.Disk.sized c.plan_of.new.disk events (c.in_ok-plan.ensures.looked.read.history ∙ told))
-    (c.in_err-trees.ensures.stopped events (c.in_ok-plan.ensures.looked.read.history ∙ told))
+    (c.in_err-trees.ensures.stopped events (c.in_ok-plan.ensures.looked.read.history ∙ told)))
+
+pub returns-in_err-trees-clause-stops : goal.returns-in_err-trees-clause-stops
+returns-in_err-trees-clause-stops g c = λ state events names keeps enough told.
+    on-err c.from_residual-in_err-trees.result _
+    (stopped-so c.plan_of.new.kept _ c.in_ok-plan.plan events (g.D.Disk.history c.plan_of.new.disk)
+    (g.D.Disk.history c.write_trees.new.disk)
+    (g.D.Disk.size c.plan_of.new.disk) state names c.forget_slots.ensures.same c.in_ok-plan.ensures.kept
+    (c.forget_slots.ensures.backed (g.D.Disk.history c.plan_of.new.disk) c.in_ok-plan.ensures.kept.backed)
+    (surveyed-keeps c.args.kept.now c.plan_of.new.kept (g.D.Disk.history c.args.disk.now)
+    (g.D.Disk.history c.plan_of.new.disk)
+    (g.D.Disk.size c.args.disk.now) (g.D.Disk.size c.plan_of.new.disk) c.in_ok-plan.ensures.looked state names keeps)
+    (c.in_ok-plan.ensures.told state names keeps) (c.in_ok-plan.ensures.looked.read.history ∙ told)
+    (g.met.D.Disk.sized c.plan_of.new.disk events (c.in_ok-plan.ensures.looked.read.history ∙ told))
+    (c.in_err-trees.ensures.stopped events (c.in_ok-plan.ensures.looked.read.history ∙ told)))
 
 pub returns-in_err-trees-clause-err : goal.returns-in_err-trees-clause-err
 returns-in_err-trees-clause-err g c =
@@ -229,37 +277,6 @@ returns-in_err-trees-clause-sizes g c = (
   let size = c.in_ok-plan.ensures.looked.read.size in omega (arith, size, c.in_err-trees.ensures.no_less),
 )
 
-pub returns-in_err-keep_commit-clause-so_far : goal.returns-in_err-keep_commit-clause-so_far
-returns-in_err-keep_commit-clause-so_far g c = λ state events names keeps enough told.
-    inr (started c.plan_of.new.kept _ c.in_ok-plan.plan c.in_ok-trees.trees c.as_slice.result.now
-    (g.D.Disk.history c.plan_of.new.disk)
-    (g.D.Disk.history c.write_trees.new.disk) (g.D.Disk.size c.plan_of.new.disk)
-    (record {
-      same = c.forget_slots.ensures.same;
-      fits = c.in_ok-plan.ensures.kept;
-      backed = c.forget_slots.ensures.backed (g.D.Disk.history c.plan_of.new.disk) c.in_ok-plan.ensures.kept.backed;
-      plan_is = c.in_ok-plan.ensures.plan;
-      given = c.as_slice.ensures;
-      gone = c.forget_slots.ensures.forgotten;
-      laid = c.in_ok-trees.ensures.laid;
-      read = c.in_ok-trees.ensures.read;
-      sized = g.met.D.Disk.sized c.plan_of.new.disk;
-      calls = c.in_ok-trees.ensures.calls;
-    })
-    events (c.in_ok-plan.ensures.looked.read.history ∙ told) state names
-    (surveyed-keeps c.args.kept.now c.plan_of.new.kept (g.D.Disk.history c.args.disk.now)
-    (g.D.Disk.history c.plan_of.new.disk)
-    (g.D.Disk.size c.args.disk.now) (g.D.Disk.size c.plan_of.new.disk) c.in_ok-plan.ensures.looked state names keeps)
-    (c.in_ok-plan.ensures.told state names keeps))
-
-pub returns-in_err-keep_commit-clause-err : goal.returns-in_err-keep_commit-clause-err
-returns-in_err-keep_commit-clause-err g c =
-    on-error _ _ (ap (λ (kept : Kept). kept.superblock) c.in_err-keep_commit.ensures.err
-    ∙ ap (λ (kept : Kept). kept.superblock) c.in_ok-plan.ensures.looked.rest)
-
-pub returns-in_err-keep_commit-clause-sizes : goal.returns-in_err-keep_commit-clause-sizes
-returns-in_err-keep_commit-clause-sizes g c = (
-  ap (λ (kept : Kept). sizes_of kept.superblock) c.in_err-keep_commit.ensures.err
-      ∙ ap (λ (kept : Kept). sizes_of kept.superblock) c.in_ok-plan.ensures.looked.rest,
-  let size = c.in_ok-plan.ensures.looked.read.size in omega (arith, size, c.in_ok-trees.ensures.no_less),
-)
+pub returns-in_err-plan-clause-intact : goal.returns-in_err-plan-clause-intact
+returns-in_err-plan-clause-intact g c =
+    broken-any c.from_residual.result _ c.in_err-plan.ensures.looked.read.history

@@ -44,8 +44,8 @@ returns-clause-keeps g c =
         quota = c.settle_quota.ensures.quota;
         settled = c.settle_quota.ensures.settled;
         fs = committed-laid c.args.kept.now c.args.plan c.args.trees.now c.requires.laid c.args.kept.now.fs
-            c.committed.new.fs _ front c.in_ok-committed.ensures.committed;
+            c.committed.new.fs _ front c.committed.ensures.committed;
         pending = refl;
       },
-      c.in_ok-committed.ensures.turns c.requires.fitted.turn,
+      c.committed.ensures.turns c.requires.fitted.turn,
     )

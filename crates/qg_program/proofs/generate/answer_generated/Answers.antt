@@ -1,7 +1,8 @@
 use Rattle.std.proofs.Common.{Bool, ap, arith, length}
 use Rattle.std.proofs.lemmas.Result.{err_from_is_err_and}
 use Rattle.qg_program.specs.declared.generate.Tally.{Tally}
-use Rattle.qg_program.proofs.Loaded.{cause-handed, counted-one, run-all, run-more, run-none, run-stopped}
+use Rattle.qg_device.proofs.Causes.{cause-handed}
+use Rattle.qg_program.proofs.Loaded.{counted-one, run-all, run-more, run-none, run-stopped}
 use Rattle.qg_program.proofs.generate.answer_generated.Goals as goal
 
 pub lines-init : goal.lines-init
@@ -27,7 +28,7 @@ lines-preserved g c =
           c.in-Some.ensures.given so_far
           (c.in_ok-done.ensures.answered so_far.run.after so_far.run.made.after so_far.run.stands
           so_far.run.made.told));
-      later = omega (arith, c.lines.invariant.later, c.in_ok-done.ensures.cause.later);
+      later = omega (arith, c.lines.invariant.later, c.in_ok-done.ensures.cause.fine);
     }
 
 pub lines-preserved-in_ok-done : goal.lines-preserved-in_ok-done
@@ -44,7 +45,7 @@ lines-preserved-in_ok-done g c =
           c.in-Some.ensures.given so_far
           (c.in_ok-done.ensures.answered so_far.run.after so_far.run.made.after so_far.run.stands
           so_far.run.made.told));
-      later = omega (arith, c.lines.invariant.later, c.in_ok-done.ensures.cause.later);
+      later = omega (arith, c.lines.invariant.later, c.in_ok-done.ensures.cause.fine);
     }
 
 pub lines-smaller : goal.lines-smaller
@@ -74,7 +75,7 @@ returns-in_err-done-clause-sound g c = λ state events stands told.
     so_far.run.made.told))
 
 pub returns-in_default-clause-cause : goal.returns-in_default-clause-cause
-returns-in_default-clause-cause g c = record { later = c.lines.invariant.later; rose = λ is. cc }
+returns-in_default-clause-cause g c = record { fine = c.lines.invariant.later; met = tt }
 
 pub returns-in_err-done-clause-cause : goal.returns-in_err-done-clause-cause
 returns-in_err-done-clause-cause g c =

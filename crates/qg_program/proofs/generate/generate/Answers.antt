@@ -1,7 +1,9 @@
-use Rattle.std.proofs.Common.{Err, ap, inl, inr, refl, sym, subst, ◌∙◌, arith}
+use Rattle.std.proofs.Common.{inl, inr, refl, sym, subst, ◌∙◌, arith}
 use Rattle.std.proofs.lemmas.Option.{none-some}
 use Rattle.qg_device.specs.History.{content}
+use Rattle.qg_device.proofs.Causes.{end-by, end-last}
 use Rattle.qg_walk.specs.Fault.{TellsFailure}
+use Rattle.qg_program.specs.declared.status.Status.TheVariants as status
 use Rattle.qg_program.proofs.Drawn.{lines-unopened}
 use Rattle.qg_program.proofs.Generated.{generates-unopened, refuse-generates}
 use Rattle.qg_program.proofs.Judged.{looked-unsound, state-sound, untouched-judged}
@@ -73,11 +75,15 @@ returns-in-Ok-clause-unsound g c = λ events told image sound.
     }) image
 
 pub returns-in-Ok-clause-disk_fault : goal.returns-in-Ok-clause-disk_fault
-returns-in-Ok-clause-disk_fault g c = λ is. let rose = c.run_generated.ensures.disk_fault is in
-    omega (arith, rose, c.open.ensures.cause.later)
+returns-in-Ok-clause-disk_fault g c =
+    end-last status.Disk (g.D.Disk.faults c.args.disk.now) (g.D.Disk.faults c.open.new.disk)
+    (g.D.Disk.faults c.run_generated.new.disk) c.run_generated.result c.in-Ok.ensures.cause.fine
+    c.run_generated.ensures.disk_fault
 
 pub returns-in-Err-clause-disk_fault : goal.returns-in-Err-clause-disk_fault
-returns-in-Err-clause-disk_fault g c = λ is. c.open.ensures.cause.rose (c.in-Err.is ∙ ap Err (c.refuse.ensures.disk is))
+returns-in-Err-clause-disk_fault g c =
+    end-by status.Disk (g.D.Disk.faults c.args.disk.now) (g.D.Disk.faults c.open.new.disk) c.in-Err.fault
+    c.refuse.result c.refuse.ensures.disk.1 c.refuse.ensures.disk.0 c.in-Err.ensures.cause
 
 -- ---- no more lines than may be drawn
 

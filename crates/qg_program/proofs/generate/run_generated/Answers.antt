@@ -1,4 +1,6 @@
-use Rattle.std.proofs.Common.{◌∙◌, Err, ap, inl, inr, refl, sym}
+use Rattle.std.proofs.Common.{◌∙◌, inl, inr, refl, sym}
+use Rattle.qg_device.proofs.Causes.{end-by, end-other}
+use Rattle.qg_program.specs.declared.status.Status.TheVariants as status
 use Rattle.qg_program.proofs.Drawn.{lines-loaded, lines-stopped}
 use Rattle.qg_program.proofs.Generated.{ends-by-generators, generates-ended, generates-handed, generates-stopped}
 use Rattle.qg_program.proofs.Generated.{stop-generates}
@@ -84,19 +86,26 @@ pub returns-clause-sink_fault : goal.returns-clause-sink_fault
 returns-clause-sink_fault g c = c.end.ensures.cause (λ is. let stops = rw is at c.in-Err.ensures.ends in absurd cc)
 
 pub returns-in-Ok-clause-disk_fault : goal.returns-in-Ok-clause-disk_fault
-returns-in-Ok-clause-disk_fault g c = λ is. elim c.put_and_end.ensures.ends [
-  | inl done ↦ absurd cc
-  | inr fails ↦ elim fails [
-    | inl sink ↦ absurd cc
-    | inr memory ↦ absurd cc
-  ]
-]
+returns-in-Ok-clause-disk_fault g c =
+    end-other status.Disk (g.D.Disk.faults c.args.disk.now) (g.D.Disk.faults c.load.new.disk) c.put_and_end.result
+    c.in-Ok.ensures.cause.fine
+    (λ is. elim c.put_and_end.ensures.ends [
+      | inl done ↦ absurd cc
+      | inr fails ↦ elim fails [
+        | inl sink ↦ absurd cc
+        | inr memory ↦ absurd cc
+      ]
+    ])
 
 pub returns-clause-disk_fault : goal.returns-clause-disk_fault
-returns-clause-disk_fault g c = λ is. elim c.end.ensures.ends [
-  | inl same ↦ c.load.ensures.cause.rose (c.in-Err.is ∙ ap Err (sym same ∙ is))
-  | inr fails ↦ elim fails [
-    | inl sink ↦ absurd cc
-    | inr memory ↦ absurd cc
-  ]
-]
+returns-clause-disk_fault g c =
+    end-by status.Disk (g.D.Disk.faults c.args.disk.now) (g.D.Disk.faults c.load.new.disk) c.in-Err.status c.end.result
+    (λ is. (c.end.ensures.other (λ image. let both = sym is ∙ image in absurd cc)).0 ∙ is)
+    (λ is. elim c.end.ensures.ends [
+      | inl same ↦ sym same ∙ is
+      | inr fails ↦ elim fails [
+        | inl sink ↦ absurd cc
+        | inr memory ↦ absurd cc
+      ]
+    ])
+    c.in-Err.ensures.cause

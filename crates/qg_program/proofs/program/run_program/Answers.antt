@@ -85,7 +85,7 @@ no-check g c ask = other-form _ (Mkfs c.in-Some-Mkfs.sizes) Check (asked g c) as
 pub returns-in-Some-Mkfs-clause-causes : goal.returns-in-Some-Mkfs-clause-causes
 returns-in-Some-Mkfs-clause-causes g c =
     for-cause (record {
-      source = λ is. let ends = rw is at c.make.ensures.ends in absurd cc;
+      source = inr ((λ is. let ends = rw is at c.make.ensures.ends in absurd cc), refl);
       sink = c.make.ensures.sink_fault;
       disk = c.make.ensures.disk_fault;
     })
@@ -247,7 +247,7 @@ returns-in-Some-Check-clause-takes g c = (λ ask. absurd (check-no-run g c ask),
 pub returns-in-Some-Check-clause-causes : goal.returns-in-Some-Check-clause-causes
 returns-in-Some-Check-clause-causes g c =
     for-cause (record {
-      source = λ is. let ends = rw is at c.check.ensures.ends in absurd cc;
+      source = inr ((λ is. let ends = rw is at c.check.ensures.ends in absurd cc), refl);
       sink = c.check.ensures.sink_fault;
       disk = c.check.ensures.disk_fault;
     })
@@ -374,7 +374,7 @@ lines-no-check g c ask = other-form _ (Generate c.in-Some-Generate.seed c.in-Som
 pub returns-in-Some-Generate-clause-causes : goal.returns-in-Some-Generate-clause-causes
 returns-in-Some-Generate-clause-causes g c =
     for-cause (record {
-      source = λ is. let ends = rw is at c.generate.ensures.ends in absurd cc;
+      source = inr ((λ is. let ends = rw is at c.generate.ensures.ends in absurd cc), refl);
       sink = c.generate.ensures.sink_fault;
       disk = c.generate.ensures.disk_fault;
     })
@@ -454,7 +454,11 @@ returns-in-None-clause-takes g c = (λ ask. absurd (formless g c Run ask), λ ot
 
 pub returns-in-None-clause-causes : goal.returns-in-None-clause-causes
 returns-in-None-clause-causes g c =
-    for-cause (record { source = λ is. absurd cc; sink = λ is. absurd cc; disk = λ is. absurd cc })
+    for-cause (record {
+      source = inr ((λ is. absurd cc), refl);
+      sink = inr ((λ is. absurd cc), refl);
+      disk = inr ((λ is. absurd cc), refl);
+    })
     (λ causes events told nothing. record {
       runs = λ ask sound script. absurd (formless g c Run ask);
       generates = λ seed count asks sound. absurd (formless g c (Generate seed count) asks.ask);

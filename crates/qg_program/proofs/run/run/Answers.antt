@@ -1,7 +1,9 @@
-use Rattle.std.proofs.Common.{inl, inr, refl, sym, subst, ◌∙◌, arith}
+use Rattle.std.proofs.Common.{inl, inr, refl, sym, subst, ◌∙◌}
 use Rattle.std.proofs.lemmas.Option.{none-some}
 use Rattle.qg_device.specs.History.{content}
+use Rattle.qg_device.proofs.Causes.{end-by, end-last}
 use Rattle.qg_walk.specs.Fault.{TellsFailure}
+use Rattle.qg_program.specs.declared.status.Status.TheVariants as status
 use Rattle.qg_program.proofs.Left.{leaves-unopened, rests-told}
 use Rattle.qg_program.proofs.Judged.{follows-unopened, looked-unsound, state-sound, untouched-judged}
 use Rattle.qg_program.proofs.Replied.{failure-put}
@@ -80,7 +82,17 @@ returns-in-Ok-clause-causes g c =
     record {
       source = causes.source;
       sink = causes.sink;
-      disk = λ is. let rose = causes.disk is in omega (arith, rose, c.open.ensures.cause.later);
+      disk = end-last status.Disk (g.D.Disk.faults c.args.disk.now) (g.D.Disk.faults c.open.new.disk)
+          (g.D.Disk.faults c.answer_lines.new.disk) c.answer_lines.result c.in-Ok.ensures.cause.fine causes.disk;
+    }
+
+pub returns-in-Err-clause-causes : goal.returns-in-Err-clause-causes
+returns-in-Err-clause-causes g c =
+    record {
+      source = inr ((λ is. let ends = rw is at c.refuse.ensures.ends in absurd cc), refl);
+      sink = c.refuse.ensures.sink_fault;
+      disk = end-by status.Disk (g.D.Disk.faults c.args.disk.now) (g.D.Disk.faults c.open.new.disk) c.in-Err.fault
+          c.refuse.result c.refuse.ensures.disk.1 c.refuse.ensures.disk.0 c.in-Err.ensures.cause;
     }
 
 pub returns-in-Err-clause-told : goal.returns-in-Err-clause-told

@@ -1,4 +1,6 @@
-use Rattle.std.proofs.Common.{Ok, Err, ap, ◌∙◌, arith}
+use Rattle.std.proofs.Common.{Ok, Err, ap, inr, ◌∙◌, arith}
+use Rattle.qg_device.proofs.Causes.{end-last}
+use Rattle.qg_program.specs.declared.status.Status.TheVariants as status
 use Rattle.qg_program.proofs.Answered.{answered-none, answered-more, answered-all, answered-failed, counted-none}
 use Rattle.qg_program.proofs.Answered.{counted-on, pending-none, taken-by, taken-whole, within-none}
 use Rattle.qg_program.proofs.Left.{leaves-all, leaves-failed}
@@ -30,9 +32,9 @@ loop-text-preserved g c = record {
   replied = replies-more _ _ _ c.loop-text.invariant.replied (rw c.in-Ok-true.is at c.turn.ensures.puts.replied);
   counted = counted-on _ _ _ _ _ c.loop-text.invariant.counted c.turn.ensures.takes.counted;
   within = c.turn.ensures.takes.within;
-  source_later = omega (arith, c.loop-text.invariant.source_later, c.turn.ensures.causes.source.later);
-  sink_later = omega (arith, c.loop-text.invariant.sink_later, c.turn.ensures.causes.sink.later);
-  disk_later = omega (arith, c.loop-text.invariant.disk_later, c.turn.ensures.causes.disk.later);
+  source_later = c.in-Ok-true.ensures.causes.source.fine ∙ c.loop-text.invariant.source_later;
+  sink_later = c.in-Ok-true.ensures.causes.sink.fine ∙ c.loop-text.invariant.sink_later;
+  disk_later = c.in-Ok-true.ensures.causes.disk.fine ∙ c.loop-text.invariant.disk_later;
 }
 
 pub returns-in-Ok-false-clause-follows : goal.returns-in-Ok-false-clause-follows
@@ -54,11 +56,14 @@ returns-in-Ok-false-clause-takes g c =
     taken-whole c.turn.new.feed _ _ counted c.turn.ensures.takes.within over.0 over.1
 
 pub returns-in-Ok-false-clause-causes : goal.returns-in-Ok-false-clause-causes
-returns-in-Ok-false-clause-causes g c = record {
-  source = λ is. absurd cc;
-  sink = λ is. absurd cc;
-  disk = λ is. absurd cc;
-}
+returns-in-Ok-false-clause-causes g c =
+    let earlier = c.loop-text.invariant in
+    let causes = c.in-Ok-false.ensures.causes in
+    record {
+      source = inr ((λ is. absurd cc), causes.source.fine ∙ earlier.source_later);
+      sink = inr ((λ is. absurd cc), causes.sink.fine ∙ earlier.sink_later);
+      disk = inr ((λ is. absurd cc), causes.disk.fine ∙ earlier.disk_later);
+    }
 
 pub returns-in-Err-clause-follows : goal.returns-in-Err-clause-follows
 returns-in-Err-clause-follows g c = λ state events opened input stands opens known told.
@@ -94,10 +99,13 @@ returns-in-Err-clause-told g c = λ is. failure-behind _ _ _ c.loop-text.invaria
 
 pub returns-in-Err-clause-causes : goal.returns-in-Err-clause-causes
 returns-in-Err-clause-causes g c =
-    let later = c.loop-text.invariant in
-    let causes = c.turn.ensures.causes in
+    let earlier = c.loop-text.invariant in
+    let causes = c.in-Err.ensures.causes in
     record {
-      source = λ is. let rose = causes.source.rose (c.in-Err.is ∙ ap Err is) in omega (arith, rose, later.source_later);
-      sink = λ is. let rose = causes.sink.rose (c.in-Err.is ∙ ap Err is) in omega (arith, rose, later.sink_later);
-      disk = λ is. let rose = causes.disk.rose (c.in-Err.is ∙ ap Err is) in omega (arith, rose, later.disk_later);
+      source = end-last status.Source (g.S.Source.faults c.args.source.now) (g.S.Source.faults c.loop-text.source)
+          (g.S.Source.faults c.turn.new.source) c.in-Err.status earlier.source_later causes.source.met;
+      sink = end-last status.Sink (g.K.Sink.faults c.args.sink.now) (g.K.Sink.faults c.loop-text.sink)
+          (g.K.Sink.faults c.turn.new.sink) c.in-Err.status earlier.sink_later causes.sink.met;
+      disk = end-last status.Disk (g.D.Disk.faults c.args.disk.now) (g.D.Disk.faults c.loop-text.disk)
+          (g.D.Disk.faults c.turn.new.disk) c.in-Err.status earlier.disk_later causes.disk.met;
     }

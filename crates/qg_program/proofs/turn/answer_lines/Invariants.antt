@@ -1,5 +1,5 @@
-use Rattle.std.proofs.Common.{◌≡◌, ◌≤◌, List, Some}
-use Rattle.qg_device.specs.History.{Event}
+use Rattle.std.proofs.Common.{◌≡◌, List}
+use Rattle.qg_device.specs.History.{Event, Recorded}
 use Rattle.qg_script.specs.Feeding.{IsWithinLimit, most_to_come}
 use Rattle.qg_script.specs.Lines.{CountsTaken, pending}
 use Rattle.qg_image.specs.State.{State}
@@ -14,7 +14,7 @@ invariant-loop-text g l = record {
   ready : IsReady l.session.store (g.D.Disk.history l.disk) (g.D.Disk.size l.disk);
   answered : (state : State) (opened : List Event)
       → IsStoreOf l.initial.session.store state (g.D.Disk.history l.initial.disk)
-      → g.D.Disk.history l.initial.disk ≡ Some opened
+      → g.D.Disk.history l.initial.disk ≡ Recorded opened
       → HasAnswered state (g.S.Source.bytes_left l.initial.source) opened
       (pending l.feed (g.S.Source.bytes_left l.source)) l.session.store
       (g.D.Disk.history l.disk) (g.K.Sink.bytes_held l.initial.sink) (g.K.Sink.bytes_held l.sink);
@@ -23,9 +23,9 @@ invariant-loop-text g l = record {
   replied : PutsReplies (g.K.Sink.bytes_held l.initial.sink) (g.K.Sink.bytes_held l.sink);
   counted : CountsTaken (g.S.Source.bytes_left l.initial.source) (g.S.Source.bytes_left l.source) 0 l.feed.taken;
   within : IsWithinLimit l.feed;
-  source_later : g.S.Source.faults l.initial.source ≤ g.S.Source.faults l.source;
-  sink_later : g.K.Sink.faults l.initial.sink ≤ g.K.Sink.faults l.sink;
-  disk_later : g.D.Disk.faults l.initial.disk ≤ g.D.Disk.faults l.disk;
+  source_later : g.S.Source.faults l.source ≡ g.S.Source.faults l.initial.source;
+  sink_later : g.K.Sink.faults l.sink ≡ g.K.Sink.faults l.initial.sink;
+  disk_later : g.D.Disk.faults l.disk ≡ g.D.Disk.faults l.initial.disk;
 }
 
 abbrev pub decreases-loop-text : goal.decreases-loop-text

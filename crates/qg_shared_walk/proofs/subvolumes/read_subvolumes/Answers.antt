@@ -51,7 +51,7 @@ roots-preserved g c =
     record {
       history = c.in_ok-read_tree.ensures.history ∙ c.roots.invariant.history;
       size = c.in_ok-read_tree.ensures.size ∙ c.roots.invariant.size;
-      count = omega (arith, c.in_ok-read_tree.ensures.cause.later, c.roots.invariant.count);
+      count = omega (arith, c.in_ok-read_tree.ensures.cause.fine, c.roots.invariant.count);
       slots = c.in_ok-read_tree.ensures.slots c.roots.invariant.slots;
       passes = λ events told other has.
           let trees = c.roots.invariant.read events told in

@@ -151,7 +151,7 @@ walk_pointers-pointers-preserved g t c =
     record {
       history = c.in_ok-digest.ensures.history ∙ c.pointers.invariant.history;
       size = c.in_ok-digest.ensures.size ∙ c.pointers.invariant.size;
-      count = omega (arith, c.in_ok-digest.ensures.cause.later, c.pointers.invariant.count);
+      count = omega (arith, c.in_ok-digest.ensures.cause.fine, c.pointers.invariant.count);
       slots = λ slots. c.in_ok-digest.ensures.slots (c.pointers.invariant.slots slots);
       passes = λ events depth told low none.
           (first_passes (walk_failure (node_failure Files super) (node_found super (content events)) depth) level to

@@ -1,5 +1,5 @@
 use Rattle.std.proofs.Common.{◌≡◌, ℕ, List, [], Option, Some, None, arith, rules, sym, subst, ◌∙◌}
-use Rattle.qg_device.specs.History.{Event}
+use Rattle.qg_device.specs.History.{History}
 use Rattle.qg_ground.specs.Calls.{LeavesBe}
 use Rattle.qg_ground.specs.Land.{IsDrafted}
 use Rattle.qg_ground.specs.Tellings.Telling.{Made}
@@ -83,7 +83,7 @@ returns-clause-created g c state holds unused =
       makes = c.in_ok-now.ensures.made;
       step = step-one book made (Made now) (c.in_ok-now.ensures.told book [] (Follows-none book));
       fits = fits;
-      settled = λ none settled. subst (λ (h : Option (List Event)). IsSettled made new h) later
+      settled = λ none settled. subst (λ (h : History). IsSettled made new h) later
           (c.in_ok-now.ensures.book.settled (λ before. settled) fits);
       sizes = rests.sizes;
       runs = rests.runs;

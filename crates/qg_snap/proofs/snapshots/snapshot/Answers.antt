@@ -1,6 +1,6 @@
 use Rattle.std.proofs.Common.{◌≡◌, ℕ, List, [], Option, Some, None, arith, refl, rules, sym, ap, subst, ◌∙◌}
 use Rattle.std.proofs.lemmas.Option.{same_Some}
-use Rattle.qg_device.specs.History.{Event}
+use Rattle.qg_device.specs.History.{History}
 use Rattle.qg_node.specs.declared.node.Node.{Node}
 use Rattle.qg_node.specs.Nodes.{header_of}
 use Rattle.qg_node.specs.NodeText.{IsNode}
@@ -187,8 +187,8 @@ returns-clause-copied g c state parents holds has is unused =
       makes = c.in_ok-now.ensures.made;
       step = step-one book made (Made now) (c.in_ok-now.ensures.told book [] (Follows-none book));
       fits = fits;
-      settled = λ none settled. subst (λ (h : Option (List Event)). IsSettled made new h) later
-          (c.in_ok-now.ensures.book.settled (λ before. subst (λ (h : Option (List Event)). IsSettled book mid h)
+      settled = λ none settled. subst (λ (h : History). IsSettled made new h) later
+          (c.in_ok-now.ensures.book.settled (λ before. subst (λ (h : History). IsSettled book mid h)
           (sym read.history) (settled_still book land mid history refl (KeepsLevels-draft land mid read.draft) settled))
           fits);
       gives = subst (λ (owings : List Owing). Gives (book_of made.refs) (book_of given.refs) owings) children

@@ -1,4 +1,4 @@
-use Rattle.std.proofs.Common.{◌∙◌, ◌≤◌, ℕ, None, Some, ap, inl, refl, subst, sym}
+use Rattle.std.proofs.Common.{◌≡◌, ◌∙◌, ◌≤◌, ℕ, None, Some, ap, inl, refl, subst, sym}
 use Rattle.qg_num.specs.declared.answer.Answer.TheVariants.{Done, Refused}
 use Rattle.qg_space.specs.Holding.{free_slots}
 use Rattle.qg_groups.specs.Tracked.{quota_of}
@@ -10,13 +10,13 @@ use Rattle.qg_kept_changes.specs.Changing.{HasRoom, group_copies}
 use Rattle.qg_store.specs.Structural.{commit_refusal}
 use Rattle.qg_file_commands.proofs.Edited.{if-none}
 use Rattle.qg_kept_commit.proofs.Looked.{node-size}
-use Rattle.qg_kept_commit.proofs.OnDisk.{last-any, on-disk}
+use Rattle.qg_kept_commit.proofs.OnDisk.{last-any, on-disk, stays-pending}
 use Rattle.qg_store.proofs.Reasoned.{copies-same, group-early, group-late, group-same}
 use Rattle.qg_kept_changes.proofs.Regrouped.{asked-so, comes-group, does-group, kept-regrouped, structural-group}
 use Rattle.qg_kept_changes.proofs.Regrouped.{superblock-regrouped}
 use Rattle.qg_kept_commit.proofs.Stepped.{does_nothing}
 use Rattle.qg_store.proofs.Structured.{does-structural, early-second, held-regrouped, last-settled, made-first}
-use Rattle.qg_store.proofs.Structured.{made-second, so-far-first, so-far-second}
+use Rattle.qg_store.proofs.Structured.{intact-first, intact-handed, made-second, so-far-first, so-far-second}
 use Rattle.qg_kept_commit.proofs.Turned.{looked-refl}
 use Rattle.qg_store.proofs.grouping.regroup.Goals as goal
 
@@ -97,9 +97,13 @@ returns-in_err-commit_pending-clause-sound g c = λ state events told keeps.
 
 pub returns-in_err-commit_pending-clause-err : goal.returns-in_err-commit_pending-clause-err
 returns-in_err-commit_pending-clause-err g c =
-    last-any c.args.command.now c.args.kept.now c.commit_pending.new.kept (g.D.Disk.history c.args.disk.now)
-    (g.D.Disk.history c.commit_pending.new.disk) c.from_residual-in_err-commit_pending.result
-    (inl c.in_err-commit_pending.ensures.err)
+    let command = c.args.command.now in
+    let kept = c.args.kept.now in
+    let before = g.D.Disk.history c.args.disk.now in
+    let after = g.D.Disk.history c.commit_pending.new.disk in
+    last-any command kept c.commit_pending.new.kept before after c.from_residual-in_err-commit_pending.result
+    (stays-pending command kept kept c.commit_pending.new.kept before before after refl
+    (λ state events keeps told. (keeps, told)) c.in_err-commit_pending.ensures.err)
 
 -- ---- the change
 
@@ -217,7 +221,7 @@ returns-in_err-commit_now-clause-err g c =
     c.in_ok-commit_pending.ensures.settled.pending in
     made-second state given Done mid new c.commit_now.new.kept events between between first change refl
     (held-regrouped first.before change.changed given Done c.requires.group change.changes) last
-    (c.in_err-commit_now.ensures.so_far change.changed first.between (other_names first.before) change.keeps change.room
+    (c.in_err-commit_now.ensures.stops change.changed first.between (other_names first.before) change.keeps change.room
     first.told)))
 
 pub returns-clause-step : goal.returns-clause-step
@@ -264,3 +268,30 @@ returns-clause-so_far g c = λ state events keeps told.
     (c.in_ok-commit_pending.ensures.so_far state events keeps told)
     (c.in_ok-commit_now.ensures.so_far change.changed first.between (other_names first.before) change.keeps change.room
     first.told)
+
+-- ---- over any disk
+
+pub returns-in_err-commit_pending-clause-intact : goal.returns-in_err-commit_pending-clause-intact
+returns-in_err-commit_pending-clause-intact g c =
+    let residual = c.from_residual-in_err-commit_pending in
+    let after = g.D.Disk.history c.commit_pending.new.disk in
+    intact-handed (Unit {0}) residual.result _ c.args.command.now c.args.kept.now c.commit_pending.new.kept
+    (g.D.Disk.history c.args.disk.now) after (after ≡ (g.D.Disk.history c.args.disk.now))
+    (handed residual.result _ residual.ensures.1) (λ same. inl (same)) c.in_err-commit_pending.ensures.calls.intact
+
+pub returns-in_err-commit_now-clause-intact : goal.returns-in_err-commit_now-clause-intact
+returns-in_err-commit_now-clause-intact g c =
+    let residual = c.from_residual-in_err-commit_now in
+    let last = g.D.Disk.history c.commit_now.new.disk in
+    intact-handed (Unit {0}) residual.result _ c.args.command.now c.args.kept.now c.commit_now.new.kept
+    (g.D.Disk.history c.args.disk.now) last (last ≡ (g.D.Disk.history c.commit_pending.new.disk))
+    (handed residual.result _ residual.ensures.1) (λ same.
+    intact-first c.args.command.now c.args.kept.now c.args.kept.now c.commit_pending.new.kept
+    c.commit_now.new.kept (g.D.Disk.history c.args.disk.now) (g.D.Disk.history c.args.disk.now)
+    (g.D.Disk.history c.commit_pending.new.disk) (g.D.Disk.history c.commit_now.new.disk)
+    (structural-group c.args.command.now c.requires.group) refl
+    refl
+    c.in_ok-commit_pending.ensures.calls.none c.in_ok-commit_pending.ensures.calls.calls
+    (c.in_err-commit_now.ensures.err ∙ superblock-regrouped c.commit_pending.new.kept c.change_groups.new.kept
+    c.in_ok-change_groups.ensures.rest)
+    (same)) c.in_err-commit_now.ensures.intact

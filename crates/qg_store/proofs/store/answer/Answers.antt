@@ -4,12 +4,14 @@ use Rattle.qg_num.specs.declared.command.Command.{Command}
 use Rattle.qg_num.specs.declared.command.Command.TheVariants.{Clone, Delete, Ls, Owners, Show, Snap, SubCreate}
 use Rattle.qg_num.specs.declared.command.Command.TheVariants.{Truncate, Unlink, Write}
 use Rattle.qg_grammar.specs.ScriptText.{is_in_grammar}
+use Rattle.qg_blocks.proofs.Broken.{broken-any, broken-then}
 use Rattle.qg_kept_commit.specs.Types.{Kept}
 use Rattle.qg_kept_commit.specs.Answering.{Answered, AnswersOn, IsDoneSoFar}
 use Rattle.qg_kept_commit.proofs.OnDisk.{each-given, last-always, last-given, last-same, on-disk, so-far-commit}
 use Rattle.qg_kept_commit.proofs.OnDisk.{still-commit, still-structural, unchanged-looked}
 use Rattle.qg_store.proofs.Served.{inode_told, target_told}
 use Rattle.qg_store.proofs.Shown.{does_show}
+use Rattle.qg_store.proofs.Structured.{intact-given}
 use Rattle.qg_store.proofs.store.answer.Goals as goal
 
 -- ---- a write
@@ -128,7 +130,7 @@ pub returns-in-Ls-clause-err : goal.returns-in-Ls-clause-err
 returns-in-Ls-clause-err g c =
     last-always c.args.command.now c.args.kept.now c.list.new.kept (g.D.Disk.history c.args.disk.now)
     (g.D.Disk.history c.list.new.disk) c.list.result
-    (ap (λ (kept : Kept). kept.superblock) c.list.ensures.looked.same.rest)
+    (ap (λ (kept : Kept). kept.superblock) c.list.ensures.looked.same.rest) c.list.ensures.looked.history
 
 -- ---- owners
 
@@ -149,7 +151,7 @@ pub returns-in-Owners-clause-err : goal.returns-in-Owners-clause-err
 returns-in-Owners-clause-err g c =
     last-always c.args.command.now c.args.kept.now c.owners.new.kept (g.D.Disk.history c.args.disk.now)
     (g.D.Disk.history c.owners.new.disk) c.owners.result
-    (ap (λ (kept : Kept). kept.superblock) c.owners.ensures.looked.same.rest)
+    (ap (λ (kept : Kept). kept.superblock) c.owners.ensures.looked.same.rest) c.owners.ensures.looked.history
 
 -- ---- a commit
 
@@ -256,7 +258,7 @@ returns-in-Write-clause-still g c = λ none. c.write.ensures.apart
 pub returns-in-Write-clause-err : goal.returns-in-Write-clause-err
 returns-in-Write-clause-err g c =
     last-always c.args.command.now c.args.kept.now c.write.new.kept (g.D.Disk.history c.args.disk.now)
-    (g.D.Disk.history c.write.new.disk) c.write.result c.write.ensures.superblock
+    (g.D.Disk.history c.write.new.disk) c.write.result c.write.ensures.superblock c.write.ensures.apart.0
 
 pub returns-in-Clone-clause-still : goal.returns-in-Clone-clause-still
 returns-in-Clone-clause-still g c = λ none. c.clone.ensures.apart
@@ -264,7 +266,7 @@ returns-in-Clone-clause-still g c = λ none. c.clone.ensures.apart
 pub returns-in-Clone-clause-err : goal.returns-in-Clone-clause-err
 returns-in-Clone-clause-err g c =
     last-always c.args.command.now c.args.kept.now c.clone.new.kept (g.D.Disk.history c.args.disk.now)
-    (g.D.Disk.history c.clone.new.disk) c.clone.result c.clone.ensures.superblock
+    (g.D.Disk.history c.clone.new.disk) c.clone.result c.clone.ensures.superblock c.clone.ensures.apart.0
 
 pub returns-in-Truncate-clause-still : goal.returns-in-Truncate-clause-still
 returns-in-Truncate-clause-still g c = λ none. c.truncate.ensures.apart
@@ -272,7 +274,7 @@ returns-in-Truncate-clause-still g c = λ none. c.truncate.ensures.apart
 pub returns-in-Truncate-clause-err : goal.returns-in-Truncate-clause-err
 returns-in-Truncate-clause-err g c =
     last-always c.args.command.now c.args.kept.now c.truncate.new.kept (g.D.Disk.history c.args.disk.now)
-    (g.D.Disk.history c.truncate.new.disk) c.truncate.result c.truncate.ensures.superblock
+    (g.D.Disk.history c.truncate.new.disk) c.truncate.result c.truncate.ensures.superblock c.truncate.ensures.apart.0
 
 pub returns-in-Unlink-clause-still : goal.returns-in-Unlink-clause-still
 returns-in-Unlink-clause-still g c = λ none. c.unlink.ensures.apart
@@ -280,4 +282,45 @@ returns-in-Unlink-clause-still g c = λ none. c.unlink.ensures.apart
 pub returns-in-Unlink-clause-err : goal.returns-in-Unlink-clause-err
 returns-in-Unlink-clause-err g c =
     last-always c.args.command.now c.args.kept.now c.unlink.new.kept (g.D.Disk.history c.args.disk.now)
-    (g.D.Disk.history c.unlink.new.disk) c.unlink.result c.unlink.ensures.superblock
+    (g.D.Disk.history c.unlink.new.disk) c.unlink.result c.unlink.ensures.superblock c.unlink.ensures.apart.0
+
+-- ---- a rule of the image is found broken
+
+pub returns-in-Write-clause-intact : goal.returns-in-Write-clause-intact
+returns-in-Write-clause-intact g c = broken-any c.write.result _ (inl c.write.ensures.apart.0)
+
+pub returns-in-Clone-clause-intact : goal.returns-in-Clone-clause-intact
+returns-in-Clone-clause-intact g c = broken-any c.clone.result _ (inl c.clone.ensures.apart.0)
+
+pub returns-in-Truncate-clause-intact : goal.returns-in-Truncate-clause-intact
+returns-in-Truncate-clause-intact g c = broken-any c.truncate.result _ (inl c.truncate.ensures.apart.0)
+
+pub returns-in-Unlink-clause-intact : goal.returns-in-Unlink-clause-intact
+returns-in-Unlink-clause-intact g c = broken-any c.unlink.result _ (inl c.unlink.ensures.apart.0)
+
+pub returns-in-Ls-clause-intact : goal.returns-in-Ls-clause-intact
+returns-in-Ls-clause-intact g c = broken-any c.list.result _ (inl c.list.ensures.looked.history)
+
+pub returns-in-Owners-clause-intact : goal.returns-in-Owners-clause-intact
+returns-in-Owners-clause-intact g c = broken-any c.owners.result _ (inl c.owners.ensures.looked.history)
+
+pub returns-in-Commit-clause-intact : goal.returns-in-Commit-clause-intact
+returns-in-Commit-clause-intact g c =
+    broken-then c.commit.result _ _ (λ same. inl same) c.commit.ensures.intact
+
+pub returns-in-SubCreate-clause-intact : goal.returns-in-SubCreate-clause-intact
+returns-in-SubCreate-clause-intact g c =
+    intact-given c.args.command.now SubCreate c.args.kept.now c.create.new.kept _ _ c.create.result c.in-SubCreate.is
+    c.create.ensures.intact
+
+pub returns-in-Snap-clause-intact : goal.returns-in-Snap-clause-intact
+returns-in-Snap-clause-intact g c =
+    let at = c.in-Snap in
+    intact-given c.args.command.now (Snap at.sub c.as_slice.result.now) c.args.kept.now c.snap.new.kept _ _
+    c.snap.result (at.is ∙ ap (λ (groups : List ℕ). Snap at.sub groups) (sym c.as_slice.ensures))
+    c.snap.ensures.intact
+
+pub returns-in-Delete-clause-intact : goal.returns-in-Delete-clause-intact
+returns-in-Delete-clause-intact g c =
+    intact-given c.args.command.now (Delete c.in-Delete.sub) c.args.kept.now c.delete.new.kept _ _ c.delete.result
+    c.in-Delete.is c.delete.ensures.intact

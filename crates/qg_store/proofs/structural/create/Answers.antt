@@ -1,7 +1,8 @@
-use Rattle.std.proofs.Common.{◌∙◌, ◌≤◌, inl, refl, sym, true, false}
+use Rattle.std.proofs.Common.{◌≡◌, ◌∙◌, ◌≤◌, inl, refl, sym, true, false}
 use Rattle.qg_num.specs.declared.answer.Answer.TheVariants.{Refused, Sub}
 use Rattle.qg_num.specs.declared.command.Command.TheVariants.{SubCreate}
 use Rattle.qg_num.specs.declared.refusal.Refusal.TheVariants as why
+use Rattle.qg_blocks.proofs.Broken.{broken-any}
 use Rattle.qg_space.specs.Holding.{free_slots}
 use Rattle.qg_kept_commit.proofs.PiecesRead.{handed}
 use Rattle.qg_kept_commit.proofs.Whole.{handed-sound}
@@ -9,11 +10,11 @@ use Rattle.qg_kept_commit.specs.FsLawsKeeping.{other_names}
 use Rattle.qg_kept_commit.specs.Keeping.{structural_need_of}
 use Rattle.qg_file_commands.proofs.Edited.{if-none}
 use Rattle.qg_kept_commit.proofs.Looked.{node-size}
-use Rattle.qg_kept_commit.proofs.OnDisk.{last-any, on-disk}
+use Rattle.qg_kept_commit.proofs.OnDisk.{last-any, on-disk, stays-pending}
 use Rattle.qg_store.proofs.Reasoned.{create-early, create-late, number-same, too-many-by, too-many-same}
 use Rattle.qg_kept_commit.proofs.Stepped.{does_nothing}
 use Rattle.qg_store.proofs.Structured.{does-structural, early-second, held-created, last-settled, made-first}
-use Rattle.qg_store.proofs.Structured.{made-second, so-far-first, so-far-second}
+use Rattle.qg_store.proofs.Structured.{intact-first, intact-handed, made-second, so-far-first, so-far-second}
 use Rattle.qg_kept_commit.proofs.Turned.{looked-refl}
 use Rattle.qg_store.proofs.structural.create.Goals as goal
 
@@ -92,9 +93,13 @@ returns-in_err-commit_pending-clause-sound g c = λ state events told keeps.
 
 pub returns-in_err-commit_pending-clause-err : goal.returns-in_err-commit_pending-clause-err
 returns-in_err-commit_pending-clause-err g c =
-    last-any SubCreate c.args.kept.now c.commit_pending.new.kept (g.D.Disk.history c.args.disk.now)
-    (g.D.Disk.history c.commit_pending.new.disk) c.from_residual-in_err-commit_pending.result
-    (inl c.in_err-commit_pending.ensures.err)
+    let kept = c.args.kept.now in
+    let before = g.D.Disk.history c.args.disk.now in
+    last-any SubCreate kept c.commit_pending.new.kept before (g.D.Disk.history c.commit_pending.new.disk)
+    c.from_residual-in_err-commit_pending.result
+    (stays-pending SubCreate kept kept c.commit_pending.new.kept before before
+    (g.D.Disk.history c.commit_pending.new.disk) refl (λ state events keeps told. (keeps, told))
+    c.in_err-commit_pending.ensures.err)
 
 -- ---- the change
 
@@ -204,7 +209,7 @@ returns-in_err-commit_now-clause-err g c =
     made-second state SubCreate (Sub c.new-sub.result) c.commit_pending.new.kept c.create_change.new.kept
     c.commit_now.new.kept events between after first change c.in_ok-create_change.ensures.apart.0
     (held-created first.before change.changed (Sub c.new-sub.result) change.changes) last
-    (c.in_err-commit_now.ensures.so_far change.changed first.between (other_names first.before) change.keeps change.room
+    (c.in_err-commit_now.ensures.stops change.changed first.between (other_names first.before) change.keeps change.room
     (c.in_ok-create_change.ensures.apart.0 ∙ first.told))))
 
 pub returns-clause-step : goal.returns-clause-step
@@ -248,3 +253,38 @@ returns-clause-so_far g c = λ state events keeps told.
     (c.in_ok-commit_pending.ensures.so_far state events keeps told)
     (c.in_ok-commit_now.ensures.so_far change.changed first.between (other_names first.before) change.keeps change.room
     (c.in_ok-create_change.ensures.apart.0 ∙ first.told))
+
+-- ---- over any disk
+
+pub returns-in_err-commit_pending-clause-intact : goal.returns-in_err-commit_pending-clause-intact
+returns-in_err-commit_pending-clause-intact g c =
+    let residual = c.from_residual-in_err-commit_pending in
+    let after = g.D.Disk.history c.commit_pending.new.disk in
+    intact-handed (Unit {0}) residual.result _ SubCreate c.args.kept.now c.commit_pending.new.kept
+    (g.D.Disk.history c.args.disk.now) after (after ≡ (g.D.Disk.history c.args.disk.now))
+    (handed residual.result _ residual.ensures.1) (λ same. inl (same)) c.in_err-commit_pending.ensures.calls.intact
+
+pub returns-in_err-create_change-clause-intact : goal.returns-in_err-create_change-clause-intact
+returns-in_err-create_change-clause-intact g c =
+    broken-any c.from_residual-in_err-create_change.result _
+    (intact-first SubCreate c.args.kept.now c.args.kept.now c.commit_pending.new.kept
+    c.create_change.new.kept (g.D.Disk.history c.args.disk.now) (g.D.Disk.history c.args.disk.now)
+    (g.D.Disk.history c.commit_pending.new.disk) (g.D.Disk.history c.create_change.new.disk)
+    refl refl refl c.in_ok-commit_pending.ensures.calls.none
+    c.in_ok-commit_pending.ensures.calls.calls c.in_err-create_change.ensures.superblock
+    c.in_err-create_change.ensures.apart.0)
+
+pub returns-in_err-commit_now-clause-intact : goal.returns-in_err-commit_now-clause-intact
+returns-in_err-commit_now-clause-intact g c =
+    let residual = c.from_residual-in_err-commit_now in
+    let last = g.D.Disk.history c.commit_now.new.disk in
+    intact-handed (Unit {0}) residual.result _ SubCreate c.args.kept.now c.commit_now.new.kept
+    (g.D.Disk.history c.args.disk.now) last (last ≡ (g.D.Disk.history c.create_change.new.disk))
+    (handed residual.result _ residual.ensures.1) (λ same.
+    intact-first SubCreate c.args.kept.now c.args.kept.now c.commit_pending.new.kept
+    c.commit_now.new.kept (g.D.Disk.history c.args.disk.now) (g.D.Disk.history c.args.disk.now)
+    (g.D.Disk.history c.commit_pending.new.disk) (g.D.Disk.history c.commit_now.new.disk)
+    refl refl refl c.in_ok-commit_pending.ensures.calls.none
+    c.in_ok-commit_pending.ensures.calls.calls
+    (c.in_err-commit_now.ensures.err ∙ c.in_ok-create_change.ensures.superblock)
+    (same ∙ c.in_ok-create_change.ensures.apart.0)) c.in_err-commit_now.ensures.intact

@@ -1,9 +1,10 @@
-use Rattle.std.proofs.Common.{◌+◌, ◌∙◌, ◌≤◌, ℕ, List, ap, inl, refl, sym, true, false}
+use Rattle.std.proofs.Common.{◌≡◌, ◌+◌, ◌∙◌, ◌≤◌, ℕ, List, ap, inl, refl, sym, true, false}
 use Rattle.qg_num.specs.declared.answer.Answer.TheVariants.{Done, Refused}
 use Rattle.qg_num.specs.declared.command.Command.TheVariants.{Delete}
 use Rattle.qg_num.specs.declared.refusal.Refusal.TheVariants as why
 use Rattle.qg_image.specs.Table.{has_key}
 use Rattle.qg_machine.specs.Refusals.{nodes_reached}
+use Rattle.qg_blocks.proofs.Broken.{broken-any}
 use Rattle.qg_space.specs.Holding.{free_slots}
 use Rattle.qg_kept_commit.proofs.PiecesRead.{handed}
 use Rattle.qg_kept_commit.proofs.Whole.{handed-sound}
@@ -13,11 +14,12 @@ use Rattle.qg_kept_commit.specs.Keeping.{structural_need_of}
 use Rattle.qg_file_commands.proofs.Cloned.{target-listed}
 use Rattle.qg_file_commands.proofs.Edited.{if-none}
 use Rattle.qg_kept_commit.proofs.Looked.{keeps-looked, node-size, superblock-read}
-use Rattle.qg_kept_commit.proofs.OnDisk.{last-any, on-disk}
+use Rattle.qg_kept_commit.proofs.OnDisk.{last-any, on-disk, stays-pending, stays-still}
 use Rattle.qg_store.proofs.Reasoned.{delete-late, delete-no-sub, delete-top}
 use Rattle.qg_kept_commit.proofs.Stepped.{does_nothing}
 use Rattle.qg_store.proofs.Structured.{does-structural, early-second, held-deleted, last-settled, made-first}
-use Rattle.qg_store.proofs.Structured.{made-second, reached-settled, so-far-first, so-far-second}
+use Rattle.qg_store.proofs.Structured.{intact-first, intact-handed, made-second, reached-settled, so-far-first}
+use Rattle.qg_store.proofs.Structured.{so-far-second}
 use Rattle.qg_kept_commit.proofs.Turned.{looked-refl, looked-turned}
 use Rattle.qg_store.proofs.structural.delete.Goals as goal
 
@@ -84,8 +86,10 @@ pub returns-in_err-copies-clause-err : goal.returns-in_err-copies-clause-err
 returns-in_err-copies-clause-err g c =
     last-any (Delete c.args.sub) c.args.kept.now c.copies_of_tree.new.kept (g.D.Disk.history c.args.disk.now)
     (g.D.Disk.history c.copies_of_tree.new.disk) c.from_residual.result
-    (inl (superblock-read c.turn_to.new.kept c.copies_of_tree.new.kept _ _ _ _ c.in_err-copies.ensures.looked
-    ∙ c.turn_to.ensures.superblock))
+    (stays-still (Delete c.args.sub) c.args.kept.now c.copies_of_tree.new.kept (g.D.Disk.history c.args.disk.now)
+    (g.D.Disk.history c.copies_of_tree.new.disk)
+    (superblock-read c.turn_to.new.kept c.copies_of_tree.new.kept _ _ _ _ c.in_err-copies.ensures.looked
+    ∙ c.turn_to.ensures.superblock) c.in_err-copies.ensures.looked.history)
 
 pub no_commit-requires : goal.no_commit-requires
 no_commit-requires g c = record { size = node-size c.copies_of_tree.new.kept c.in_ok-copies.ensures.kept.fitted }
@@ -167,11 +171,21 @@ returns-in_err-commit_pending-clause-sound g c = λ state events told given.
 
 pub returns-in_err-commit_pending-clause-err : goal.returns-in_err-commit_pending-clause-err
 returns-in_err-commit_pending-clause-err g c =
-    last-any (Delete c.args.sub) c.args.kept.now c.commit_pending.new.kept (g.D.Disk.history c.args.disk.now)
-    (g.D.Disk.history c.commit_pending.new.disk) c.from_residual-in_err-commit_pending.result
-    (inl (c.in_err-commit_pending.ensures.err ∙ (superblock-read c.turn_to.new.kept c.copies_of_tree.new.kept _ _ _ _
-    c.in_ok-copies.ensures.looked
-    ∙ c.turn_to.ensures.superblock)))
+    let command = Delete c.args.sub in
+    let before = g.D.Disk.history c.args.disk.now in
+    let early = g.D.Disk.history c.copies_of_tree.new.disk in
+    let after = g.D.Disk.history c.commit_pending.new.disk in
+    let looked = c.in_ok-copies.ensures.looked in
+    last-any command c.args.kept.now c.commit_pending.new.kept before after c.from_residual-in_err-commit_pending.result
+    (stays-pending command c.args.kept.now c.copies_of_tree.new.kept c.commit_pending.new.kept before early after
+    (superblock-read c.turn_to.new.kept c.copies_of_tree.new.kept _ _ _ _ looked ∙ c.turn_to.ensures.superblock)
+    (λ state events given told.
+    let turned = c.turn_to.ensures.keeps state before (g.D.Disk.size c.args.disk.now) (other_names state)
+    c.requires.kept given in (
+      keeps-looked c.turn_to.new.kept c.copies_of_tree.new.kept _ _ _ _ state (other_names state) looked turned,
+      looked.history ∙ told,
+    ))
+    c.in_err-commit_pending.ensures.err)
 
 -- ---- the change
 
@@ -334,7 +348,7 @@ returns-in_err-commit_now-clause-err g c =
     made-second state (Delete c.args.sub) Done c.commit_pending.new.kept c.delete_change.new.kept
     c.commit_now.new.kept events between after first change c.in_ok-delete_change.ensures.apart.0
     (held-deleted first.before change.changed c.args.sub Done change.changes) last
-    (c.in_err-commit_now.ensures.so_far change.changed first.between (other_names first.before) change.keeps change.room
+    (c.in_err-commit_now.ensures.stops change.changed first.between (other_names first.before) change.keeps change.room
     (c.in_ok-delete_change.ensures.apart.0 ∙ first.told))))
 
 pub returns-clause-step : goal.returns-clause-step
@@ -401,3 +415,51 @@ returns-clause-so_far g c = λ state events given told.
     (c.in_ok-commit_pending.ensures.so_far state events keeps (looked.history ∙ told))
     (c.in_ok-commit_now.ensures.so_far change.changed first.between (other_names first.before) change.keeps change.room
     (c.in_ok-delete_change.ensures.apart.0 ∙ first.told))
+
+-- ---- over any disk
+
+pub returns-in_err-copies-clause-intact : goal.returns-in_err-copies-clause-intact
+returns-in_err-copies-clause-intact g c =
+    broken-any c.from_residual.result _ (inl c.in_err-copies.ensures.looked.history)
+
+pub returns-in_err-why-clause-intact : goal.returns-in_err-why-clause-intact
+returns-in_err-why-clause-intact g c =
+    broken-any c.from_residual-in_err-why.result _ (inl c.in_ok-copies.ensures.looked.history)
+
+pub returns-in_err-commit_pending-clause-intact : goal.returns-in_err-commit_pending-clause-intact
+returns-in_err-commit_pending-clause-intact g c =
+    let residual = c.from_residual-in_err-commit_pending in
+    let after = g.D.Disk.history c.commit_pending.new.disk in
+    intact-handed (Unit {0}) residual.result _ (Delete c.args.sub) c.args.kept.now c.commit_pending.new.kept
+    (g.D.Disk.history c.args.disk.now) after (after ≡ (g.D.Disk.history c.copies_of_tree.new.disk))
+    (handed residual.result _ residual.ensures.1) (λ same. inl (same ∙ c.in_ok-copies.ensures.looked.history))
+    c.in_err-commit_pending.ensures.calls.intact
+
+pub returns-in_err-delete_change-clause-intact : goal.returns-in_err-delete_change-clause-intact
+returns-in_err-delete_change-clause-intact g c =
+    broken-any c.from_residual-in_err-delete_change.result _
+    (intact-first (Delete c.args.sub) c.args.kept.now c.copies_of_tree.new.kept c.commit_pending.new.kept
+    c.delete_change.new.kept (g.D.Disk.history c.args.disk.now) (g.D.Disk.history c.copies_of_tree.new.disk)
+    (g.D.Disk.history c.commit_pending.new.disk) (g.D.Disk.history c.delete_change.new.disk) refl
+    c.in_ok-copies.ensures.looked.history
+    (ap (λ (k : Kept). k.pending) c.in_ok-copies.ensures.looked.same
+    ∙ ap (λ (k : Kept). k.pending) c.turn_to.ensures.same.rest)
+    c.in_ok-commit_pending.ensures.calls.none c.in_ok-commit_pending.ensures.calls.calls
+    c.in_err-delete_change.ensures.superblock c.in_err-delete_change.ensures.apart.0)
+
+pub returns-in_err-commit_now-clause-intact : goal.returns-in_err-commit_now-clause-intact
+returns-in_err-commit_now-clause-intact g c =
+    let residual = c.from_residual-in_err-commit_now in
+    let last = g.D.Disk.history c.commit_now.new.disk in
+    intact-handed (Unit {0}) residual.result _ (Delete c.args.sub) c.args.kept.now c.commit_now.new.kept
+    (g.D.Disk.history c.args.disk.now) last (last ≡ (g.D.Disk.history c.delete_change.new.disk))
+    (handed residual.result _ residual.ensures.1) (λ same.
+    intact-first (Delete c.args.sub) c.args.kept.now c.copies_of_tree.new.kept c.commit_pending.new.kept
+    c.commit_now.new.kept (g.D.Disk.history c.args.disk.now) (g.D.Disk.history c.copies_of_tree.new.disk)
+    (g.D.Disk.history c.commit_pending.new.disk) (g.D.Disk.history c.commit_now.new.disk) refl
+    c.in_ok-copies.ensures.looked.history
+    (ap (λ (k : Kept). k.pending) c.in_ok-copies.ensures.looked.same
+    ∙ ap (λ (k : Kept). k.pending) c.turn_to.ensures.same.rest)
+    c.in_ok-commit_pending.ensures.calls.none c.in_ok-commit_pending.ensures.calls.calls
+    (c.in_err-commit_now.ensures.err ∙ c.in_ok-delete_change.ensures.superblock)
+    (same ∙ c.in_ok-delete_change.ensures.apart.0)) c.in_err-commit_now.ensures.intact

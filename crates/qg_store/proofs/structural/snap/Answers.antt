@@ -1,7 +1,8 @@
-use Rattle.std.proofs.Common.{◌∙◌, ◌+◌, ◌≤◌, ℕ, ap, inl, length, refl, subst, sym, true, false}
+use Rattle.std.proofs.Common.{◌≡◌, ◌∙◌, ◌+◌, ◌≤◌, ℕ, ap, inl, length, refl, subst, sym, true, false}
 use Rattle.qg_num.specs.declared.answer.Answer.TheVariants.{Refused, Sub}
 use Rattle.qg_num.specs.declared.command.Command.TheVariants.{Snap}
 use Rattle.qg_num.specs.declared.refusal.Refusal.TheVariants as why
+use Rattle.qg_blocks.proofs.Broken.{broken-any}
 use Rattle.qg_space.specs.Holding.{free_slots}
 use Rattle.qg_kept_commit.proofs.PiecesRead.{handed}
 use Rattle.qg_kept_commit.proofs.Whole.{handed-sound}
@@ -12,12 +13,12 @@ use Rattle.qg_store.specs.Structural.{commit_refusal}
 use Rattle.qg_file_commands.proofs.Cloned.{target-listed}
 use Rattle.qg_file_commands.proofs.Edited.{if-none}
 use Rattle.qg_kept_commit.proofs.Looked.{node-size}
-use Rattle.qg_kept_commit.proofs.OnDisk.{last-any, on-disk}
+use Rattle.qg_kept_commit.proofs.OnDisk.{last-any, on-disk, stays-pending}
 use Rattle.qg_store.proofs.Reasoned.{number-same, snap-early, snap-late, snap-listed, snap-no-sub, snap-same}
 use Rattle.qg_store.proofs.Reasoned.{too-many-by, too-many-same}
 use Rattle.qg_kept_commit.proofs.Stepped.{does_nothing}
 use Rattle.qg_store.proofs.Structured.{does-structural, early-second, held-snapped, last-settled, made-first}
-use Rattle.qg_store.proofs.Structured.{made-second, so-far-first, so-far-second}
+use Rattle.qg_store.proofs.Structured.{intact-first, intact-handed, made-second, so-far-first, so-far-second}
 use Rattle.qg_store.proofs.structural.snap.Goals as goal
 
 pub turn_to-requires : goal.turn_to-requires
@@ -206,10 +207,18 @@ returns-in_err-commit_pending-clause-sound g c = λ state events told given.
 
 pub returns-in_err-commit_pending-clause-err : goal.returns-in_err-commit_pending-clause-err
 returns-in_err-commit_pending-clause-err g c =
-    last-any (Snap c.args.sub c.args.parents.now) c.args.kept.now c.commit_pending.new.kept
-    (g.D.Disk.history c.args.disk.now)
-    (g.D.Disk.history c.commit_pending.new.disk) c.from_residual-in_err-commit_pending.result
-    (inl (c.in_err-commit_pending.ensures.err ∙ c.turn_to.ensures.superblock))
+    let given = Snap c.args.sub c.args.parents.now in
+    let before = g.D.Disk.history c.args.disk.now in
+    let after = g.D.Disk.history c.commit_pending.new.disk in
+    last-any given c.args.kept.now c.commit_pending.new.kept before after
+    c.from_residual-in_err-commit_pending.result
+    (stays-pending given c.args.kept.now c.turn_to.new.kept c.commit_pending.new.kept before before after
+    c.turn_to.ensures.superblock (λ state events keeps told. (
+      c.turn_to.ensures.keeps state before
+          (g.D.Disk.size c.args.disk.now) (other_names state) c.requires.kept keeps,
+      told,
+    ))
+    c.in_err-commit_pending.ensures.err)
 
 -- ---- the change
 
@@ -355,7 +364,7 @@ returns-in_err-commit_now-clause-err g c =
     c.snap_change.new.kept
     c.commit_now.new.kept events between after first change c.in_ok-snap_change.ensures.apart.0
     (held-snapped first.before change.changed c.args.sub c.args.parents.now (Sub c.new-copy.result) change.changes) last
-    (c.in_err-commit_now.ensures.so_far change.changed first.between (other_names first.before) change.keeps change.room
+    (c.in_err-commit_now.ensures.stops change.changed first.between (other_names first.before) change.keeps change.room
     (c.in_ok-snap_change.ensures.apart.0 ∙ first.told))))
 
 pub returns-clause-step : goal.returns-clause-step
@@ -417,3 +426,40 @@ returns-clause-so_far g c = λ state events given told.
     (c.in_ok-commit_pending.ensures.so_far state events keeps told)
     (c.in_ok-commit_now.ensures.so_far change.changed first.between (other_names first.before) change.keeps change.room
     (c.in_ok-snap_change.ensures.apart.0 ∙ first.told))
+
+-- ---- over any disk
+
+pub returns-in_err-commit_pending-clause-intact : goal.returns-in_err-commit_pending-clause-intact
+returns-in_err-commit_pending-clause-intact g c =
+    let residual = c.from_residual-in_err-commit_pending in
+    let after = g.D.Disk.history c.commit_pending.new.disk in
+    intact-handed (Unit {0}) residual.result _ (Snap c.args.sub c.args.parents.now) c.args.kept.now
+    c.commit_pending.new.kept
+    (g.D.Disk.history c.args.disk.now) after (after ≡ (g.D.Disk.history c.args.disk.now))
+    (handed residual.result _ residual.ensures.1) (λ same. inl (same)) c.in_err-commit_pending.ensures.calls.intact
+
+pub returns-in_err-snap_change-clause-intact : goal.returns-in_err-snap_change-clause-intact
+returns-in_err-snap_change-clause-intact g c =
+    broken-any c.from_residual-in_err-snap_change.result _
+    (intact-first (Snap c.args.sub c.args.parents.now) c.args.kept.now c.turn_to.new.kept c.commit_pending.new.kept
+    c.snap_change.new.kept (g.D.Disk.history c.args.disk.now) (g.D.Disk.history c.args.disk.now)
+    (g.D.Disk.history c.commit_pending.new.disk) (g.D.Disk.history c.snap_change.new.disk) refl refl
+    (ap (λ (k : Kept). k.pending) c.turn_to.ensures.same.rest)
+    c.in_ok-commit_pending.ensures.calls.none c.in_ok-commit_pending.ensures.calls.calls
+    c.in_err-snap_change.ensures.superblock c.in_err-snap_change.ensures.apart.0)
+
+pub returns-in_err-commit_now-clause-intact : goal.returns-in_err-commit_now-clause-intact
+returns-in_err-commit_now-clause-intact g c =
+    let residual = c.from_residual-in_err-commit_now in
+    let last = g.D.Disk.history c.commit_now.new.disk in
+    intact-handed (Unit {0}) residual.result _ (Snap c.args.sub c.args.parents.now) c.args.kept.now
+    c.commit_now.new.kept
+    (g.D.Disk.history c.args.disk.now) last (last ≡ (g.D.Disk.history c.snap_change.new.disk))
+    (handed residual.result _ residual.ensures.1) (λ same.
+    intact-first (Snap c.args.sub c.args.parents.now) c.args.kept.now c.turn_to.new.kept c.commit_pending.new.kept
+    c.commit_now.new.kept (g.D.Disk.history c.args.disk.now) (g.D.Disk.history c.args.disk.now)
+    (g.D.Disk.history c.commit_pending.new.disk) (g.D.Disk.history c.commit_now.new.disk) refl refl
+    (ap (λ (k : Kept). k.pending) c.turn_to.ensures.same.rest)
+    c.in_ok-commit_pending.ensures.calls.none c.in_ok-commit_pending.ensures.calls.calls
+    (c.in_err-commit_now.ensures.err ∙ c.in_ok-snap_change.ensures.superblock)
+    (same ∙ c.in_ok-snap_change.ensures.apart.0)) c.in_err-commit_now.ensures.intact

@@ -59,7 +59,7 @@ survey_each-ways-preserved g t c =
       read = read-on c.args.blocks.now c.ways.blocks c.survey_under.new.blocks (g.D.Disk.history c.args.disk.now)
           (g.D.Disk.history c.ways.disk) (g.D.Disk.history c.survey_under.new.disk) (g.D.Disk.size c.args.disk.now)
           (g.D.Disk.size c.ways.disk) (g.D.Disk.size c.survey_under.new.disk) met.read made.read;
-      count = let now = made.cause.later in let before = met.count in omega (arith, now, before);
+      count = let now = made.cause.fine in let before = met.count in omega (arith, now, before);
     }
 
 pub survey_under-returns-then-contains_key-clause-surveyed :

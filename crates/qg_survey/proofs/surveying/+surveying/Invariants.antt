@@ -1,4 +1,4 @@
-use Rattle.std.proofs.Common.{◌≡◌, ℕ, ◌+◌, ◌*◌, ◌-◌, ◌≤◌, All, Some, length}
+use Rattle.std.proofs.Common.{◌≡◌, ℕ, ◌+◌, ◌*◌, ◌-◌, All, Some, length}
 use Rattle.qg_image.specs.State.{State}
 use Rattle.qg_extents.specs.Table.{book_of}
 use Rattle.qg_descent.specs.Way.{HasRead, IsReadable}
@@ -27,5 +27,5 @@ invariant-survey_each-ways g l = record {
       → IsSurveyed state l.level l.ways l.rest l.initial.links.entries l.links.entries l.initial.reads l.reads;
   read : HasRead l.initial.blocks l.blocks (g.D.Disk.history l.initial.disk) (g.D.Disk.history l.disk)
       (g.D.Disk.size l.initial.disk) (g.D.Disk.size l.disk);
-  count : g.D.Disk.faults l.initial.disk ≤ g.D.Disk.faults l.disk;
+  count : g.D.Disk.faults l.disk ≡ g.D.Disk.faults l.initial.disk;
 }

@@ -1,4 +1,4 @@
-use Rattle.std.proofs.Common.{◌≡◌, ℕ, ◌+◌, ◌≤◌, List, Some, arith, refl, sym, ap, subst, ◌∙◌}
+use Rattle.std.proofs.Common.{◌≡◌, ℕ, ◌+◌, List, Some, arith, sym, ap, subst, ◌∙◌}
 use Rattle.std.specs.List.{All}
 use Rattle.std.proofs.lemmas.List.Elements.{All-tail}
 use Rattle.qg_image.specs.State.{next_generation}
@@ -82,5 +82,5 @@ trees-preserved g c =
       read = read-on c.args.blocks.now c.trees.blocks c.survey_under.new.blocks (g.D.Disk.history c.args.disk.now)
           (g.D.Disk.history c.trees.disk) (g.D.Disk.history c.survey_under.new.disk) (g.D.Disk.size c.args.disk.now)
           (g.D.Disk.size c.trees.disk) (g.D.Disk.size c.survey_under.new.disk) met.read made.read;
-      count = let now = made.cause.later in let before = met.count in omega (arith, now, before);
+      count = let now = made.cause.fine in let before = met.count in omega (arith, now, before);
     }

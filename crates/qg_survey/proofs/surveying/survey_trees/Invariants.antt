@@ -1,4 +1,4 @@
-use Rattle.std.proofs.Common.{◌≡◌, ℕ, ◌+◌, ◌≤◌, All, Some, length}
+use Rattle.std.proofs.Common.{◌≡◌, ℕ, ◌+◌, All, Some, length}
 use Rattle.qg_image.specs.State.{State, next_generation}
 use Rattle.qg_extents.specs.Table.{book_of}
 use Rattle.qg_descent.specs.Tree.{Root}
@@ -22,5 +22,5 @@ invariant-trees g l = record {
       → AreGone state l.trees l.rest l.initial.links.entries l.links.entries l.initial.reads l.reads;
   read : HasRead l.initial.blocks l.blocks (g.D.Disk.history l.initial.disk) (g.D.Disk.history l.disk)
       (g.D.Disk.size l.initial.disk) (g.D.Disk.size l.disk);
-  count : g.D.Disk.faults l.initial.disk ≤ g.D.Disk.faults l.disk;
+  count : g.D.Disk.faults l.disk ≡ g.D.Disk.faults l.initial.disk;
 }

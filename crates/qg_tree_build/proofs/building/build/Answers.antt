@@ -87,7 +87,7 @@ nodes-preserved g c =
           (made.told before (log ++ map Made (slots_laid invariant.laid)) (invariant.told before log follows));
       history = made.rests.history ∙ invariant.history;
       size = made.rests.size ∙ invariant.size;
-      later = let first = invariant.later in let second = made.fails.cause.later in omega (arith, first, second);
+      later = let first = invariant.later in let second = made.fails.cause.fine in omega (arith, first, second);
       reads = λ most all.
           let late = made.reads in
           let few = all c.nodes.book (address_of node) in

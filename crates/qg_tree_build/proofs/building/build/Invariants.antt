@@ -17,7 +17,7 @@ invariant-nodes g l = record {
       → g.B.Book.follows before (log ++ map Made (slots_laid laid)) l.book;
   history : g.D.Disk.history l.disk ≡ g.D.Disk.history l.fn.disk;
   size : g.D.Disk.size l.disk ≡ g.D.Disk.size l.fn.disk;
-  later : g.D.Disk.faults l.fn.disk ≤ g.D.Disk.faults l.disk;
+  later : g.D.Disk.faults l.disk ≡ g.D.Disk.faults l.fn.disk;
   reads : (most : ℕ) → ((book : _) (q : ℕ) → g.B.Book.to_read book q ≤ most)
       → l.reads ≤ l.fn.reads + most * length laid;
 }

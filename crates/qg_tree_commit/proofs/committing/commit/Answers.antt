@@ -8,6 +8,8 @@ use Rattle.qg_node.specs.NodeText.{IsNodeSize}
 use Rattle.qg_super.specs.declared.superblock.Super.{Super}
 use Rattle.qg_super.proofs.Served.{SizesFit-is_served}
 use Rattle.qg_commit.specs.Calls.{IsReadBack, IsWritable}
+use Rattle.qg_commit.proofs.CommitCalls.{whole-made}
+use Rattle.qg_commit.proofs.Fronts.{unsure-whole}
 use Rattle.qg_tree_commit.specs.Writing.{fresh_nodes, nodes_written}
 use Rattle.qg_tree_commit.proofs.AllNodes.{written-writable}
 use Rattle.qg_tree_commit.proofs.Crashing.{leaves_trees, left_alone}
@@ -67,7 +69,7 @@ returns-in-Err-Failed-clause-stopped g c = λ events told. inr (record {
   is = listed-IsLaying c.args.sizes c.args.next c.args.told.now c.args.slots.now c.args.blocks.now.draft
       c.in_ok-trees.trees c.in_ok-addresses.addresses c.in_ok-trees.ensures.superblock c.in_ok-trees.ensures.trees
       c.in_ok-addresses.ensures.addresses c.in_ok-addresses.ensures.ascending;
-  made = c.write_all.ensures.front events told;
+  made = c.in-Err-Failed.ensures.front events told;
 })
 
 pub returns-clause-stopped : goal.returns-clause-stopped
@@ -76,7 +78,7 @@ returns-clause-stopped g c = λ events told. inr (record {
   is = listed-IsLaying c.args.sizes c.args.next c.args.told.now c.args.slots.now c.args.blocks.now.draft
       c.in_ok-trees.trees c.in_ok-addresses.addresses c.in_ok-trees.ensures.superblock c.in_ok-trees.ensures.trees
       c.in_ok-addresses.ensures.addresses c.in_ok-addresses.ensures.ascending;
-  made = c.write_all.ensures.front events told;
+  made = c.in-Err-NoMemory.ensures.front events told;
 })
 
 -- ---- crashes
@@ -101,7 +103,9 @@ returns-in-Ok-clause-crashes g c = λ before after state told now found.
     let slots = each-slot c.args.sizes c.args.slots.now c.requires.slots in
     inr (leaves_trees c.args.sizes c.args.next c.args.told.now c.args.slots.now c.args.blocks.now.draft
     c.in_ok-trees.trees laying c.requires.fresh slots state before after _ found
-    (c.write_all.ensures.front (Synced ∷ before) told) now)
+    (whole-made c.in_ok-trees.trees.superblock
+    (nodes_written c.args.blocks.now.draft c.in_ok-trees.trees) _ _
+    c.in-Ok.ensures.calls (Synced ∷ before) told) now)
 
 pub returns-in-Err-Failed-clause-crashes : goal.returns-in-Err-Failed-clause-crashes
 returns-in-Err-Failed-clause-crashes g c = λ before after state told now found.
@@ -111,7 +115,9 @@ returns-in-Err-Failed-clause-crashes g c = λ before after state told now found.
     let slots = each-slot c.args.sizes c.args.slots.now c.requires.slots in
     inr (leaves_trees c.args.sizes c.args.next c.args.told.now c.args.slots.now c.args.blocks.now.draft
     c.in_ok-trees.trees laying c.requires.fresh slots state before after _ found
-    (c.write_all.ensures.front (Synced ∷ before) told) now)
+    (unsure-whole c.in_ok-trees.trees.superblock
+    (nodes_written c.args.blocks.now.draft c.in_ok-trees.trees)
+    (Synced ∷ before) _ (c.in-Err-Failed.ensures.front (Synced ∷ before) told)) now)
 
 pub returns-clause-crashes : goal.returns-clause-crashes
 returns-clause-crashes g c = λ before after state told now found.
@@ -121,4 +127,6 @@ returns-clause-crashes g c = λ before after state told now found.
     let slots = each-slot c.args.sizes c.args.slots.now c.requires.slots in
     inr (leaves_trees c.args.sizes c.args.next c.args.told.now c.args.slots.now c.args.blocks.now.draft
     c.in_ok-trees.trees laying c.requires.fresh slots state before after _ found
-    (c.write_all.ensures.front (Synced ∷ before) told) now)
+    (unsure-whole c.in_ok-trees.trees.superblock
+    (nodes_written c.args.blocks.now.draft c.in_ok-trees.trees)
+    (Synced ∷ before) _ (c.in-Err-NoMemory.ensures.front (Synced ∷ before) told)) now)

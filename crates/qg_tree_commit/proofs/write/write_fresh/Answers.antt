@@ -3,8 +3,8 @@ use Rattle.std.proofs.Common.{rules}
 use Rattle.std.specs.Prelude.{IsSome, slice_index}
 use Rattle.std.specs.List.{AllByRecursion}
 use Rattle.std.specs.Map.{keys_of}
-use Rattle.std.specs.Option.{option_map}
 use Rattle.std.proofs.lemmas.List.{drop_more}
+use Rattle.qg_device.specs.History.{history_after}
 use Rattle.qg_node.specs.declared.node.Header.{Header}
 use Rattle.qg_node.specs.Nodes.{header_of}
 use Rattle.qg_blocks.specs.Told.{clean_at, fresh_at}
@@ -115,7 +115,7 @@ loop-address-preserved g c =
       calls =
           rw long
           (next_call size node (drop i nodes) (drop (i + 1) nodes) c.value.result c.write_node.new.bytes
-          (option_map (with_nodes size nodes) (history c.args.disk.now)) (history c.loop-address.disk)
+          (history_after (with_nodes size nodes) (history c.args.disk.now)) (history c.loop-address.disk)
           (history c.write_at.new.self)
           cut there c.write_node.ensures.text c.in_ok-write_at.ensures.event c.loop-address.invariant.calls);
       leads = λ new.
@@ -127,7 +127,7 @@ loop-address-preserved g c =
       read = rw long (more-IsReadBack size nodes i node many next read c.loop-address.invariant.read);
       writable = rw long (subst (AllByRecursion (IsWritable size)) cut c.loop-address.invariant.writable).1;
       size = omega arith;
-      count = search rules;
+      count = c.in_ok-write_at.ensures.cause.fine ∙ c.loop-address.invariant.count;
     }
 
 pub returns-clause-front : goal.returns-clause-front

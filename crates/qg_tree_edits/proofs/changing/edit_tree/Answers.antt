@@ -1,9 +1,9 @@
 use Rattle.std.proofs.Common.{◌≡◌, ◌+◌, ◌*◌, ◌++◌, ℕ, suc, append_assoc, arith, sym, ap, subst, ◌∙◌, inr}
 use Rattle.std.proofs.Math.Nat.{mul-suc}
 use Rattle.std.proofs.lemmas.Result.{on_ok_weaker}
-use Rattle.std.specs.Prelude.{List, None, Option}
+use Rattle.std.specs.Prelude.{List, None}
 use Rattle.qg_num.specs.declared.fault.BlockFault.{BlockFault}
-use Rattle.qg_device.specs.History.{Event}
+use Rattle.qg_device.specs.History.{History}
 use Rattle.qg_blocks.specs.Told.{told}
 use Rattle.qg_edit.specs.Edits.{growth_of}
 use Rattle.qg_tree_edits.specs.First.{leaves, leaves_behind}
@@ -15,7 +15,7 @@ use Rattle.qg_tree_edits.proofs.Replaced.{done-both, edited-root, fit-root, low-
 use Rattle.qg_ground.proofs.Owners.{IsOwnedBy-after}
 use Rattle.qg_tree_edits.proofs.Naming.{names-other, names-weaker}
 use Rattle.qg_tree_edits.proofs.Rejoined.{unbroken-other}
-use Rattle.qg_tree_edits.proofs.Stepped.{cause-handed, cause-last}
+use Rattle.qg_device.proofs.Causes.{cause-handed, cause-last}
 use Rattle.qg_tree_edits.proofs.Unfit.{unfit-under}
 use Rattle.qg_tree_edits.specs.Failing.{CantGrow, FailsUnder, IsUnfit}
 use Rattle.qg_tree_edits.specs.declared.instead.Instead.{Instead}
@@ -80,14 +80,14 @@ returns-clause-edited g c items rooted can =
     below.edited in
     let stands = stands-root tree root land history edit items rooted can way.expected way.address expects there mid
     instead part drafted rests.rests.node_sizes short in
-    let stands_then = subst (λ (h : Option (List Event)). StandsForRoot tree root mid h instead part.items_new)
+    let stands_then = subst (λ (h : History). StandsForRoot tree root mid h instead part.items_new)
     (sym same) stands in
     let above = c.set_root.ensures.rooted part.items_new stands_then in
     record {
       edited = on_ok_weaker c.set_root.result
           (λ has. edited-root tree root land history edit items rooted can way.expected way.address expects there mid
           instead part drafted rests.rests.node_sizes short new after
-          (subst (λ (h : Option (List Event)). HasRoot tree root after mid new h instead part.items_new) same has))
+          (subst (λ (h : History). HasRoot tree root after mid new h instead part.items_new) same has))
           above.rooted;
       leaves = λ first clear.
           let none : instead.more ≡ None = c.in_ok-instead.ensures.part.whole (ap growth_of clear) in
@@ -98,7 +98,7 @@ returns-clause-edited g c items rooted can =
           ∙ ap (λ (n : ℕ). leaves_behind (leaves (told land.blocks.draft history) n way.address)) level
           ∙ ap (λ (a : ℕ). leaves_behind (leaves (told land.blocks.draft history) root.height a)) there in
           on_ok_weaker c.set_root.result
-          (λ kept. subst (λ (h : Option (List Event)). leaves (told new.blocks.draft h) after.height after.address
+          (λ kept. subst (λ (h : History). leaves (told new.blocks.draft h) after.height after.address
           ≡ leaves (told mid.blocks.draft h) root.height instead.now) same kept ∙ cleared)
           (above.leaves none);
       told = λ start log follows.
@@ -111,9 +111,9 @@ returns-clause-edited g c items rooted can =
                 (append_assoc log first.0 last.0) last.1,
             told-root tree root land history edit items rooted can way.expected way.address expects there mid instead
                 part drafted rests.rests.node_sizes short new after
-                (subst (λ (h : Option (List Event)). HasRoot tree root after mid new h instead part.items_new) same has)
+                (subst (λ (h : History). HasRoot tree root after mid new h instead part.items_new) same has)
                 later rests.rests first.0 last.0 part_told
-                (subst (λ (h : Option (List Event)). IsRootTold root after mid new h instead last.0) same last.2),
+                (subst (λ (h : History). IsRootTold root after mid new h instead last.0) same last.2),
           ))
           above.rooted (above.told start (log ++ first.0) first.1);
     }
@@ -178,7 +178,7 @@ returns-clause-fails g c =
           (c.in_ok-instead.ensures.edited items fit_there).edited in
           let stands = stands-root tree root land history edit items rooted can way.expected way.address expects there
           mid instead part drafted rests.rests.node_sizes c.requires.ready.1 in
-          let stands_then = subst (λ (h : Option (List Event)). StandsForRoot tree root mid h instead part.items_new)
+          let stands_then = subst (λ (h : History). StandsForRoot tree root mid h instead part.items_new)
           (sym rests.history) stands in
           fails.sound events (rests.history ∙ told_is) part.items_new stands_then
           (low-root tree root land history items drafted rooted);
@@ -186,7 +186,7 @@ returns-clause-fails g c =
           (IsUnfit tree root edit land new events) (λ rule address bad. record { is = inr bad })
           (fails.broken events (rests.history ∙ told_is));
       cause = cause-last (g.D.Disk.faults c.args.disk.now) (g.D.Disk.faults c.edit_under.new.disk)
-          (g.D.Disk.faults c.set_root.new.disk) c.set_root.result c.edit_under.ensures.fails.cause.later fails.cause;
+          (g.D.Disk.faults c.set_root.new.disk) c.set_root.result c.in_ok-instead.ensures.fails.cause.fine fails.cause;
     }
 
 -- ---- what is left so

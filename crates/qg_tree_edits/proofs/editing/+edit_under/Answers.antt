@@ -13,7 +13,7 @@ use Rattle.qg_blocks.specs.Told.{told}
 use Rattle.qg_blocks.proofs.Telling.{fresh-held}
 use Rattle.qg_edit.specs.Edits.{growth_of}
 use Rattle.qg_tree_edits.specs.declared.instead.Instead.{Instead}
-use Rattle.qg_device.specs.History.{Event}
+use Rattle.qg_device.specs.History.{History}
 use Rattle.qg_node.specs.declared.node.Node.TheVariants.{Inner}
 use Rattle.qg_tree_edits.specs.First.{leaves, leaves_behind}
 use Rattle.qg_tree_edits.specs.Editing.{IsFreshOn, IsPartEdited, IsPartFit, RestIsReady}
@@ -33,7 +33,7 @@ use Rattle.qg_tree_edits.proofs.PlacedTold.{ok-both}
 use Rattle.qg_tree_edits.proofs.Rejoined.{unbroken-other}
 use Rattle.qg_tree_edits.proofs.Served.{node-drafted, slots-most}
 use Rattle.qg_ground.proofs.Calls.{LeavesBe-after}
-use Rattle.qg_tree_edits.proofs.Stepped.{cause-handed, cause-last}
+use Rattle.qg_device.proofs.Causes.{cause-handed, cause-last}
 use Rattle.qg_tree_edits.proofs.Turning.{four-in-row}
 use Rattle.qg_ground.proofs.Owners.{IsOwnedBy-after}
 use Rattle.qg_tree_edits.proofs.Owners.{placed-owners}
@@ -421,7 +421,7 @@ returns-in_err-child-clause-fails g t c =
           drafted c.own.ensures.rests.rests.node_sizes node node_still c.peek.ensures c.peek-2.ensures place
           c.place_for-place.ensures below c.way_at-below.ensures in
           unbroken-other Instead Instead fault (c.in_err-child.ensures.fails.sound events (same ∙ told_is) mine
-          (subst (λ (h : Option (List Event)). IsPartFit tree root mid h low below.expected below.address edit mine)
+          (subst (λ (h : History). IsPartFit tree root mid h low below.expected below.address edit mine)
           (sym same) fit_low));
       broken = λ events told_is. names-other Instead Instead fault
           (FailsUnder tree root edit events low below.expected below.address mid new)
@@ -432,7 +432,7 @@ returns-in_err-child-clause-fails g t c =
           owned leads bad))
           (c.in_err-child.ensures.fails.broken events (same ∙ told_is));
       cause = cause-handed Instead Instead (g.D.Disk.faults c.args.disk.now) (g.D.Disk.faults c.own.new.disk)
-          (g.D.Disk.faults c.edit_under.new.disk) fault c.own.ensures.fails.cause.later
+          (g.D.Disk.faults c.edit_under.new.disk) fault c.in_ok-now.ensures.fails.cause.fine
           c.in_err-child.ensures.fails.cause;
     })
 
@@ -473,8 +473,8 @@ returns-in_err-rest-clause-fails g t c =
     c.peek-2.ensures c.place_for-place.ensures c.way_at-below.ensures in
     let fault = c.in_err-rest.field-0.0 in
     let fails = c.in_err-rest.ensures.fails in
-    let first = c.own.ensures.fails.cause.later in
-    let second = c.edit_under.ensures.fails.cause.later in
+    let first = c.in_ok-now.ensures.fails.cause.fine in
+    let second = c.in_ok-child.ensures.fails.cause.fine in
     rw (p.1, p.2) (record {
       sound = λ events told_is items fit.
           let fit_up : IsPartFit tree root land history (suc low) expected at edit items =
@@ -517,9 +517,9 @@ returns-clause-fails g t c =
     let same : set_history ≡ history =
     c.settle.ensures.rests.history ∙ c.edit_under.ensures.rests.history ∙ c.own.ensures.rests.history in
     let fails = c.place_rest.ensures.fails in
-    let first = c.own.ensures.fails.cause.later in
-    let second = c.edit_under.ensures.fails.cause.later in
-    let third = c.settle.ensures.fails.cause.later in
+    let first = c.in_ok-now.ensures.fails.cause.fine in
+    let second = c.in_ok-child.ensures.fails.cause.fine in
+    let third = c.in_ok-rest.ensures.fails.cause.fine in
     record {
       sound = λ events told_is items fit. fails.sound events (same ∙ told_is);
       broken = λ events told_is. names-none c.place_rest.result

@@ -24,7 +24,7 @@ use Rattle.qg_tree_edits.proofs.Paired.{owned-levelled}
 use Rattle.qg_tree_edits.proofs.Rejoined.{unbroken-other}
 use Rattle.qg_tree_edits.proofs.Served.{fresh-leaf, sizes-drafted, slots-most}
 use Rattle.qg_ground.proofs.Calls.{LeavesBe-after}
-use Rattle.qg_tree_edits.proofs.Stepped.{cause-handed, cause-last, cause-none}
+use Rattle.qg_device.proofs.Causes.{cause-handed, cause-last, cause-none}
 use Rattle.qg_descent.proofs.Under.{under-leaf}
 use Rattle.qg_ground.proofs.Owners.{IsOwnedBy-after}
 use Rattle.qg_tree_edits.proofs.Owners.{placed-owners, rewritten-owners}
@@ -255,7 +255,7 @@ returns-in_err-rest-clause-fails g c =
           told_is owned bad)
           (c.in_err-rest.ensures.fails.broken owned.mine owned.here);
       cause = cause-none (Option Node) Instead (g.D.Disk.faults c.args.disk.now) (g.D.Disk.faults c.own.new.disk) fault
-          c.own.ensures.fails.cause.later c.in_err-rest.ensures.fails.no_disk;
+          c.in_ok-now.ensures.fails.cause.fine c.in_err-rest.ensures.fails.no_disk;
     })
 
 pub returns-clause-fails : goal.returns-clause-fails
@@ -268,7 +268,7 @@ returns-clause-fails g c =
           c.args.way.now.address c.args.land.now c.place_rest.new.land)
           (fails.sound events (c.own.ensures.rests.history ∙ told_is));
       cause = cause-last (g.D.Disk.faults c.args.disk.now) (g.D.Disk.faults c.own.new.disk)
-          (g.D.Disk.faults c.place_rest.new.disk) c.place_rest.result c.own.ensures.fails.cause.later fails.cause;
+          (g.D.Disk.faults c.place_rest.new.disk) c.place_rest.result c.in_ok-now.ensures.fails.cause.fine fails.cause;
     }
 
 -- ---- what is left so

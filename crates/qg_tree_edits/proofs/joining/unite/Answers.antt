@@ -12,7 +12,7 @@ use Rattle.qg_tree_edits.proofs.United.{between-backed, both-backed, both-rests,
 use Rattle.qg_tree_edits.proofs.United.{later-spares}
 use Rattle.qg_tree_edits.proofs.Naming.{names-none_other, names-other}
 use Rattle.qg_tree_edits.proofs.Rejoined.{unbroken-other}
-use Rattle.qg_tree_edits.proofs.Stepped.{cause-handed, cause-none}
+use Rattle.qg_device.proofs.Causes.{cause-handed, cause-none}
 use Rattle.qg_tree_edits.specs.Failing.{ArentJoined}
 use Rattle.qg_shape.specs.declared.joining.Joined.{Joined}
 use Rattle.qg_tree_edits.proofs.joining.unite.Goals as goal
@@ -148,7 +148,7 @@ returns-in_ok-leave_node-in-Whole-clause-fails g c =
     record {
       sound = λ events is a b here there front short short'. tt;
       broken = λ events is a b here there. tt;
-      cause = record { later = cause.later; rose = λ is. absurd cc };
+      cause = record { fine = cause.fine; met = tt };
     }
 
 pub returns-in_ok-leave_node-in-Whole-clause-drafted : goal.returns-in_ok-leave_node-in-Whole-clause-drafted

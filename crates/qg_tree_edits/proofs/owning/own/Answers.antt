@@ -1,6 +1,6 @@
-use Rattle.std.proofs.Common.{◌≡◌, ℕ, List, arith, refl, sym, ap, subst, ◌∙◌, Option, Some}
+use Rattle.std.proofs.Common.{◌≡◌, ℕ, List, arith, refl, sym, ap, subst, ◌∙◌, Some}
 use Rattle.std.proofs.lemmas.Result.{IfOk-weaker, err_from_is_err_and, on_ok_weaker}
-use Rattle.qg_device.specs.History.{Event}
+use Rattle.qg_device.specs.History.{History}
 use Rattle.qg_blocks.specs.Held.{Draft}
 use Rattle.qg_blocks.specs.Told.{fresh_at, told}
 use Rattle.qg_ground.specs.declared.ground.Ground.{Ground}
@@ -9,7 +9,7 @@ use Rattle.qg_ground.proofs.Lands.{Rests-after, Rests-draft}
 use Rattle.qg_ground.proofs.Settling.{KeepsLevels-draft}
 use Rattle.qg_tree_edits.proofs.Owned.{IsOwned-visited, owned-unbroken}
 use Rattle.qg_tree_edits.proofs.Rejoined.{unbroken-other}
-use Rattle.qg_tree_edits.proofs.Stepped.{cause-handed, cause-last}
+use Rattle.qg_device.proofs.Causes.{cause-handed, cause-last}
 use Rattle.qg_tree_edits.proofs.ToldOwned.{tells-owned}
 use Rattle.qg_ground.proofs.Owners.{IsOwnedBy-after, IsOwnedBy-draft, IsOwnedBy-owned}
 use Rattle.qg_tree_edits.proofs.Naming.{names-none, names-refused}
@@ -65,7 +65,7 @@ returns-clause-owned g c =
 
 pub returns-clause-told : goal.returns-clause-told
 returns-clause-told g c node there taken before log follows =
-    let told_then = subst (λ (h : Option (List Event)). told c.visit.new.blocks.draft h c.args.way.now.address ≡ Some
+    let told_then = subst (λ (h : History). told c.visit.new.blocks.draft h c.args.way.now.address ≡ Some
     node) (sym c.visit.ensures.read.history) (ap (λ (d : Draft). told d (g.D.Disk.history c.args.disk.now)
     c.args.way.now.address) c.visit.ensures.read.draft ∙ there) in
     tells-owned _ (g.B.Book.follows before) c.args.book.now c.own_node.new.book log node c.args.way.now.address
@@ -107,7 +107,7 @@ returns-clause-fails g c =
           (g.D.Disk.history c.visit.new.disk) (g.D.Disk.history c.args.disk.now) at visited.node read.draft read.history
           (λ some. (c.own_node.ensures.same some).0) c.own_node.ensures.fails.answers (visited.tells events told_is));
       cause = cause-last (g.D.Disk.faults c.args.disk.now) (g.D.Disk.faults c.visit.new.disk)
-          (g.D.Disk.faults c.own_node.new.disk) c.own_node.result c.visit.ensures.cause.later
+          (g.D.Disk.faults c.own_node.new.disk) c.own_node.result c.in_ok-visit.ensures.cause.fine
           c.own_node.ensures.fails.cause;
     }
 

@@ -1,6 +1,6 @@
 use Rattle.std.proofs.lemmas.Result.{err_from_is_err_and}
 use Rattle.std.specs.Prelude.{length}
-use Rattle.std.proofs.Common.{◌≡◌, arith, rules, sym, subst, ◌∙◌, ℕ, refl, inl, inr}
+use Rattle.std.proofs.Common.{◌≡◌, arith, rules, sym, subst, ◌∙◌, ℕ, Err, refl, inl, inr}
 use Rattle.std.proofs.lemmas.Bool.{eqb-true}
 use Rattle.qg_node.specs.declared.node.Node.{Node}
 use Rattle.qg_node.specs.declared.node.Node.TheVariants.{Inner}
@@ -12,7 +12,7 @@ use Rattle.qg_tree_edits.specs.Editing.{IsBeside}
 use Rattle.qg_tree_edits.proofs.Beside.{beside-apart}
 use Rattle.qg_tree_edits.proofs.Rejoined.{unbroken-other}
 use Rattle.qg_tree_edits.proofs.Served.{fresh-inner}
-use Rattle.qg_tree_edits.proofs.Stepped.{cause-handed}
+use Rattle.qg_device.proofs.Causes.{cause-handed, cause-other}
 use Rattle.qg_tree_edits.proofs.ToldBeside.{beside-judged, beside-taken, beside-told, paired-behind, paired-front}
 use Rattle.qg_tree_edits.proofs.Naming.{names-other}
 use Rattle.qg_tree_edits.proofs.Unfit.{beside-child, misread-same}
@@ -81,7 +81,8 @@ returns-in_default-clause-fails g c =
           let lone : length (own_pointers node) ≡ 1 =
           subst (λ (n : Node). length (own_pointers n) ≡ 1) same c.in_default.ensures in
           rw c.unfit.ensures (inl (lone, refl, refl));
-      cause = search rules;
+      cause = cause-other (g.D.Disk.faults c.args.disk.now) (g.D.Disk.faults c.args.disk.now) (Err c.unfit.result)
+          (omega arith) (λ is. let unfit = c.unfit.ensures in cc);
     }
 
 pub returns-in_err-other-clause-fails : goal.returns-in_err-other-clause-fails
@@ -131,7 +132,6 @@ returns-then-eq-clause-fails g c =
     let other = c.in_ok-other.other in
     let owned = c.in_ok-other.ensures.owned.is in
     let equal = eqb-true other c.args.child (sym c.eq.ensures ∙ c.if-eq.true) in
-    let later = c.own.ensures.fails.cause.later in
     record {
       sound = λ items un.
           let same = fresh-held land.blocks c.args.at (Inner un.header un.pointers) c.peek.result.now un.here
@@ -147,5 +147,7 @@ returns-then-eq-clause-fails g c =
           let child = beside-child tree root land new history beside.way.expected beside.way.address other c.args.child
           c.args.level root.next c.requires.editable.drafted fresh owned equal in
           rw c.unfit-then-eq.ensures (inr (beside, is, inr (child, refl, refl)));
-      cause = search rules;
+      cause = cause-other (g.D.Disk.faults c.args.disk.now) (g.D.Disk.faults c.own.new.disk)
+          (Err c.unfit-then-eq.result) c.in_ok-other.ensures.fails.cause.fine
+          (λ is. let unfit = c.unfit-then-eq.ensures in cc);
     }

@@ -1,4 +1,4 @@
-use Rattle.std.proofs.Common.{◌≡◌, ◌+◌, ℕ, [], ◌∷◌, add-one, refl, sym, ap, subst, ◌∙◌, inl, arith, rules}
+use Rattle.std.proofs.Common.{◌≡◌, ◌+◌, ℕ, [], ◌∷◌, add-one, refl, sym, ap, subst, ◌∙◌, inl, Err, arith}
 use Rattle.std.proofs.lemmas.Result.{err_from_is_err_and}
 use Rattle.qg_node.specs.declared.node.Node.{Node}
 use Rattle.qg_node.specs.Nodes.{header_of}
@@ -17,7 +17,7 @@ use Rattle.qg_tree_edits.proofs.Rejoined.{unbroken-other}
 use Rattle.qg_tree_edits.proofs.Served.{size-drafted}
 use Rattle.qg_ground.proofs.Owners.{IsOwnedBy-draft, IsOwnedBy-made}
 use Rattle.qg_tree_edits.proofs.Naming.{names-none_other, names-other}
-use Rattle.qg_tree_edits.proofs.Stepped.{cause-handed, cause-none}
+use Rattle.qg_device.proofs.Causes.{cause-handed, cause-none, cause-other}
 use Rattle.qg_tree_edits.specs.Rooting.{StaysTree}
 use Rattle.qg_tree_edits.proofs.Unfit.{cant-grow}
 use Rattle.qg_tree_edits.specs.Failing.{CantGrow}
@@ -115,7 +115,8 @@ returns-then-height-ge-HIGHEST-clause-fails g c =
         refs = refl;
         high = inl (omega (arith, high, enough));
       };
-      cause = search rules;
+      cause = cause-other (g.D.Disk.faults c.args.disk.now) (g.D.Disk.faults c.args.disk.now) (Err _) (omega arith)
+          (λ is. cc);
     }
 
 pub returns-in_err-node-clause-fails : goal.returns-in_err-node-clause-fails

@@ -18,7 +18,7 @@ use Rattle.qg_tree_edits.proofs.Levels.{rewritten-empties}
 use Rattle.qg_tree_edits.proofs.Served.{node-drafted, size-drafted}
 use Rattle.qg_tree_edits.specs.Counting.{IsRootTold}
 use Rattle.qg_tree_edits.proofs.Shrunk.{lone-high, lone-is, stood, sunk, sunk-leaves, told-stood, told-sunk}
-use Rattle.qg_tree_edits.proofs.Stepped.{cause-handed}
+use Rattle.qg_device.proofs.Causes.{cause-handed}
 use Rattle.qg_tree_edits.proofs.United.{fresh-unbroken}
 use Rattle.qg_ground.proofs.Owners.{IsOwnedBy-after, IsOwnedBy-draft, IsOwnedBy-left}
 use Rattle.qg_tree_edits.proofs.Owners.{rewritten-owners}

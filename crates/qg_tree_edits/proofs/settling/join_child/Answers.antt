@@ -24,7 +24,7 @@ use Rattle.qg_tree_edits.proofs.RejoinedSettled.{rejoined-settled}
 use Rattle.qg_tree_edits.proofs.RejoinedTold.{rejoined-told}
 use Rattle.qg_tree_edits.proofs.Served.{fresh-inner, instead-named, node-drafted, places-few, size-drafted}
 use Rattle.qg_tree_edits.proofs.Served.{sizes-drafted, slots-none}
-use Rattle.qg_tree_edits.proofs.Stepped.{cause-handed}
+use Rattle.qg_device.proofs.Causes.{cause-handed, cause-other}
 use Rattle.qg_ground.proofs.Owners.{IsOwnedBy-after}
 use Rattle.qg_tree_edits.proofs.Owners.{rewritten-owners, united-owners}
 use Rattle.qg_tree_edits.proofs.Naming.{names-other, names-weaker}
@@ -302,7 +302,7 @@ returns-in_err-instead-clause-fails g c =
           (c.in_err-instead.ensures.fails.broken events (same ∙ told_is) both.a both.b both.left_here both.right_here);
       cause = cause-handed Instead (Option Node) (g.D.Disk.faults c.args.disk.now)
           (g.D.Disk.faults c.own_neighbour.new.disk) (g.D.Disk.faults c.unite.new.disk) fault
-          c.own_neighbour.ensures.fails.cause.later c.in_err-instead.ensures.fails.cause;
+          c.in_ok-pair.ensures.fails.cause.fine c.in_err-instead.ensures.fails.cause;
     })
 
 pub returns-clause-fails : goal.returns-clause-fails
@@ -333,8 +333,8 @@ returns-clause-fails g c =
     let after = (c.unite.ensures.drafted root.next rests.drafted).rests in
     let united = c.in_ok-instead.ensures.united in
     let paired = c.in_ok-pair.ensures.paired.is mine at_first in
-    let first = c.own_neighbour.ensures.fails.cause.later in
-    let second = c.unite.ensures.fails.cause.later in
+    let first = c.in_ok-pair.ensures.fails.cause.fine in
+    let second = c.in_ok-instead.ensures.fails.cause.fine in
     record {
       sound = λ events told items un.
           let can = rejoined-can tree root land mid both history later last level at to place child items un pair
@@ -356,7 +356,8 @@ returns-clause-fails g c =
           (c.lead_to.ensures.fails.broken mine there) in
           subst (λ (n : Node). NamesOnly (CantSettle tree root new events n at to level place child) c.lead_to.result)
           (same_node (fresh_at land.blocks.draft at) mine node at_first here) names;
-      cause = record { later = omega (arith, first, second); rose = λ is. absurd (c.lead_to.ensures.fails.no_disk is) };
+      cause = cause-other (g.D.Disk.faults c.args.disk.now) (g.D.Disk.faults c.unite.new.disk) c.lead_to.result
+          (omega (arith, first, second)) c.lead_to.ensures.fails.no_disk;
     }
 
 -- ---- what is left so

@@ -1,6 +1,7 @@
 use Rattle.std.proofs.Common.{◌+◌, ℕ, [], ◌∙◌, append-nil, arith, refl, subst, sym, inr}
 use Rattle.std.specs.Prelude.{List}
 use Rattle.std.proofs.lemmas.Result.{IfOk-weaker}
+use Rattle.qg_device.proofs.Causes.{cause-other}
 use Rattle.qg_node.specs.declared.item.Item.{Item}
 use Rattle.qg_shape.specs.Filled.{IsThin}
 use Rattle.qg_ground.specs.Tellings.{Telling}
@@ -201,7 +202,8 @@ returns-clause-fails g c =
           (c.lead_to.ensures.fails.broken mine there) in
           subst (λ (n : Node). NamesOnly (CantSettle tree root new events n at to level place child.now)
           c.lead_to.result) (same_node (fresh_at land.blocks.draft at) mine node there here) names;
-      cause = record { later = omega arith; rose = λ is. absurd (c.lead_to.ensures.fails.no_disk is) };
+      cause = cause-other (g.D.Disk.faults c.args.disk.now) (g.D.Disk.faults c.args.disk.now) c.lead_to.result
+          (omega arith) c.lead_to.ensures.fails.no_disk;
     }
 
 -- ---- what is left so

@@ -1,4 +1,5 @@
 use Rattle.std.specs.Prelude.{None}
+use Rattle.qg_device.specs.History.{Unrecorded}
 use Rattle.qg_ground.specs.declared.ground.Ground.{Ground}
 use Rattle.qg_tree_refs.proofs.Going.{GivesBack-gone, Rests-gone}
 use Rattle.qg_tree_refs.proofs.book.let_go.Goals as goal
@@ -12,5 +13,5 @@ pub returns-clause-rests : goal.returns-clause-rests
 returns-clause-rests c history generation backed drafted =
     let new : Ground = record { blocks = c.forget.new.self; space = c.give_back.new.space } in
     Rests-gone c.args.land.now new c.args.at c.forget.ensures.draft c.give_back.ensures history generation
-    c.forget.ensures.gone (c.forget.ensures.told None) c.forget.ensures.bound
+    c.forget.ensures.gone (c.forget.ensures.told (Unrecorded 0)) c.forget.ensures.bound
     (c.forget.ensures.backed history backed) drafted

@@ -1,4 +1,5 @@
-use Rattle.std.proofs.Common.{◌≡◌, Some, sym, ◌∙◌}
+use Rattle.std.proofs.Common.{◌≡◌, Some, Err, sym, ◌∙◌}
+use Rattle.qg_device.proofs.Causes.{cause-other}
 use Rattle.qg_device.specs.History.{content}
 use Rattle.qg_image.specs.Walk.{node_found}
 use Rattle.qg_walk.specs.declared.fault.OpenFault.TheVariants.{Disk}
@@ -17,8 +18,7 @@ returns-in-Some-clause-failure g c = λ events told.
     TellsFailure-of c.from.result c.in-Some.failure _ c.from.ensures is
 
 pub returns-in-Some-clause-cause : goal.returns-in-Some-clause-cause
-returns-in-Some-clause-cause g c = record {
-  later = c.in_ok-node.ensures.cause.later;
-  rose = λ is. let disk : c.from.result ≡ Disk = cc in
-      absurd (told-no_disk c.from.result c.in-Some.failure c.from.ensures disk);
-}
+returns-in-Some-clause-cause g c =
+    cause-other (g.D.Disk.faults c.args.disk.now) (g.D.Disk.faults c.node_at.new.disk) (Err c.from.result)
+    c.in_ok-node.ensures.cause.fine
+    (λ is. let disk : c.from.result ≡ Disk = cc in told-no_disk c.from.result c.in-Some.failure c.from.ensures disk)

@@ -1,6 +1,6 @@
 use Rattle.std.proofs.Common.{◌≡◌, ℕ, ◌≤◌, ◌+◌, ◌-◌, List, ◌*◌, ◌<◌, ◌∷◌, Some, None, map, arith, refl, sym, ◌∙◌}
 use Rattle.std.proofs.lemmas.Result.{err_from_is_err_and, on_ok_weaker}
-use Rattle.qg_device.specs.History.{Event, content}
+use Rattle.qg_device.specs.History.{Event, Recorded, content}
 use Rattle.qg_image.specs.Walk.{next_key, node_failure, node_found, walk_failure}
 use Rattle.qg_node.specs.declared.node.Node.TheVariants.{Inner}
 use Rattle.qg_walk.specs.Standing.{expected_below}
@@ -130,7 +130,7 @@ walk_pointers-pointers-preserved g t c =
     let others = c.in-Some.others.now in
     let rest = c.in-Some.ensures.cases.0 in
     let spaced : AreSpaced from to (pointer ∷ others) = rw rest at c.pointers.invariant.spaced in
-    let passes : (events : List Event) (depth : ℕ) → g.D.Disk.history c.args.disk.now ≡ Some events → level ≤ depth
+    let passes : (events : List Event) (depth : ℕ) → g.D.Disk.history c.args.disk.now ≡ Recorded events → level ≤ depth
     → walk_failure (node_failure tree super) (node_found super (content events)) depth
     (expected_below level to pointer others) pointer.child ≡ None =
     λ events depth told low. rw c.expected_below-below.ensures at
@@ -145,7 +145,7 @@ walk_pointers-pointers-preserved g t c =
     record {
       history = c.in_ok-walk.ensures.history ∙ c.pointers.invariant.history;
       size = c.in_ok-walk.ensures.size ∙ c.pointers.invariant.size;
-      count = omega (arith, c.in_ok-walk.ensures.cause.later, c.pointers.invariant.count);
+      count = omega (arith, c.in_ok-walk.ensures.cause.fine, c.pointers.invariant.count);
       spaced = spaced.2;
       failure = λ events depth told low.
           sym (pointers-passed (walk_failure (node_failure tree super) (node_found super (content events)) depth) level

@@ -1,5 +1,5 @@
-use Rattle.std.proofs.Common.{◌≡◌, ℕ, ◌+◌, ◌*◌, ◌≤◌, List, length, Some}
-use Rattle.qg_device.specs.History.{Event, content}
+use Rattle.std.proofs.Common.{◌≡◌, ℕ, ◌+◌, ◌*◌, ◌≤◌, List, length}
+use Rattle.qg_device.specs.History.{Event, Recorded, content}
 use Rattle.qg_image.specs.Walk.{node_failure, node_found, pointers_failure, walk_failure}
 use Rattle.qg_walk.specs.Added.{AreSpaced, found_by}
 use Rattle.qg_walk.proofs.Failures.{height}
@@ -16,10 +16,10 @@ abbrev pub invariant-walk_pointers-pointers : goal.invariant-walk_pointers-point
 invariant-walk_pointers-pointers g l = record {
   history : g.D.Disk.history l.disk ≡ g.D.Disk.history l.initial.disk;
   size : g.D.Disk.size l.disk ≡ g.D.Disk.size l.initial.disk;
-  count : g.D.Disk.faults l.initial.disk ≤ g.D.Disk.faults l.disk;
+  count : g.D.Disk.faults l.disk ≡ g.D.Disk.faults l.initial.disk;
   spaced : AreSpaced l.expected.from l.expected.to l.rest;
   failure :
-      (events : List Event) (depth : ℕ) → g.D.Disk.history l.initial.disk ≡ Some events → l.level ≤ depth
+      (events : List Event) (depth : ℕ) → g.D.Disk.history l.initial.disk ≡ Recorded events → l.level ≤ depth
       → pointers_failure (walk_failure (node_failure g.P.TreePart.tree l.superblock)
       (node_found l.superblock (content events)) depth) l.level l.expected.to l.rest
       ≡ pointers_failure (walk_failure (node_failure g.P.TreePart.tree l.superblock)

@@ -1,7 +1,7 @@
 use Rattle.std.proofs.Common.{◌∙◌, sym, ap, subst, nat_eq, refl, List, ℕ}
 use Rattle.std.specs.Prelude.{Option}
 use Rattle.std.proofs.lemmas.Result.{on_ok_weaker, on_err_weaker}
-use Rattle.qg_device.specs.History.{Event, content}
+use Rattle.qg_device.specs.History.{History, content}
 use Rattle.qg_node.specs.declared.node.Node.{Node}
 use Rattle.qg_blocks.specs.Held.{Held}
 use Rattle.qg_blocks.specs.Standing.{standing}
@@ -77,7 +77,7 @@ returns-clause-stays g c = record {
 
 pub returns-clause-lent : goal.returns-clause-lent
 returns-clause-lent g c =
-    let backed = subst (λ (history : Option (List Event)). IsBacked c.fetch.new.self history) c.fetch.ensures.disk.0
+    let backed = subst (λ (history : History). IsBacked c.fetch.new.self history) c.fetch.ensures.disk.0
     c.fetch.ensures.stays.backed in
     on_ok_weaker c.fetch.result
     (λ held. IsAtHand-backed c.fetch.new.self c.args.self.now.draft (g.D.Disk.history c.args.disk.now) c.args.address

@@ -14,7 +14,7 @@ leaves-init g c =
     record {
       read = c.in_ok-next.ensures.read;
       readable = c.in_ok-next.ensures.readable;
-      count = omega (arith, c.in_ok-next.ensures.cause.later);
+      count = omega (arith, c.in_ok-next.ensures.cause.fine);
       upto = c.in_ok-next.ensures.further.upto;
       there = λ whole tells. (c.in_ok-next.ensures.found whole tells).further;
       part = λ whole tells. gathered-part from from to whole c.new-found.result c.gather.new.found c.in_ok-next.next
@@ -54,7 +54,7 @@ leaves-preserved g c =
           (g.D.Disk.size c.args.disk.now) (g.D.Disk.size c.leaves.disk) (g.D.Disk.size c.gather-in-Some.new.disk)
           c.leaves.invariant.read c.in_ok-next-2.ensures.read;
       readable = c.in_ok-next-2.ensures.readable;
-      count = omega (arith, c.in_ok-next-2.ensures.cause.later, c.leaves.invariant.count);
+      count = omega (arith, c.in_ok-next-2.ensures.cause.fine, c.leaves.invariant.count);
       upto = c.in_ok-next-2.ensures.further.upto;
       there = λ whole tells. (after whole tells).further;
       part = λ whole tells. gathered-part from first to whole c.leaves.found c.gather-in-Some.new.found

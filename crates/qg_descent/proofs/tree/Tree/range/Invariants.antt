@@ -12,7 +12,7 @@ invariant-leaves g l = record {
   read : HasRead l.fn.blocks l.blocks (g.D.Disk.history l.fn.disk) (g.D.Disk.history l.disk) (g.D.Disk.size l.fn.disk)
       (g.D.Disk.size l.disk);
   readable : IsReadable l.blocks (g.D.Disk.history l.disk) (g.D.Disk.size l.disk);
-  count : g.D.Disk.faults l.fn.disk ≤ g.D.Disk.faults l.disk;
+  count : g.D.Disk.faults l.disk ≡ g.D.Disk.faults l.fn.disk;
   upto : IfSome l.next (λ key. is_upto l.to key ≡ true);
   there : (whole : List Item)
       → TellsTree g.P.TreePart.tree l.fn.self l.fn.blocks.draft (g.D.Disk.history l.fn.disk) whole

@@ -1,7 +1,6 @@
 use Rattle.std.proofs.Common.{◌≡◌, ◌-◌, ◌<◌, ℕ, suc, Some, None, List, length, arith, refl, sym, ap, subst, ◌∙◌}
-use Rattle.std.specs.Prelude.{Option}
 use Rattle.std.proofs.lemmas.Result.{err_from_is_err_and}
-use Rattle.qg_device.specs.History.{Event}
+use Rattle.qg_device.specs.History.{History, Recorded}
 use Rattle.qg_node.specs.declared.node.Node.{Node}
 use Rattle.qg_node.specs.Nodes.{header_of, own_pointers}
 use Rattle.qg_image.specs.declared.expected.Expected.{Expected}
@@ -91,16 +90,16 @@ down-preserved g c =
           (g.D.Disk.size c.args.disk.now) (g.D.Disk.size c.down.disk) (g.D.Disk.size c.visit.new.disk)
           c.down.invariant.read c.in_ok-visit.ensures.read;
       readable = c.in_ok-visit.ensures.readable;
-      count = omega (arith, c.in_ok-visit.ensures.cause.later, c.down.invariant.count);
+      count = omega (arith, c.in_ok-visit.ensures.cause.fine, c.down.invariant.count);
       steps = omega (arith, c.in_ok-visit.ensures.reads, c.down.invariant.steps);
       low = omega (arith, c.down.invariant.low);
       levelled = ap (λ (e : Expected). e.level) leads.expects;
       past = leads-past c.args.key (own_pointers visited.node) way.expected.to (c.down.level - 1) c.next_way-way.result
           leads c.down.invariant.past;
       comes = λ events is.
-          let there = subst (λ (h : Option (List Event)). told draft h way.address ≡ Some visited.node) is
+          let there = subst (λ (h : History). told draft h way.address ≡ Some visited.node) is
           (visited.tells events is) in
-          comes-step tree (super_of root draft) (told draft (Some events)) (root_expected (Some root.height) None)
+          comes-step tree (super_of root draft) (told draft (Recorded events)) (root_expected (Some root.height) None)
           root.address (root.height - c.down.level) (root.height - (c.down.level - 1))
           way.expected c.next_way-way.result.expected way.address c.next_way-way.result.address visited.node more
           (c.down.invariant.comes events is) there visited.formed

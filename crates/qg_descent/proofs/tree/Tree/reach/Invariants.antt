@@ -1,5 +1,5 @@
 use Rattle.std.proofs.Common.{◌≡◌, ◌+◌, ◌-◌, ◌≤◌, true, List, None, Some}
-use Rattle.qg_device.specs.History.{Event}
+use Rattle.qg_device.specs.History.{Event, Recorded}
 use Rattle.qg_node.specs.declared.item.Item.{Item}
 use Rattle.qg_image.specs.Walk.{root_expected}
 use Rattle.qg_walk.specs.Added.{is_to}
@@ -14,13 +14,13 @@ invariant-down g l = record {
   read : HasRead l.fn.blocks l.blocks (g.D.Disk.history l.fn.disk) (g.D.Disk.history l.disk) (g.D.Disk.size l.fn.disk)
       (g.D.Disk.size l.disk);
   readable : IsReadable l.blocks (g.D.Disk.history l.disk) (g.D.Disk.size l.disk);
-  count : g.D.Disk.faults l.fn.disk ≤ g.D.Disk.faults l.disk;
+  count : g.D.Disk.faults l.disk ≡ g.D.Disk.faults l.fn.disk;
   steps : l.reads + l.level ≡ l.fn.reads + l.fn.self.height;
   low : l.level ≤ l.fn.self.height;
   levelled : l.way.expected.level ≡ Some l.level;
   past : is_to l.way.expected.to l.fn.key ≡ true;
-  comes : (events : List Event) → g.D.Disk.history l.fn.disk ≡ Some events
-      → ComesTo g.P.TreePart.tree (super_of l.fn.self l.fn.blocks.draft) (told l.fn.blocks.draft (Some events))
+  comes : (events : List Event) → g.D.Disk.history l.fn.disk ≡ Recorded events
+      → ComesTo g.P.TreePart.tree (super_of l.fn.self l.fn.blocks.draft) (told l.fn.blocks.draft (Recorded events))
       (root_expected (Some l.fn.self.height) None) l.fn.self.address
       (l.fn.self.height - l.level) l.way.expected l.way.address;
   on : (whole : List Item) → TellsTree g.P.TreePart.tree l.fn.self l.fn.blocks.draft (g.D.Disk.history l.fn.disk) whole

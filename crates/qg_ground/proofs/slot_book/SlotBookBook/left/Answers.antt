@@ -1,5 +1,6 @@
 use Rattle.std.proofs.Common.{ap}
 use Rattle.std.specs.Prelude.{None}
+use Rattle.qg_device.specs.History.{Unrecorded}
 use Rattle.qg_blocks.specs.Held.{Draft}
 use Rattle.qg_blocks.specs.Told.{fresh_at}
 use Rattle.qg_ground.specs.declared.ground.Ground.{Ground}
@@ -13,5 +14,5 @@ returns-clause-rests g c generation drafted =
     (ap (λ (d : Draft). d.sizes) c.forget.ensures.draft) c.forget.ensures.bound c.give_back.ensures
     (none_first (fresh_at new.blocks.draft c.args.at) _ c.forget.ensures.gone)
     (λ other differ. fresh_at-told c.args.land.now.blocks.draft new.blocks.draft other
-    (c.forget.ensures.told None other differ))
+    (c.forget.ensures.told (Unrecorded 0) other differ))
     (c.forget.ensures.backed (g.D.Disk.history c.args._disk.now) c.requires.backed) drafted

@@ -1,3 +1,4 @@
+use Rattle.qg_program.proofs.Stopped.{tells-failure, tells-image, tells-why}
 use Rattle.qg_program.proofs.session.Session.apply.Goals as goal
 
 pub returns-in-Ok-clause-step : goal.returns-in-Ok-clause-step
@@ -14,3 +15,18 @@ returns-in-Err-clause-so_far g c =
 pub returns-in-Err-clause-sound : goal.returns-in-Err-clause-sound
 returns-in-Err-clause-sound g c = λ state events stands known.
     c.end_of.ensures.sound (c.in-Err.ensures.machine state events stands known).sound
+
+-- ---- a stop by what was read
+
+pub returns-in-Err-clause-told : goal.returns-in-Err-clause-told
+returns-in-Err-clause-told g c = λ is.
+    tells-failure c.in-Err.stop c.end_of.new.text (c.end_of.ensures.told is)
+
+pub returns-in-Err-clause-why : goal.returns-in-Err-clause-why
+returns-in-Err-clause-why g c = λ is.
+    tells-why c.in-Err.stop c.end_of.new.text c.args.command.now _ _ _ _ c.in-Err.ensures.stops
+    (c.end_of.ensures.told is)
+
+pub returns-in-Err-clause-intact : goal.returns-in-Err-clause-intact
+returns-in-Err-clause-intact g c = λ is.
+    c.in-Err.ensures.intact (tells-image c.in-Err.stop c.end_of.new.text (c.end_of.ensures.told is))

@@ -1,6 +1,7 @@
-use Rattle.std.proofs.Common.{◌≡◌, ◌∙◌, ◌<◌, inl, List, None, Option, false, true, ap, refl, subst, sym}
+use Rattle.std.proofs.Common.{◌≡◌, ◌∙◌, ◌<◌, inl, List, None, false, true, ap, refl, subst, sym}
 use Rattle.std.specs.Prelude.{Err}
-use Rattle.qg_device.specs.History.{Event}
+use Rattle.std.proofs.lemmas.Bool.{true≢false}
+use Rattle.qg_device.specs.History.{History}
 use Rattle.qg_num.specs.Fault.{stop_of}
 use Rattle.qg_num.specs.declared.answer.Answer.{Answer}
 use Rattle.qg_num.specs.declared.command.Command.{Command}
@@ -8,10 +9,10 @@ use Rattle.qg_num.specs.declared.command.Command.TheVariants.{Commit}
 use Rattle.qg_num.specs.declared.fault.BlockFault.{BlockFault}
 use Rattle.qg_num.specs.declared.fault.BlockFault.TheVariants.{Disk, Image, NoMemory}
 use Rattle.qg_image.specs.State.{State}
-use Rattle.qg_blocks.specs.Told.{BreaksNone}
+use Rattle.qg_blocks.specs.Told.{BreaksNone, IfBroken}
 use Rattle.qg_kept_commit.specs.Answering.{comes_to_disk}
 use Rattle.qg_kept_commit.specs.Keeping.{IsKeptOf}
-use Rattle.qg_kept_commit.specs.Stored.{ComesToDisk, IsStoreOf, Stored, is_of_image}
+use Rattle.qg_kept_commit.specs.Stored.{ComesToDisk, IsIntact, IsStoreOf, Stored, is_of_image}
 use Rattle.qg_store.proofs.Outlived.{outlives}
 use Rattle.qg_store.proofs.store.Store.apply.Goals as goal
 
@@ -22,7 +23,7 @@ of-no-rule Disk none = refl
 of-no-rule (Image rule address) none = absurd none
 
 -- what a store that is of a state keeps, is kept of it
-kept-in : (inside store : Stored) (state : State) (history : Option (List Event)) → inside ≡ store
+kept-in : (inside store : Stored) (state : State) (history : History) → inside ≡ store
     → IsStoreOf store state history → IsKeptOf inside.kept state history
 kept-in inside store state history is keeps =
     subst (λ (s : Stored). IsKeptOf s.kept state history) (sym is) keeps.keeps
@@ -84,3 +85,18 @@ returns-in-Err-clause-crashes g c = λ state committed events store told rests l
     outlives state c.args.command.now committed events _ last rests _ _
     (c.in-Err.ensures.so_far state events keeps told)
     tt
+
+-- ---- a stop by what was read
+
+-- a fault that names a rule stops a store for it
+of-image : (fault : BlockFault) (Holds : Type 0) → IfBroken {A = Answer} (Err fault) Holds
+    → is_of_image (stop_of fault) ≡ true → Holds
+of-image NoMemory Holds broken is = absurd (true≢false (sym is))
+of-image Disk Holds broken is = absurd (true≢false (sym is))
+of-image (Image rule address) Holds broken is = broken
+
+pub returns-in-Err-clause-intact : goal.returns-in-Err-clause-intact
+returns-in-Err-clause-intact g c = λ is.
+    subst (λ (s : Stored). IsIntact c.args.command.now s.kept c.answer.new.kept (g.D.Disk.history c.args.disk.now)
+    (g.D.Disk.history c.answer.new.disk)) c.self.view_is
+    (of-image c.in-Err.fault _ c.in-Err.ensures.intact (ap is_of_image (sym c.stop_of-stop.ensures) ∙ is))

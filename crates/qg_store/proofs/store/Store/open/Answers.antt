@@ -1,5 +1,5 @@
-use Rattle.std.proofs.Common.{◌∷◌, ◌∙◌, ℕ, List, Option, Some, ap, refl, subst, sym}
-use Rattle.qg_device.specs.History.{Event, Synced, content}
+use Rattle.std.proofs.Common.{◌∷◌, ◌∙◌, ℕ, List, Option, ap, refl, subst, sym}
+use Rattle.qg_device.specs.History.{History, Recorded, Synced, content}
 use Rattle.qg_super.specs.Places.{first_place, second_place}
 use Rattle.qg_image.specs.ImageState.{super_in}
 use Rattle.qg_kept_commit.specs.CommitOpening.{with_repair}
@@ -18,7 +18,7 @@ returns-clause-opened g c = λ events state told stands.
     let image = c.in_ok-image.ensures.image events told in
     record {
       running = refl;
-      keeps = subst (λ (history : Option (List Event)). IsKeptOf c.in_ok-kept.kept state history)
+      keeps = subst (λ (history : History). IsKeptOf c.in_ok-kept.kept state history)
           (sym (c.in_ok-image.ensures.repaired events told))
           (kept-reopened c.in_ok-kept.kept super events (super_in (content events) first_place)
           (super_in (content events) second_place) c.in_ok-image.image.stale state c.in_ok-image.ensures.fits
@@ -34,7 +34,7 @@ returns-clause-repaired g c = λ events told.
       super = c.in_ok-image.image.superblock;
       chosen = image.chosen;
       repaired = c.in_ok-image.ensures.repaired events told
-          ∙ ap (λ (stale : Option ℕ). Some (with_repair c.in_ok-image.image.superblock stale (Synced ∷ events)))
+          ∙ ap (λ (stale : Option ℕ). Recorded (with_repair c.in_ok-image.image.superblock stale (Synced ∷ events)))
           image.stale;
     }
 

@@ -1,6 +1,6 @@
 use Rattle.std.proofs.Common.{◌≡◌, ℕ, List, [], ◌∷◌, ◌++◌, ap, refl, subst, sym, ◌∙◌}
-use Rattle.std.specs.Prelude.{Option, None, Some}
-use Rattle.qg_device.specs.History.{Event}
+use Rattle.std.specs.Prelude.{None, Some}
+use Rattle.qg_device.specs.History.{History}
 use Rattle.qg_blocks.specs.Held.{Draft}
 use Rattle.qg_blocks.specs.Told.{fresh_at, held_at}
 use Rattle.qg_blocks.proofs.Telling.{held-kept}
@@ -95,7 +95,7 @@ returns-clause-settled g c before puts settled fits =
     let gone = subst (λ (refs : List (ℕ × Kept)). IsLetGo (book_of refs) mid c.let_go.new.land at)
     (c.refs-2.ensures ∙ ap (λ (book : TreeRefs). book.refs) same.0)
     (record { stays = c.let_go.ensures.stays; goes = c.let_go.ensures.goes; gone = c.let_go.ensures.gone }) in
-    let was = λ (none : self.misfit ≡ None). subst (λ (h : Option (List Event)). IsSettled self before h)
+    let was = λ (none : self.misfit ≡ None). subst (λ (h : History). IsSettled self before h)
     (sym c.try_load.ensures.history) (settled none) in
     subst (λ (book : TreeRefs). IsSettled book c.let_go.new.land history) (sym same.0)
     (Settled-copied self c.copy.new.self before mid c.let_go.new.land history at node copy mine.0 table was

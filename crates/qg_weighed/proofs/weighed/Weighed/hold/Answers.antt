@@ -1,7 +1,8 @@
-use Rattle.qg_weighed.proofs.Known.{weighed-own}
+use Rattle.std.proofs.Common.{◌∙◌, ap, subst, sym}
+use Rattle.qg_weighed.specs.Weight.{Books, IsWeighed}
 use Rattle.qg_weighed.proofs.weighed.Weighed.hold.Goals as goal
 
 pub invariant_of-self : goal.invariant_of-self
 invariant_of-self c =
-    weighed-own c.self.inside.refs c.in_ok-held.held c.table.result.now.entries c.in_ok-bytes.bytes
-    c.self.invariant.refs_kept c.in_ok-held.ensures.cases c.table.ensures.same c.in_ok-bytes.ensures
+    subst (λ refs. IsWeighed refs c.copy.inside.refs c.copy.inside.bytes)
+    (c.copy.view_is ∙ c.requires ∙ sym (ap (λ (books : Books). books.refs) c.self.view_is)) c.copy.invariant

@@ -1,5 +1,5 @@
 use Rattle.std.proofs.Common.{◌≤◌, ℕ, ap, lit≤, subst, sym, ◌∙◌}
-use Rattle.std.specs.Prelude.{None}
+use Rattle.qg_device.specs.History.{Unrecorded}
 use Rattle.qg_super.specs.declared.sizes.Sizes.{Sizes}
 use Rattle.qg_super.specs.Places.{second_place}
 use Rattle.qg_blocks.specs.Held.{slots_of}
@@ -32,7 +32,7 @@ invariant_of-result g c =
     let history = g.D.Disk.history c.build.new.disk in
     let bytes = g.D.Disk.size c.build.new.disk in
     let leaves = c.build.ensures.rests in
-    let built = c.in_ok-tree.ensures.built None in
+    let built = c.in_ok-tree.ensures.built (Unrecorded 0) in
     let room : second_place ≤ bytes = let same = leaves.size in rw same c.in_ok-lengthen.ensures in
     let dated = subst (λ (generation : ℕ). Rests old new history generation) (sym built.dated) leaves.rests in
     let nodes = draft_sizes old.blocks.draft sizes c.in_ok-land.ensures.draft in
