@@ -10,7 +10,7 @@ fn told_form(alloc: Global, text: &str) -> Result<String, Fault> {
     for word in text.split(' ') {
         words.push(word.to_string(alloc)?)?;
     }
-    match read_words(&words) {
+    match read_words(alloc, &words)? {
         None => told(alloc, "none"),
         Some(Form::Run) => told(alloc, "run"),
         Some(Form::Check) => told(alloc, "check"),

@@ -1,3 +1,4 @@
+pub use Rattle.qg_image.proofs.Contained
 pub mod Stands
 pub mod Telling
 pub mod Backing

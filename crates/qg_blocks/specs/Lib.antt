@@ -1,5 +1,14 @@
+pub use Rattle.qg_image.specs.Among
+pub use Rattle.qg_image.specs.Below
+pub use Rattle.qg_image.specs.Failure
+pub use Rattle.qg_image.specs.IsShaped
+pub use Rattle.qg_image.specs.ItemMeaning
+pub use Rattle.qg_image.specs.ItemsUnder
+pub use Rattle.qg_image.specs.Table
+pub use Rattle.qg_image.specs.Walk
 pub mod Held
 pub mod Standing
 pub mod Told
 pub mod Writing
 pub mod Lending
+pub mod Types

@@ -1,21 +1,24 @@
 -- What nodes in memory and a disk tell together (this project's own).
 --
 -- A disk is told by its history: what was done to it, where it tells.
-use Rattle.std.specs.Prelude.{◌≡◌, ⊤, ℕ, nat_eq, List, Option, Some, None, Result, Ok, Err, IsOk, IsSome, Contains}
+use Rattle.std.specs.Prelude.{◌≡◌, ◌⊎◌, ⊤, ℕ, false, nat_eq, List, length, Option, Some, None, Result, Ok, Err, IsOk}
+use Rattle.std.specs.Prelude.{IsSome, Contains}
 use Rattle.std.specs.Result.{result_ok}
 use Rattle.std.specs.Ordering.{nat_cmp}
 use Rattle.std.specs.BTreeMap.{is_at}
 use Rattle.std.specs.Map.{lookup}
 use Rattle.qg_device.specs.History.{Event, History, Recorded, Unrecorded, content}
 use Rattle.qg_num.specs.declared.rule.Rule.{Rule}
+use Rattle.qg_num.specs.declared.rule.Rule.TheVariants.{Slot}
 use Rattle.qg_num.specs.declared.fault.BlockFault.{BlockFault}
 use Rattle.qg_num.specs.declared.fault.BlockFault.TheVariants.{NoMemory, Disk, Image}
 use Rattle.qg_node.specs.declared.node.Node.{Node}
 use Rattle.qg_node.specs.Nodes.{header_of}
 use Rattle.qg_node.specs.NodeText.{IsNode}
+use Rattle.qg_node.specs.Reading.{node_read}
 use Rattle.qg_super.specs.declared.sizes.Sizes.{Sizes}
 use Rattle.qg_blocks.specs.Held.{Draft, Held}
-use Rattle.qg_blocks.specs.Standing.{standing}
+use Rattle.qg_blocks.specs.Standing.{has_slot, ruled, standing}
 
 -- ---- nodes in memory
 
@@ -127,3 +130,22 @@ BreaksAt (Ok x) wanted address = ⊤
 BreaksAt (Err (Image rule at)) wanted address = (rule ≡ wanted) × (at ≡ address)
 BreaksAt (Err Disk) wanted address = ⊤
 BreaksAt (Err NoMemory) wanted address = ⊤
+
+-- as many bytes as a node has, of which this rule is the first that they break as the node of an address
+pub record FailsAsNode (nodesize address : ℕ) (rule : Rule) : Type 0 where
+  pub bytes : List ℕ
+  pub whole : length bytes ≡ nodesize
+  pub fails : ruled (node_read address bytes) ≡ Err rule
+
+-- why a disk of so many bytes has no node at an address: no slot of it is there, or what was read fails this rule
+abbrev pub HasNoNode : Sizes → ℕ → ℕ → Rule → Type 0
+HasNoNode sizes bytes address rule =
+    ((has_slot sizes bytes address ≡ false) × (rule ≡ Slot)) ⊎ FailsAsNode sizes.nodesize address rule
+
+-- where a rule was found broken, it is at this address, at which a disk of so many bytes has no node for just that
+-- rule: over any disk, also one that tells nothing
+abbrev pub BreaksForCause : {A : Type 0} → Result A BlockFault → Sizes → ℕ → ℕ → Type 0
+BreaksForCause (Ok x) sizes bytes address = ⊤
+BreaksForCause (Err (Image rule at)) sizes bytes address = (at ≡ address) × HasNoNode sizes bytes address rule
+BreaksForCause (Err Disk) sizes bytes address = ⊤
+BreaksForCause (Err NoMemory) sizes bytes address = ⊤

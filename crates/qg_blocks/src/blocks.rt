@@ -15,8 +15,8 @@ ghost use Rattle.qg_super.specs.Places.{is_served};
 ghost use Rattle.lru.specs.LruCache.{lru_cache, promoted, put_entries};
 ghost use Rattle.qg_blocks.specs.Held.{most_clean, nothing_fresh, slots_of};
 ghost use Rattle.qg_blocks.specs.Standing.{standing};
-ghost use Rattle.qg_blocks.specs.Told.{Answers, BreaksNone, Finds, IsAtHand, IsBacked, IsNodeAt, StandsThere};
-ghost use Rattle.qg_blocks.specs.Told.{StaysBacked, clean_at, first_of, found, fresh_at, held_at, told};
+ghost use Rattle.qg_blocks.specs.Told.{Answers, BreaksForCause, BreaksNone, Finds, IsAtHand, IsBacked, IsNodeAt};
+ghost use Rattle.qg_blocks.specs.Told.{StandsThere, StaysBacked, clean_at, first_of, found, fresh_at, held_at, told};
 ghost use Rattle.qg_blocks.specs.Writing.{AreWritten};
 
 use crate::reading::read_at;
@@ -194,6 +194,7 @@ impl Blocks {
         // Answers have their causes, and the disk is as it was.
         ensures answers { (events : List Event) → D.history disk.old ≡ Recorded events
             → Answers result address (found self.old.draft (content events) address) }
+        ensures broken { BreaksForCause result self.old.draft.sizes (D.size disk.old) address }
         ensures sound { (node : NodeValue) → told self.old.draft (D.history disk.old) address ≡ Some node
             → BreaksNone result }
         ensures cause { HasCause BlockFault.Disk (D.faults disk.old) (D.faults disk.new) result }
@@ -219,6 +220,7 @@ impl Blocks {
         ensures err { OnErr result (self.new ≡ self.old) }
         ensures answers { (events : List Event) → D.history disk.old ≡ Recorded events
             → Answers result address (standing self.old.draft.sizes (content events) address) }
+        ensures broken { BreaksForCause result self.old.draft.sizes (D.size disk.old) address }
         ensures cause { HasCause BlockFault.Disk (D.faults disk.old) (D.faults disk.new) result }
         ensures disk { (D.history disk.new ≡ D.history disk.old) × (D.size disk.new ≡ D.size disk.old) }
     {
@@ -232,6 +234,7 @@ impl Blocks {
         ensures found { (events : List Event) → D.history disk.old ≡ Recorded events
             → Finds result address (standing self.old.draft.sizes (content events) address) }
         ensures kept { IfOk result (λ node. IsNodeAt self.old.draft.sizes.nodesize address node) }
+        ensures broken { BreaksForCause result self.old.draft.sizes (D.size disk.old) address }
         ensures same { self.new ≡ self.old }
         ensures history { D.history disk.new ≡ D.history disk.old }
         ensures size { D.size disk.new ≡ D.size disk.old }

@@ -6,4 +6,5 @@ mod blocks;
 mod reading;
 
 pub use blocks::Blocks;
+pub use qg_image as image;
 pub use reading::has_slot;

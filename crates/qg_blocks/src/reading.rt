@@ -7,7 +7,7 @@ ghost use Rattle.qg_node.specs.NodeText.{IsNodeSize};
 ghost use Rattle.qg_super.specs.Places.{is_served};
 ghost use Rattle.qg_image.specs.Failure.{rule_of};
 ghost use Rattle.qg_blocks.specs.Standing.{has_slot, standing};
-ghost use Rattle.qg_blocks.specs.Told.{Finds, IsNodeAt};
+ghost use Rattle.qg_blocks.specs.Told.{BreaksForCause, Finds, IsNodeAt};
 
 use qg_disk::{Disk, DiskFault};
 use qg_node::{Node, NodeFault, ReadFault, read_node};
@@ -28,6 +28,7 @@ pub(crate) fn read_at<D: Disk>(
     ensures found { (events : List Event) → D.history disk.old ≡ Recorded events
         → Finds result address (standing sizes.now (content events) address) }
     ensures kept { IfOk result (λ node. IsNodeAt sizes.now.nodesize address node) }
+    ensures broken { BreaksForCause result sizes.now (D.size disk.old) address }
     ensures history { D.history disk.new ≡ D.history disk.old }
     ensures size { D.size disk.new ≡ D.size disk.old }
     ensures cause { HasCause DiskFailed (D.faults disk.old) (D.faults disk.new) result }

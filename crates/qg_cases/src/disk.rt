@@ -63,6 +63,7 @@ fn put_over(bytes: &[u8], place: u64, at: u64, buf: &mut [u8]) {
 }
 
 impl Disk for CaseDisk {
+    ghost use Rattle.std.specs.Prelude.{true};
     ghost use Rattle.qg_disk.specs.FileDisk.{sized_untold};
 
     ghost history = { λ disk. Unrecorded (with_changes (history_of disk.calls) 0) };
@@ -70,6 +71,8 @@ impl Disk for CaseDisk {
     ghost size = { memory_size };
 
     ghost faults = { memory_faults };
+
+    ghost takes_memory = { true };
 
     ghost sized = { λ disk events told. sized_untold (memory_size disk) (with_changes (history_of disk.calls) 0) events
         told };

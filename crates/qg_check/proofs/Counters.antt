@@ -11,8 +11,8 @@ use Rattle.qg_image.specs.Table.{keys_of}
 use Rattle.qg_image.specs.declared.quota.Group.{Group}
 use Rattle.qg_image.specs.declared.quota.Quota.{Quota}
 use Rattle.qg_image.specs.State.{Layout}
-use Rattle.qg_image.specs.Members.{Hierarchy, hierarchy_of}
-use Rattle.qg_image.specs.Counts.{direct_count}
+use Rattle.qg_image.specs.Members.{Hierarchy}
+use Rattle.qg_image.specs.Counts.{direct_count, due_counters}
 use Rattle.qg_image.specs.declared.failure.Failure.{Failure}
 use Rattle.qg_image.specs.Failure.{first_failure}
 use Rattle.qg_image.specs.Verdict.{counted, counts_failure, group_failure}
@@ -28,7 +28,7 @@ pub record HaveJudged (judge : ℕ × Group → Option Failure) (count : ℕ) (g
   pub left : first_failure (map judge groups) ≡ first_failure (map judge (drop count groups))
 
 pub counts_judged : (layout : Layout) (quota : Quota)
-    → counts_failure layout (Some quota) ≡ first_failure (map (group_failure layout (hierarchy_of quota)) quota.groups)
+    → counts_failure layout (Some quota) ≡ first_failure (map (group_failure layout quota) quota.groups)
 unfolding counts_failure
 counts_judged layout quota = refl
 
@@ -77,13 +77,13 @@ HaveJudged-all judge count groups long have = have.left
       none_left zero (first ∷ groups) long = absurd (omega arith)
       none_left (suc count) (first ∷ groups) long = none_left count groups (omega arith)
 
--- one group is judged by its direct count
-pub judged_so : (layout : Layout) (hierarchy : Hierarchy) (entry : ℕ × Group) (direct : Counters)
-    (told : Option Failure) → direct ≡ direct_count layout hierarchy entry.0
-    → told ≡ first_failure (counted entry.0 Rfer entry.1.counters.rfer direct.rfer
-    ∷ counted entry.0 Excl entry.1.counters.excl direct.excl ∷ [])
-    → group_failure layout hierarchy entry ≡ told
-judged_so layout hierarchy entry direct told same is =
+-- one group is judged by the counters that are due
+pub judged_so : (layout : Layout) (quota : Quota) (entry : ℕ × Group) (due : Counters)
+    (told : Option Failure) → due ≡ due_counters layout quota entry.0
+    → told ≡ first_failure (counted entry.0 Rfer entry.1.counters.rfer due.rfer
+    ∷ counted entry.0 Excl entry.1.counters.excl due.excl ∷ [])
+    → group_failure layout quota entry ≡ told
+judged_so layout quota entry due told same is =
     ap (λ (c : Counters). first_failure (counted entry.0 Rfer entry.1.counters.rfer c.rfer
     ∷ counted entry.0 Excl entry.1.counters.excl c.excl ∷ [])) (sym same) ∙ sym is
 

@@ -5,7 +5,8 @@ ghost use Rattle.qg_num.specs.declared.counters.Which.TheVariants.{Rfer, Excl};
 ghost use Rattle.qg_super.specs.Places.{is_served};
 ghost use Rattle.qg_image.specs.Table.{keys_of};
 ghost use Rattle.qg_image.specs.State.{Layout};
-ghost use Rattle.qg_image.specs.Members.{Hierarchy, level_of_group};
+ghost use Rattle.qg_image.specs.declared.quota.Quota.{Quota};
+ghost use Rattle.qg_image.specs.Members.{hierarchy_of, level_of_group};
 ghost use Rattle.qg_image.specs.Counts.{bytes_of};
 ghost use Rattle.qg_image.specs.Failure.{first_failure};
 ghost use Rattle.qg_image.specs.Verdict.{counted, counts_failure, group_failure, space_failure};
@@ -84,9 +85,9 @@ fn judge_state(
 // Judges the stored counters of groups, each by the counters at its index.
 fn judge_groups(groups: &[(GroupId, Group)], counters: &[Counters]) -> Result<(), OpenFault>
     requires { length counters.now ≡ length groups.now }
-    ensures failure { (layout : Layout) (hierarchy : Hierarchy) → hierarchy.groups ≡ keys_of groups.now
-        → AreGroupCounts layout hierarchy counters.now
-        → FailsAs result (first_failure (map (group_failure layout hierarchy) groups.now)) }
+    ensures failure { (layout : Layout) (quota : Quota) → keys_of quota.groups ≡ keys_of groups.now
+        → AreGroupCounts layout (hierarchy_of quota) counters.now
+        → FailsAs result (first_failure (map (group_failure layout quota) groups.now)) }
     ensures no_disk { IsErrOf result OpenFault.Disk → ⊥ }
 {
     for (i, entry) in groups.iter().enumerate() {

@@ -7,13 +7,14 @@ use Rattle.qg_node.specs.declared.node.Node.{Node}
 use Rattle.qg_node.specs.Nodes.{header_of}
 use Rattle.qg_node.specs.NodeText.{node_text}
 use Rattle.qg_super.specs.declared.superblock.Super.{Super}
-use Rattle.qg_commit.specs.Calls.{Call, WriteAt, Sync, commit_calls, node_calls, superblock_calls, with_call}
+use Rattle.qg_commit.specs.Calls.{Call, CutTo, WriteAt, Sync, commit_calls, node_calls, superblock_calls, with_call}
 use Rattle.qg_commit.specs.Calls.{with_calls}
 use Rattle.qg_commit.specs.Calls.{with_commit, with_nodes, with_superblocks}
 use Rattle.qg_commit.proofs.Fronts.{ComesTo, comes-all, comes-behind}
 
 -- calls that were answered Ok add events alone
 call-adds : (call : Call) → Adds (with_call call)
+call-adds (CutTo len) events = refl
 call-adds (WriteAt at bytes) events = refl
 call-adds Sync events = refl
 
@@ -22,7 +23,18 @@ calls-add [] events = refl
 calls-add (call ∷ calls) events =
     adds-both (with_call call) (with_calls calls) (call-adds call) (calls-add calls) events
 
+-- calls behind others
+with_calls-append : (front back : List Call) (events : List Event)
+    → with_calls (front ++ back) events ≡ with_calls back (with_calls front events)
+with_calls-append [] back events = refl
+with_calls-append (call ∷ front) back events = with_calls-append front back (with_call call events)
+
 -- those of a commit
+pub commit-made : (super : Super) (nodes : List Node) (events : List Event)
+    → with_calls (commit_calls super nodes) events ≡ with_commit super nodes events
+commit-made super nodes events =
+    with_calls-append (node_calls super.nodesize nodes) (superblock_calls super) events
+
 pub commit-adds : (super : Super) (nodes : List Node) → Adds (with_commit super nodes)
 commit-adds super nodes = adds-both (with_nodes super.nodesize nodes) (with_superblocks super)
     (calls-add (node_calls super.nodesize nodes)) (calls-add (superblock_calls super))

@@ -1,17 +1,19 @@
 -- How far calls came, call by call.
-use Rattle.std.proofs.Common.{◌≡◌, inl, inr, ℕ, List, [], ◌∷◌, ◌++◌, refl, sym, ap, subst, ◌∙◌, append_assoc}
+use Rattle.std.proofs.Common.{◌≡◌, ◌≤◌, ◌-◌, inl, inr, ℕ, List, [], ◌∷◌, ◌++◌, length, refl, sym, ap, subst, ◌∙◌}
+use Rattle.std.proofs.Common.{append_assoc}
 use Rattle.std.specs.Prelude.{IfErr, Result, Ok, Err}
 use Rattle.std.proofs.lemmas.List.{map-append}
-use Rattle.qg_device.specs.History.{Event, History, Recorded, Unrecorded, Wrote, Tore, Synced, history_after}
-use Rattle.qg_device.specs.History.{with_event}
+use Rattle.qg_device.specs.History.{Event, History, Recorded, Unrecorded, Wrote, Tore, Cut, CutShort, Synced, content}
+use Rattle.qg_device.specs.History.{history_after, with_event}
 use Rattle.qg_disk.specs.declared.fault.DiskFault.{DiskFault}
 use Rattle.qg_disk.specs.declared.fault.DiskFault.TheVariants.{Failed, NoMemory}
-use Rattle.qg_disk.specs.Disk.{Syncs, Writes}
+use Rattle.qg_disk.specs.Disk.{Cuts, Syncs, Writes}
 use Rattle.qg_node.specs.declared.node.Node.{Node}
 use Rattle.qg_node.specs.Nodes.{header_of}
 use Rattle.qg_node.specs.NodeText.{node_text}
 use Rattle.qg_super.specs.declared.superblock.Super.{Super}
-use Rattle.qg_commit.specs.Calls.{Call, WriteAt, Sync, IsFront, MadeFront, commit_calls, node_calls, unsure_calls}
+use Rattle.qg_commit.specs.Calls.{Call, CutTo, WriteAt, Sync, IsFrontOfCalls, MadeFront, commit_calls, node_calls}
+use Rattle.qg_commit.specs.Calls.{unsure_calls}
 use Rattle.qg_commit.specs.Calls.{unsure_superblock_calls, with_call, with_calls, with_nodes}
 
 -- from one history to another calls came so far
@@ -19,7 +21,7 @@ abbrev pub ComesTo : List Call → History → History → Type 0
 ComesTo calls old new = (events : List Event) → old ≡ Recorded events → MadeFront calls events new
 
 -- no call was made
-front-none : (calls : List Call) (events : List Event) → IsFront calls events events
+front-none : (calls : List Call) (events : List Event) → IsFrontOfCalls calls events events
 front-none [] events = refl
 front-none (call ∷ calls) events = inl refl
 
@@ -54,6 +56,22 @@ comes-sync calls old new (Ok done) is = λ events told. record {
 }
 comes-sync calls old new (Err fault) is = comes-none (Sync ∷ calls) old new is
 
+-- of a disk whose size is that of what it holds, where that is told
+pub comes-cut : (len : ℕ) (calls : List Call) (old new : History) (size : ℕ) (result : Result Unit DiskFault)
+    → ((events : List Event) → old ≡ Recorded events → size ≡ length (content events))
+    → Cuts old new result size len → ComesTo (CutTo len ∷ calls) old new
+comes-cut len calls old new size (Ok done) sized is = λ events told. record {
+  after = Cut len ∷ events;
+  told = is ∙ ap (with_event (Cut len)) told;
+  front = inr (inr (front-none calls (Cut len ∷ events)));
+}
+comes-cut len calls old new size (Err Failed) sized is = λ events told. record {
+  after = CutShort len is.0 ∷ events;
+  told = is.2 ∙ ap (with_event (CutShort len is.0)) told;
+  front = inr (inl (is.0, subst (λ (n : ℕ). length is.0 ≤ n - len) (sized events told) is.1, refl));
+}
+comes-cut len calls old new size (Err NoMemory) sized is = comes-none (CutTo len ∷ calls) old new is
+
 -- the first was made, and then later ones came so far
 pub comes-later : (call : Call) (calls : List Call) (old mid new : History)
     → mid ≡ history_after (with_call call) old → ComesTo calls mid new → ComesTo (call ∷ calls) old new
@@ -66,6 +84,10 @@ wrote_so : (at : ℕ) (bytes : List ℕ) (old : History)
 wrote_so at bytes (Recorded events) = refl
 wrote_so at bytes (Unrecorded changes) = refl
 
+cut_so : (len : ℕ) (old : History) → with_event (Cut len) old ≡ history_after (with_call (CutTo len)) old
+cut_so len (Recorded events) = refl
+cut_so len (Unrecorded changes) = refl
+
 synced_so : (old : History) → with_event Synced old ≡ history_after (with_call Sync) old
 synced_so (Recorded events) = refl
 synced_so (Unrecorded changes) = refl
@@ -74,6 +96,10 @@ pub comes-written : (at : ℕ) (bytes : List ℕ) (calls : List Call) (old mid n
     → mid ≡ with_event (Wrote at bytes) old → ComesTo calls mid new → ComesTo (WriteAt at bytes ∷ calls) old new
 comes-written at bytes calls old mid new made later =
     comes-later (WriteAt at bytes) calls old mid new (made ∙ wrote_so at bytes old) later
+
+pub comes-cut_so : (len : ℕ) (calls : List Call) (old mid new : History) → mid ≡ with_event (Cut len) old
+    → ComesTo calls mid new → ComesTo (CutTo len ∷ calls) old new
+comes-cut_so len calls old mid new made later = comes-later (CutTo len) calls old mid new (made ∙ cut_so len old) later
 
 pub comes-synced : (calls : List Call) (old mid new : History) → mid ≡ with_event Synced old
     → ComesTo calls mid new → ComesTo (Sync ∷ calls) old new
@@ -88,9 +114,9 @@ comes-err (Err fault) calls old new comes events told = comes events told
 -- ---- calls in front of others
 
 -- some of the first calls were made
-front-more : (front back : List Call) (events after : List Event) → IsFront front events after
-    → IsFront (front ++ back) events after
-front-more [] back events after is = subst (IsFront back events) (sym is) (front-none back events)
+front-more : (front back : List Call) (events after : List Event) → IsFrontOfCalls front events after
+    → IsFrontOfCalls (front ++ back) events after
+front-more [] back events after is = subst (IsFrontOfCalls back events) (sym is) (front-none back events)
 front-more (call ∷ front) back events after (inl none) = inl none
 front-more (call ∷ front) back events after (inr (inl fails)) = inr (inl fails)
 front-more (call ∷ front) back events after (inr (inr later)) =
@@ -103,8 +129,9 @@ comes-more front back old new comes = λ events told.
     record { after = made.after; told = made.told; front = front-more front back events made.after made.front }
 
 -- the first calls were made, and some of those behind
-front-behind : (front back : List Call) (events after : List Event) → IsFront back (with_calls front events) after
-    → IsFront (front ++ back) events after
+front-behind : (front back : List Call) (events after : List Event)
+    → IsFrontOfCalls back (with_calls front events) after
+    → IsFrontOfCalls (front ++ back) events after
 front-behind [] back events after is = is
 front-behind (call ∷ front) back events after is = inr (inr (front-behind front back (with_call call events) after is))
 
@@ -115,7 +142,7 @@ comes-behind front back old mid new made later = λ events told.
     record { after = then.after; told = then.told; front = front-behind front back events then.after then.front }
 
 -- all were made
-front-all : (calls : List Call) (events : List Event) → IsFront calls events (with_calls calls events)
+front-all : (calls : List Call) (events : List Event) → IsFrontOfCalls calls events (with_calls calls events)
 front-all [] events = refl
 front-all (call ∷ calls) events = inr (inr (front-all calls (with_call call events)))
 
@@ -183,7 +210,7 @@ pub unsure-whole : (super : Super) (nodes : List Node) (events : List Event) (hi
 unsure-whole super nodes events history made = record {
   after = made.after;
   told = made.told;
-  front = subst (λ (calls : List Call). IsFront calls events made.after)
+  front = subst (λ (calls : List Call). IsFrontOfCalls calls events made.after)
       (append_assoc (node_calls super.nodesize nodes) (unsure_superblock_calls super) (Sync ∷ []))
       (front-more (unsure_calls super nodes) (Sync ∷ []) events made.after made.front);
 }

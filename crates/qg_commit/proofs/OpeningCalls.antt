@@ -16,7 +16,7 @@ use Rattle.qg_image.specs.ImageState.{super_in, super_of}
 use Rattle.qg_image.specs.StateOf.{StateOf}
 use Rattle.qg_walk.specs.declared.fault.OpenFault.{OpenFault}
 use Rattle.qg_other_trees.specs.Stale.{stale_place}
-use Rattle.qg_crashes.specs.Committing.{IsFront, begin_of}
+use Rattle.qg_crashes.specs.Committing.{IsFrontOfEvents, begin_of}
 use Rattle.qg_crashes.specs.Repairing.{Repairing}
 use Rattle.qg_crashes.specs.States.{with_place}
 use Rattle.qg_crashes.specs.Outcomes.{Rests, Survives}
@@ -72,7 +72,7 @@ stale_stands (Some a) (Some b) super place counts stale = stale_of_two a b super
 -- how far the repair came
 front_of_writing : (super : Super) (place : ℕ) (events after : List Event)
     → IsWriting super place events (Recorded after)
-    → IsFront (Wrote place (super_text place super) ∷ Synced ∷ []) events after
+    → IsFrontOfEvents (Wrote place (super_text place super) ∷ Synced ∷ []) events after
 front_of_writing super place events after (inl tore) =
     let is : after ≡ Tore place (super_text place super) tore.0 ∷ events = cc (tore.2) in inr (inl (tore.0, tore.1, is))
 front_of_writing super place events after (inr (inl wrote)) =
@@ -87,7 +87,7 @@ opening_repairs events after opening long =
     let counts : choose first second ≡ Some opening.super = sym (super_of-both (content events) first second refl refl)
     ∙ opening.chosen in
     let front = front_of_writing opening.super opening.place (Synced ∷ events) after opening.written in
-    let front_at : ℕ → Type 0 = λ place. IsFront (Wrote place (super_text place opening.super) ∷ Synced ∷ [])
+    let front_at : ℕ → Type 0 = λ place. IsFrontOfEvents (Wrote place (super_text place opening.super) ∷ Synced ∷ [])
     (Synced ∷ events) after in
     elim (stale_stands first second opening.super opening.place counts opening.stale) [
       | inl is ↦ inl (record {

@@ -11,7 +11,7 @@ use Rattle.qg_image.specs.StateOf.{StateOf}
 use Rattle.qg_crashes.specs.Repairing.{Repairing}
 use Rattle.qg_crashes.specs.Slots.{IsInSlot, Writing, with_whole}
 use Rattle.qg_crashes.specs.States.{IsMirrored}
-use Rattle.qg_commit.specs.Calls.{commit_calls, with_commit, IsFront}
+use Rattle.qg_commit.specs.Calls.{commit_calls, with_commit, IsFrontOfCalls}
 use Rattle.qg_commit.specs.Opened.{IsRepairing, stale_of}
 
 -- ---- a commit
@@ -22,7 +22,7 @@ pub record MakingCalls (before : List Event) (nodes : List Node) (super : Super)
   pub long : total_bytes (sizes_of super) ≤ length (content before)
   pub may_be_written : IsTrue (is_super super)
   pub in_slots : All (IsInSlot super) nodes
-  pub so_far : IsFront (commit_calls super nodes) (Synced ∷ before) after
+  pub so_far : IsFrontOfCalls (commit_calls super nodes) (Synced ∷ before) after
 
 -- so a commit of nodes in slots came so far
 abbrev pub CallsWrite : Type 0

@@ -1,11 +1,11 @@
 // A fresh image.
-ghost use Rattle.std.specs.Prelude.{◌≡◌, ◌≤◌, ◌↔◌, List, OnOk, IsErrOf, false};
+ghost use Rattle.std.specs.Prelude.{◌≡◌, ◌≤◌, ◌↔◌, List, IfErr, OnOk, IsErrOf, false};
 ghost use Rattle.qg_device.specs.Cause.{HasCause};
 ghost use Rattle.qg_device.specs.History.{Event, Recorded, history_after};
 ghost use Rattle.qg_super.specs.Places.{is_served, slot_at, total_bytes};
 ghost use Rattle.qg_commit.specs.Fresh.{fresh_nodes, fresh_super};
 ghost use Rattle.qg_commit.specs.Calls.{with_image};
-ghost use Rattle.qg_commit.specs.Mkfs.{HoldsFreshImage};
+ghost use Rattle.qg_commit.specs.Mkfs.{HoldsFreshImage, StopsMaking};
 
 use crate::MkfsFault;
 use crate::fresh::{lay_fresh, lay_own_leaf};
@@ -27,6 +27,11 @@ pub fn mkfs<D: Disk>(alloc: Global, disk: &mut D, sizes: Sizes) -> Result<(), Mk
     ensures fresh { (before : List Event) → D.history disk.old ≡ Recorded before
         → OnOk result (HoldsFreshImage sizes (D.history disk.new)) }
     ensures long { OnOk result (total_bytes sizes ≤ D.size disk.new) }
+
+    // Where it is not made, some of these calls are, from the first on, and nothing else. What it needs of memory is
+    // there before the first of them: over a disk that takes none, none is made where memory is refused.
+    ensures front { IfErr result (λ fault. StopsMaking sizes (D.history disk.old) (D.history disk.new)) }
+    ensures memory { D.takes_memory ≡ false → IsErrOf result MkfsFault.NoMemory → disk.new ≡ disk.old }
     ensures cause { HasCause MkfsFault.Disk (D.faults disk.old) (D.faults disk.new) result }
 {
     if !sizes.is_served() {

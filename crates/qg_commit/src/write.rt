@@ -1,5 +1,5 @@
 // The device calls of a commit.
-ghost use Rattle.std.specs.Prelude.{◌≡◌, ◌≤◌, List, length, IfErr, OnOk, IsTrue};
+ghost use Rattle.std.specs.Prelude.{◌≡◌, ◌≤◌, List, length, IfErr, IsErrOf, OnOk, IsTrue};
 ghost use Rattle.std.specs.List.{AllByRecursion};
 ghost use Rattle.qg_device.specs.Cause.{HasCause};
 ghost use Rattle.qg_device.specs.History.{Event, Recorded, history_after};
@@ -31,6 +31,7 @@ pub fn write_nodes<D: Disk>(
     ensures front { (events : List Event) → D.history disk.old ≡ Recorded events
         → MadeFront (node_calls (length buffer.old) nodes.now) events (D.history disk.new) }
     ensures no_less { D.size disk.old ≤ D.size disk.new }
+    ensures memory { IsErrOf result DiskFault.NoMemory → IsTrue D.takes_memory }
     ensures cause { HasCause DiskFault.Failed (D.faults disk.old) (D.faults disk.new) result }
 {
     for node in nodes {
@@ -49,6 +50,7 @@ pub fn write_superblocks<D: Disk>(disk: &mut D, superblock: &Super) -> Result<()
     ensures front { (events : List Event) → D.history disk.old ≡ Recorded events
         → IfErr result (λ fault. MadeFront (unsure_superblock_calls superblock.now) events (D.history disk.new)) }
     ensures no_less { D.size disk.old ≤ D.size disk.new }
+    ensures memory { IsErrOf result DiskFault.NoMemory → IsTrue D.takes_memory }
     ensures cause { HasCause DiskFault.Failed (D.faults disk.old) (D.faults disk.new) result }
 {
     let mut text = [0; SUPER_BYTES];

@@ -16,8 +16,8 @@ use Rattle.qg_super.specs.SuperText.{super_text, super_read, choose, is_super}
 use Rattle.qg_super.specs.NoChance.{super_bytes, is_valid}
 use Rattle.qg_super.proofs.SuperTexts.{length-super_text, super_read-super_text}
 use Rattle.qg_image.specs.ImageState.{super_in, super_of}
-use Rattle.qg_crashes.specs.Committing.{IsApart, superblock_events, commit_events, IsFront, Committing, begin_of}
-use Rattle.qg_crashes.specs.Committing.{Crashing}
+use Rattle.qg_crashes.specs.Committing.{IsApart, superblock_events, commit_events, IsFrontOfEvents, Committing}
+use Rattle.qg_crashes.specs.Committing.{Crashing, begin_of}
 use Rattle.qg_crashes.specs.Superblocks.{LeavesAValidOne, Replaces, LeavesOldOrNew, LeavesTheOld, LeavesTheNew}
 use Rattle.qg_crashes.proofs.Places.{Holds, Settled, Apart, Settled-wrote, Settled-tore, Settled-synced}
 use Rattle.qg_crashes.proofs.Moments.{front_by, length-events_by}
@@ -34,10 +34,10 @@ Apart-meets p q n at m first second = record {
 
 commit_stage : (p q n since k : ℕ) (a b t u : List ℕ) (nodes events h : List Event) (image : List ℕ) (tail : List Event)
     → ((at : ℕ) (bytes : List ℕ) → IsApart (Wrote at bytes) → Apart p q n at (length bytes))
-    → ((some : List Event) → since ≤ length some → length some ≡ k → Settled p q n a b some → IsFront tail some h
-    → Leaves h image → Stage p q n since k a b t u h image)
+    → ((some : List Event) → since ≤ length some → length some ≡ k → Settled p q n a b some
+    → IsFrontOfEvents tail some h → Leaves h image → Stage p q n since k a b t u h image)
     → All IsApart nodes → since ≤ length events → length events + length nodes ≡ k → Settled p q n a b events
-    → IsFront (nodes ++ tail) events h → Leaves h image → Stage p q n since k a b t u h image
+    → IsFrontOfEvents (nodes ++ tail) events h → Leaves h image → Stage p q n since k a b t u h image
 commit_stage p q n since k a b t u [] events h image tail apart last all later moment settled front left =
     last events later (omega arith) settled front left
 commit_stage p q n since k a b t u (Wrote at bytes ∷ nodes) events h image tail apart last all later moment settled

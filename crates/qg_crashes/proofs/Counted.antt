@@ -1,4 +1,4 @@
--- The stored counters of a state that an image stands for are direct counts.
+-- A state that an image stands for stores the counters that are due.
 use Rattle.std.proofs.Common.{◌≡◌, ◌∙◌, ℕ, suc, Bool, true, false, cond, List, [], ◌∷◌, map, refl, sym, ap, subst}
 use Rattle.std.proofs.Common.{arith}
 use Rattle.std.specs.Prelude.{Option, Some, None, ◌==◌}
@@ -11,8 +11,7 @@ use Rattle.qg_num.specs.declared.counters.Which.TheVariants.{Rfer, Excl}
 use Rattle.qg_super.specs.SuperText.{sizes_of}
 use Rattle.qg_image.specs.declared.quota.Group.{Group}
 use Rattle.qg_image.specs.declared.quota.Quota.{Quota}
-use Rattle.qg_image.specs.Counts.{direct_count, exclusive, referenced}
-use Rattle.qg_image.specs.Members.{Hierarchy, hierarchy_of}
+use Rattle.qg_image.specs.Counts.{due_counters}
 use Rattle.qg_image.specs.Space.{present_extents}
 use Rattle.qg_image.specs.State.{Layout, State, layout_of}
 use Rattle.qg_image.specs.declared.failure.Failure.{Failure}
@@ -40,38 +39,36 @@ both_counts counters rfer excl is_rfer is_excl =
     let make : ℕ → ℕ → Counters = λ a b. record { rfer = a; excl = b } in
     ap (λ (a : ℕ). make a counters.excl) is_rfer ∙ ap (λ (b : ℕ). make rfer b) is_excl
 
-one_counted : (layout : Layout) (hierarchy : Hierarchy) (entry : ℕ × Group)
-    → group_failure layout hierarchy entry ≡ None
-    → entry.1.counters ≡ direct_count layout hierarchy entry.0
-one_counted layout hierarchy entry none =
-    let rfer = referenced layout hierarchy entry.0 in
-    let excl = exclusive layout hierarchy entry.0 in
+one_counted : (layout : Layout) (quota : Quota) (entry : ℕ × Group)
+    → group_failure layout quota entry ≡ None
+    → entry.1.counters ≡ due_counters layout quota entry.0
+one_counted layout quota entry none =
+    let rfer = (due_counters layout quota entry.0).rfer in
+    let excl = (due_counters layout quota entry.0).excl in
     let parts = neither (counted entry.0 Rfer entry.1.counters.rfer rfer)
     (counted entry.0 Excl entry.1.counters.excl excl) none in
     both_counts entry.1.counters rfer excl (no_difference entry.0 Rfer entry.1.counters.rfer rfer parts.0)
     (no_difference entry.0 Excl entry.1.counters.excl excl parts.1)
 
-all_counted : (layout : Layout) (hierarchy : Hierarchy) (groups : List (ℕ × Group))
-    → first_failure (map (group_failure layout hierarchy) groups) ≡ None
-    → All (λ entry. entry.1.counters ≡ direct_count layout hierarchy entry.0) groups
-all_counted layout hierarchy [] none = λ k any below. absurd (omega arith)
-all_counted layout hierarchy (entry ∷ groups) none =
-    let parts = first_of_more (group_failure layout hierarchy entry) (map (group_failure layout hierarchy) groups)
-    none in
-    All-cons (λ (some : ℕ × Group). some.1.counters ≡ direct_count layout hierarchy some.0) entry groups
-    (one_counted layout hierarchy entry parts.0)
-    (all_counted layout hierarchy groups parts.1)
+all_counted : (layout : Layout) (quota : Quota) (groups : List (ℕ × Group))
+    → first_failure (map (group_failure layout quota) groups) ≡ None
+    → All (λ entry. entry.1.counters ≡ due_counters layout quota entry.0) groups
+all_counted layout quota [] none = λ k any below. absurd (omega arith)
+all_counted layout quota (entry ∷ groups) none =
+    let parts = first_of_more (group_failure layout quota entry) (map (group_failure layout quota) groups) none in
+    All-cons (λ (some : ℕ × Group). some.1.counters ≡ due_counters layout quota some.0) entry groups
+    (one_counted layout quota entry parts.0)
+    (all_counted layout quota groups parts.1)
 
 quota_counted : (layout : Layout) (told : Option Quota) (quota : Quota) → told ≡ Some quota
     → counts_failure layout told ≡ None
-    → All (λ entry. entry.1.counters ≡ direct_count layout (hierarchy_of quota) entry.0) quota.groups
+    → All (λ entry. entry.1.counters ≡ due_counters layout quota entry.0) quota.groups
 unfolding counts_failure
 quota_counted layout None quota is none = absurd cc
 quota_counted layout (Some other) quota is none =
     let same : other ≡ quota = cc in
-    subst (λ (q : Quota). All (λ (entry : ℕ × Group). entry.1.counters ≡ direct_count layout (hierarchy_of q) entry.0)
-    q.groups) same
-    (all_counted layout (hierarchy_of other) other.groups none)
+    subst (λ (q : Quota). All (λ (entry : ℕ × Group). entry.1.counters ≡ due_counters layout q entry.0) q.groups) same
+    (all_counted layout other other.groups none)
 
 pub stands_counted : StandsCounted
 stands_counted state image stands =
@@ -84,6 +81,5 @@ stands_counted state image stands =
     (counts_failure (layout_of here) here.quota) rules.together in
     let told : here.quota ≡ Some quota = ap (λ (s : State). s.quota) (sym stands.stands) ∙ is in
     let all = quota_counted (layout_of here) here.quota quota told parts.2 in
-    subst (λ (s : State). All (λ (entry : ℕ × Group). entry.1.counters ≡ direct_count (layout_of s)
-    (hierarchy_of quota) entry.0) quota.groups)
-    (sym stands.stands) all
+    subst (λ (s : State). All (λ (entry : ℕ × Group). entry.1.counters ≡ due_counters (layout_of s) quota entry.0)
+    quota.groups) (sym stands.stands) all

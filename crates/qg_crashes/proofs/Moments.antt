@@ -5,7 +5,7 @@ use Rattle.std.proofs.lemmas.Bool.{cases_lt}
 use Rattle.std.proofs.lemmas.List.{drop-drop, length-drop}
 use Rattle.qg_device.specs.History.{Event, Wrote, Tore, Cut, CutShort, Synced}
 use Rattle.qg_device.specs.CrashSince.{events_by}
-use Rattle.qg_crashes.specs.Committing.{FailsAfter, IsFront}
+use Rattle.qg_crashes.specs.Committing.{FailsAfter, IsFrontOfEvents}
 
 -- all events, by the moment of the last
 pub events_by-all : (moment : ℕ) (events : List Event) → length events ≤ moment → events_by moment events ≡ events
@@ -40,7 +40,7 @@ fails_once (CutShort len left) events after fails = absurd fails
 fails_once Synced events after fails = inl fails
 
 -- what was done adds events to those before
-pub front_grows : (steps events after : List Event) → IsFront steps events after → length events ≤ length after
+pub front_grows : (steps events after : List Event) → IsFrontOfEvents steps events after → length events ≤ length after
 front_grows [] events after is = omega (arith, ap length is)
 front_grows (step ∷ steps) events after (inl is) = omega (arith, ap length is)
 front_grows (step ∷ steps) events after (inr (inl fails)) = elim (fails_once step events after fails) [
@@ -51,7 +51,7 @@ front_grows (step ∷ steps) events after (inr (inr front)) =
     let more : length (step ∷ events) ≤ length after = front_grows steps (step ∷ events) after front in omega arith
 
 -- those before are the first
-pub front_begins : (steps events after : List Event) → IsFront steps events after
+pub front_begins : (steps events after : List Event) → IsFrontOfEvents steps events after
     → events_by (length events) after ≡ events
 front_begins [] events after is = events_by-all (length events) after (omega (arith, ap length is)) ∙ is
 front_begins (step ∷ steps) events after (inl is) = events_by-all (length events) after (omega (arith, ap length is))
@@ -65,7 +65,7 @@ front_begins (step ∷ steps) events after (inr (inr front)) =
     (front_begins steps (step ∷ events) after front)
 
 -- the events by the moment at which they began
-begins_by : (step : Event) (steps events after : List Event) (moment : ℕ) → IsFront (step ∷ steps) events after
+begins_by : (step : Event) (steps events after : List Event) (moment : ℕ) → IsFrontOfEvents (step ∷ steps) events after
     → moment ≡ length events
     → events_by moment after ≡ events
 begins_by step steps events after moment front same = ap (λ (m : ℕ). events_by m after) same
@@ -80,9 +80,9 @@ fails_once-length event events after fails = elim (fails_once event events after
 ]
 
 -- at each moment some of the steps were done, or all
-pub front_by : (steps events after : List Event) (moment : ℕ) → IsFront steps events after → length events ≤ moment
-    → moment ≤ length after
-    → IsFront steps events (events_by moment after)
+pub front_by : (steps events after : List Event) (moment : ℕ) → IsFrontOfEvents steps events after
+    → length events ≤ moment → moment ≤ length after
+    → IsFrontOfEvents steps events (events_by moment after)
 front_by [] events after moment is begun there = events_by-all moment after (omega (arith, ap length is)) ∙ is
 front_by (step ∷ steps) events after moment (inl is) begun there =
     inl (events_by-all moment after (omega (arith, ap length is)) ∙ is)

@@ -19,7 +19,7 @@ use Rattle.qg_super.specs.SuperText.{super_text}
 use Rattle.qg_super.specs.NoChance.{super_bytes, NoChanceSince}
 use Rattle.qg_image.specs.State.{State}
 use Rattle.qg_image.specs.StateOf.{StateOf}
-use Rattle.qg_crashes.specs.Committing.{Crashing, FailsAfter, IsFront, begin_of, superblock_events}
+use Rattle.qg_crashes.specs.Committing.{Crashing, FailsAfter, IsFrontOfEvents, begin_of, superblock_events}
 use Rattle.qg_crashes.specs.Premise.{IsDone}
 use Rattle.qg_crashes.specs.Later.{IsWriteOrSync, NoChanceBy}
 use Rattle.qg_crashes.specs.Slots.{events_of_commit, node_events}
@@ -72,7 +72,8 @@ write_of (Cut len) done = absurd done
 write_of (CutShort len left) done = absurd done
 write_of Synced done = tt
 
-front_written : (steps events after : List Event) → All IsDone steps → IsFront steps events after → Written events after
+front_written : (steps events after : List Event) → All IsDone steps → IsFrontOfEvents steps events after
+    → Written events after
 front_written [] events after done is = none_written events after is
 front_written (step ∷ steps) events after done (inl is) = none_written events after is
 front_written (step ∷ steps) events after done (inr (inl fails)) = fails_written step events after fails

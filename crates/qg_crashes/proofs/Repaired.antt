@@ -12,7 +12,7 @@ use Rattle.qg_super.specs.SuperText.{super_text, super_read, choose, is_super}
 use Rattle.qg_super.specs.NoChance.{super_bytes, is_valid}
 use Rattle.qg_super.proofs.SuperTexts.{length-super_text, super_read-super_text, super_writes_back}
 use Rattle.qg_image.specs.ImageState.{super_in, super_of}
-use Rattle.qg_crashes.specs.Committing.{IsFront, begin_of, Crashing}
+use Rattle.qg_crashes.specs.Committing.{IsFrontOfEvents, begin_of, Crashing}
 use Rattle.qg_crashes.specs.Repairing.{Repairing, KeepsWhatCounts}
 use Rattle.qg_crashes.proofs.Places.{Settled, Settled-content, Settled-synced, second_stays, first_stays, Holds-first}
 use Rattle.qg_crashes.proofs.Places.{Holds-second}
@@ -45,7 +45,7 @@ repair_stage : (place other n since : ℕ) (held stands text : List ℕ) (events
     → IsRepair place other n since held stands text (event ∷ events) image)
     → (Leaves (Synced ∷ Wrote place text ∷ events) image
     → IsRepair place other n since held stands text (Synced ∷ Wrote place text ∷ events) image)
-    → IsFront (Wrote place text ∷ Synced ∷ []) events h → Leaves h image
+    → IsFrontOfEvents (Wrote place text ∷ Synced ∷ []) events h → Leaves h image
     → IsRepair place other n since held stands text h image
 repair_stage place other n since held stands text events h image none write all (inl is) =
     same_repair place other n since held stands text events h image is none
@@ -64,7 +64,7 @@ repair_stage place other n since held stands text events h image none write all 
 -- of the first place
 first_repair : (p q n since : ℕ) (a b text : List ℕ) (events h : List Event) (image : List ℕ) → length text ≡ n → 0 < n
     → since ≤ length events
-    → Settled p q n a b events → IsFront (Wrote p text ∷ Synced ∷ []) events h → Leaves h image
+    → Settled p q n a b events → IsFrontOfEvents (Wrote p text ∷ Synced ∷ []) events h → Leaves h image
     → IsRepair p q n since a b text h image
 first_repair p q n since a b text events h image long some later settled =
     let held = Settled-content p q n a b events settled in
@@ -85,7 +85,7 @@ first_repair p q n since a b text events h image long some later settled =
 -- of the second place
 second_repair : (p q n since : ℕ) (a b text : List ℕ) (events h : List Event) (image : List ℕ) → length text ≡ n → 0 < n
     → since ≤ length events
-    → Settled p q n a b events → IsFront (Wrote q text ∷ Synced ∷ []) events h → Leaves h image
+    → Settled p q n a b events → IsFrontOfEvents (Wrote q text ∷ Synced ∷ []) events h → Leaves h image
     → IsRepair q p n since b a text h image
 second_repair p q n since a b text events h image long some later settled =
     let held = Settled-content p q n a b events settled in

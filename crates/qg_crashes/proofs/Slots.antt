@@ -25,8 +25,8 @@ use Rattle.qg_super.specs.NoChance.{super_bytes}
 use Rattle.qg_super.proofs.Served.{SizesFit, SizesFit-is_served, SuperFits-is_super}
 use Rattle.qg_super.proofs.SuperTexts.{length-super_text}
 use Rattle.qg_image.specs.Walk.{node_found, in_slot}
-use Rattle.qg_crashes.specs.Committing.{IsApart, superblock_events, commit_events, FailsAfter, IsFront, begin_of}
-use Rattle.qg_crashes.specs.Committing.{nodes_synced}
+use Rattle.qg_crashes.specs.Committing.{IsApart, superblock_events, commit_events, FailsAfter, IsFrontOfEvents}
+use Rattle.qg_crashes.specs.Committing.{begin_of, nodes_synced}
 use Rattle.qg_crashes.specs.Unwritten.{Spares}
 use Rattle.qg_crashes.specs.Slots.{IsInSlot, Writing, WritingCommits, StaysAsLong, OtherSlotsStay, SlotsAreSettled}
 use Rattle.qg_crashes.specs.Slots.{events_of_commit, node_events, with_events, with_whole}
@@ -67,7 +67,7 @@ fails_newer place n (CutShort len left) events after spared fails = absurd fails
 fails_newer place n Synced events after spared fails = none_newer place n events after fails
 
 pub front_newer : (place n : ℕ) (steps events after : List Event) → All (Spares place n) steps
-    → IsFront steps events after → Newer place n events after
+    → IsFrontOfEvents steps events after → Newer place n events after
 front_newer place n [] events after spared is = none_newer place n events after is
 front_newer place n (step ∷ steps) events after spared (inl is) = none_newer place n events after is
 front_newer place n (step ∷ steps) events after spared (inr (inl fails)) =
@@ -202,7 +202,7 @@ writing_commits before nodes super after writes = record {
 -- ---- what a front of some steps leaves
 
 module _ (steps before after : List Event) (image : List ℕ) (moment : ℕ)
-    (so_far : IsFront steps (Synced ∷ before) after)
+    (so_far : IsFrontOfEvents steps (Synced ∷ before) after)
     (leaves : LeavesSince (begin_of before) after image moment) where
   newer_by : (place n : ℕ) → All (Spares place n) steps → Newer place n (Synced ∷ before) (events_by moment after)
   newer_by place n spared =
@@ -313,8 +313,8 @@ nodes_no_shorter nodesize (node ∷ nodes) events =
 -- a front that came past the nodes and their sync is one behind them
 past_sync : (nodesize : ℕ) (nodes : List Node) (rest events after : List Event)
     → length events + length nodes + 1 ≤ length after
-    → IsFront (node_events nodesize nodes ++ Synced ∷ rest) events after
-    → IsFront rest (Synced ∷ with_events (node_events nodesize nodes) events) after
+    → IsFrontOfEvents (node_events nodesize nodes ++ Synced ∷ rest) events after
+    → IsFrontOfEvents rest (Synced ∷ with_events (node_events nodesize nodes) events) after
 past_sync nodesize [] rest events after past (inl is) = absurd (omega (arith, ap length is))
 past_sync nodesize [] rest events after past (inr (inl is)) = absurd (omega (arith, ap length is))
 past_sync nodesize [] rest events after past (inr (inr front)) = front

@@ -5,7 +5,7 @@ use Rattle.std.proofs.Common.{subst, arith}
 use Rattle.qg_device.specs.History.{Event, Wrote, Tore, Synced, content, range}
 use Rattle.qg_device.specs.Crash.{Torn, Leaves}
 use Rattle.qg_device.specs.LastWrite.{Rewriting, last_rewriting}
-use Rattle.qg_crashes.specs.Committing.{IsFront}
+use Rattle.qg_crashes.specs.Committing.{IsFrontOfEvents}
 use Rattle.qg_crashes.proofs.LastWrites.{IsRewriting-newest}
 use Rattle.qg_crashes.proofs.Places.{Holds, Settled, Settled-content, Settled-synced, second_stays, first_stays}
 use Rattle.qg_crashes.proofs.Places.{Holds-first, Holds-second}
@@ -129,7 +129,7 @@ same_stage p q n since k a b t u events h image is stage left =
 pub superblock_stage : (p q n since k : ℕ) (a b t u : List ℕ) (events h : List Event) (image : List ℕ) → length t ≡ n
     → length u ≡ n → 0 < n
     → since ≤ length events → length events ≡ k → Settled p q n a b events
-    → IsFront (Synced ∷ Wrote p t ∷ Synced ∷ Wrote q u ∷ Synced ∷ []) events h → Leaves h image
+    → IsFrontOfEvents (Synced ∷ Wrote p t ∷ Synced ∷ Wrote q u ∷ Synced ∷ []) events h → Leaves h image
     → Stage p q n since k a b t u h image
 superblock_stage p q n since k a b t u events h image long_t long_u some later moment settled front =
     let s1 = Synced ∷ events in

@@ -24,7 +24,8 @@ use Rattle.qg_image.specs.StateOf.{StateOf}
 use Rattle.qg_image.specs.Verdict.{are_mirrored}
 use Rattle.qg_image.specs.Walk.{node_found}
 use Rattle.qg_image.proofs.Contained.{none_contained, contains_cases}
-use Rattle.qg_crashes.specs.Committing.{Committing, Crashing, IsFront, begin_of, nodes_synced, superblock_events}
+use Rattle.qg_crashes.specs.Committing.{Committing, Crashing, IsFrontOfEvents, begin_of, nodes_synced}
+use Rattle.qg_crashes.specs.Committing.{superblock_events}
 use Rattle.qg_crashes.specs.Repairing.{Repairing}
 use Rattle.qg_crashes.specs.Superblocks.{Replaces}
 use Rattle.qg_crashes.specs.Unwritten.{Spares}
@@ -251,7 +252,7 @@ module _ (state : State) (before after : List Event) (super : Super) (image : Li
     (stands : StateOf (content before) state)
     (counts : super_of (content before) ≡ Some super) (place : ℕ) (is_place : (place ≡ first_place)
     ⊎ (place ≡ second_place))
-    (so_far : IsFront (Wrote place (super_text place super) ∷ Synced ∷ []) (Synced ∷ before) after)
+    (so_far : IsFrontOfEvents (Wrote place (super_text place super) ∷ Synced ∷ []) (Synced ∷ before) after)
     (crash : Crashing before after image moment)
     (still : super_of image ≡ Some super)
     (mirrored : are_mirrored (super_in image first_place) (super_in image second_place) ≡ true)

@@ -38,10 +38,10 @@ FailsAfter Synced events after = after ≡ events
 
 -- some of these writes and syncs were done, or all, from the first on in their order; behind them one more may have
 -- failed
-abbrev pub IsFront : List Event → List Event → List Event → Type 0
-IsFront [] events after = after ≡ events
-IsFront (event ∷ more) events after = (after ≡ events)
-    ⊎ (FailsAfter event events after ⊎ IsFront more (event ∷ events) after)
+abbrev pub IsFrontOfEvents : List Event → List Event → List Event → Type 0
+IsFrontOfEvents [] events after = after ≡ events
+IsFrontOfEvents (event ∷ more) events after = (after ≡ events)
+    ⊎ (FailsAfter event events after ⊎ IsFrontOfEvents more (event ∷ events) after)
 
 -- A commit of this superblock came so far, on a disk that reaches past both places and had made sure of all that it
 -- held: its history was then a sync behind the events before.
@@ -49,7 +49,7 @@ pub record Committing (before nodes : List Event) (super : Super) (after : List 
   pub long : second_place + super_bytes ≤ length (content before)
   pub apart : All IsApart nodes
   pub may_be_written : IsTrue (is_super super)
-  pub so_far : IsFront (commit_events nodes super) (Synced ∷ before) after
+  pub so_far : IsFrontOfEvents (commit_events nodes super) (Synced ∷ before) after
 
 -- the moment at which a commit began
 abbrev pub begin_of : List Event → ℕ

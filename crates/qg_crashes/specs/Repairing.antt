@@ -7,7 +7,7 @@ use Rattle.qg_super.specs.Places.{first_place, second_place}
 use Rattle.qg_super.specs.SuperText.{super_text}
 use Rattle.qg_super.specs.NoChance.{super_bytes}
 use Rattle.qg_image.specs.ImageState.{super_in, super_of}
-use Rattle.qg_crashes.specs.Committing.{IsFront, Crashing}
+use Rattle.qg_crashes.specs.Committing.{IsFrontOfEvents, Crashing}
 
 -- The superblock that counts stands at one place and is written at the other, and made sure of. That came so far, on a
 -- disk that reaches past both places and had made sure of all that it held.
@@ -15,7 +15,7 @@ pub record Repairing (before : List Event) (place other : ℕ) (super : Super) (
   pub long : second_place + super_bytes ≤ length (content before)
   pub counts : super_of (content before) ≡ Some super
   pub stands : super_in (content before) other ≡ Some super
-  pub so_far : IsFront (Wrote place (super_text place super) ∷ Synced ∷ []) (Synced ∷ before) after
+  pub so_far : IsFrontOfEvents (Wrote place (super_text place super) ∷ Synced ∷ []) (Synced ∷ before) after
 
 -- at any moment the same superblock counts, whichever place is written
 abbrev pub KeepsWhatCounts : Type 0

@@ -10,7 +10,7 @@ use Rattle.qg_super.specs.declared.superblock.Super.{Super}
 use Rattle.qg_super.specs.Places.{is_slot, total_bytes}
 use Rattle.qg_super.specs.SuperText.{is_super, sizes_of}
 use Rattle.qg_image.specs.Walk.{node_found}
-use Rattle.qg_crashes.specs.Committing.{Committing, IsFront, begin_of, commit_events, nodes_synced}
+use Rattle.qg_crashes.specs.Committing.{Committing, IsFrontOfEvents, begin_of, commit_events, nodes_synced}
 
 -- a node that has a text, in a slot of the image
 pub record IsInSlot (super : Super) (node : Node) : Type 0 where
@@ -41,7 +41,7 @@ pub record Writing (before : List Event) (nodes : List Node) (super : Super) (af
   pub long : total_bytes (sizes_of super) ≤ length (content before)
   pub may_be_written : IsTrue (is_super super)
   pub in_slots : All (IsInSlot super) nodes
-  pub so_far : IsFront (events_of_commit nodes super) (Synced ∷ before) after
+  pub so_far : IsFrontOfEvents (events_of_commit nodes super) (Synced ∷ before) after
 
 -- it is one of which the laws on both superblocks speak: each write of a node is apart from both places
 abbrev pub WritingCommits : Type 0

@@ -15,7 +15,7 @@ use Rattle.qg_node.specs.declared.node.Node.{Node}
 use Rattle.qg_node.specs.Nodes.{header_of, is_ascending}
 use Rattle.qg_super.specs.declared.superblock.Super.{Super}
 use Rattle.qg_shape.proofs.Ascending.{all_before, not_itself}
-use Rattle.qg_image.specs.declared.tree.Tree.{Tree}
+use Rattle.qg_blocks.specs.Types.{Tree}
 use Rattle.qg_descent.specs.Branch.{AreBranches, IsBranch, IsPointed}
 use Rattle.qg_descent.specs.Tree.{Reaches}
 use Rattle.qg_descent.proofs.Under.{BeginAt}

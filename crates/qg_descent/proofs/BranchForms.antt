@@ -8,11 +8,11 @@ use Rattle.qg_node.specs.declared.node.Node.{Node}
 use Rattle.qg_node.specs.Nodes.{header_of, own_keys, used_bytes}
 use Rattle.qg_super.specs.declared.superblock.Super.{Super}
 use Rattle.qg_super.specs.Places.{capacity}
-use Rattle.qg_image.specs.IsShaped.{is_first, is_shaped}
-use Rattle.qg_image.specs.declared.tree.Tree.{Tree}
-use Rattle.qg_image.specs.declared.expected.Expected.{Expected}
-use Rattle.qg_image.specs.Failure.{first_failure, unless}
-use Rattle.qg_image.specs.Walk.{begins_at, ends_before, is_generation, is_owner, is_told, shape_failure, way_failure}
+use Rattle.qg_blocks.specs.IsShaped.{is_first, is_shaped}
+use Rattle.qg_blocks.specs.Types.{Tree}
+use Rattle.qg_blocks.specs.Types.{Expected}
+use Rattle.qg_blocks.specs.Failure.{first_failure, unless}
+use Rattle.qg_blocks.specs.Walk.{begins_at, ends_before, is_generation, is_owner, is_told, shape_failure, way_failure}
 use Rattle.qg_walk.specs.Standing.{form_failure}
 use Rattle.qg_walk.proofs.Failures.{kept-none, neither, none_of_two}
 

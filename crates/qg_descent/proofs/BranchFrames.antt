@@ -6,8 +6,8 @@ use Rattle.qg_node.specs.declared.pointer.Pointer.{Pointer}
 use Rattle.qg_node.specs.declared.node.Node.{Node}
 use Rattle.qg_node.specs.declared.node.Node.TheVariants.{Inner}
 use Rattle.qg_super.specs.declared.superblock.Super.{Super}
-use Rattle.qg_image.specs.declared.tree.Tree.{Tree}
-use Rattle.qg_image.specs.declared.expected.Expected.{Expected}
+use Rattle.qg_blocks.specs.Types.{Tree}
+use Rattle.qg_blocks.specs.Types.{Expected}
 use Rattle.qg_walk.specs.Standing.{form_failure}
 use Rattle.qg_descent.specs.Branch.{AreBranches, IsBranch, IsPointed}
 use Rattle.qg_descent.specs.Tree.{Reaches}

@@ -9,8 +9,8 @@ use Rattle.qg_node.specs.declared.node.Node.{Node}
 use Rattle.qg_node.specs.declared.node.Node.TheVariants.{Leaf, Inner}
 use Rattle.qg_node.specs.Nodes.{own_items}
 use Rattle.qg_super.specs.declared.superblock.Super.{Super}
-use Rattle.qg_image.proofs.Contained.{none_contained}
-use Rattle.qg_image.specs.declared.tree.Tree.{Tree}
+use Rattle.qg_blocks.proofs.Contained.{none_contained}
+use Rattle.qg_blocks.specs.Types.{Tree}
 use Rattle.qg_descent.specs.Branch.{IsBranch, UnderEach}
 use Rattle.qg_descent.specs.Tree.{Reaches}
 use Rattle.qg_descent.proofs.Branches.{branch-below}

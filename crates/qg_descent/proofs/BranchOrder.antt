@@ -16,8 +16,8 @@ use Rattle.qg_node.specs.declared.node.Node.TheVariants.{Leaf, Inner}
 use Rattle.qg_node.specs.Nodes.{is_ascending, own_keys}
 use Rattle.qg_super.specs.declared.superblock.Super.{Super}
 use Rattle.qg_shape.proofs.Ascending.{all_behind, ascending_tail_of}
-use Rattle.qg_image.specs.declared.tree.Tree.{Tree}
-use Rattle.qg_image.specs.declared.expected.Expected.{Expected}
+use Rattle.qg_blocks.specs.Types.{Tree}
+use Rattle.qg_blocks.specs.Types.{Expected}
 use Rattle.qg_walk.specs.Added.{AreWithin, is_from, is_to}
 use Rattle.qg_walk.specs.Standing.{expected_below}
 use Rattle.qg_walk.proofs.KeyRanges.{AreWithin-append, ends_before-each, list_all-true, list_all-weaker}

@@ -16,14 +16,14 @@ use Rattle.qg_node.specs.declared.node.Node.{Node}
 use Rattle.qg_node.specs.declared.node.Node.TheVariants.{Leaf, Inner}
 use Rattle.qg_node.specs.Nodes.{header_of, is_ascending, own_keys}
 use Rattle.qg_super.specs.declared.superblock.Super.{Super}
-use Rattle.qg_image.specs.Below.{inner_pointers, joined, leaf_items}
-use Rattle.qg_image.specs.IsShaped.{is_first, is_shaped, same_key}
+use Rattle.qg_blocks.specs.Below.{inner_pointers, joined, leaf_items}
+use Rattle.qg_blocks.specs.IsShaped.{is_first, is_shaped, same_key}
 use Rattle.qg_shape.proofs.Ascending.{all_before, all_behind, ascending_back, ascending_front}
-use Rattle.qg_image.specs.declared.tree.Tree.{Tree}
-use Rattle.qg_image.specs.declared.expected.Expected.{Expected}
-use Rattle.qg_image.specs.Among.{found_there}
-use Rattle.qg_image.specs.Walk.{begins_at, found_failure, is_told, next_key, pointers_failure, root_expected}
-use Rattle.qg_image.specs.Walk.{walk_failure}
+use Rattle.qg_blocks.specs.Types.{Tree}
+use Rattle.qg_blocks.specs.Types.{Expected}
+use Rattle.qg_blocks.specs.Among.{found_there}
+use Rattle.qg_blocks.specs.Walk.{begins_at, found_failure, is_told, next_key, pointers_failure, root_expected}
+use Rattle.qg_blocks.specs.Walk.{walk_failure}
 use Rattle.qg_walk.specs.Added.{is_from, is_to}
 use Rattle.qg_walk.specs.Standing.{expected_below, form_failure}
 use Rattle.qg_walk.proofs.Failures.{none_of_two}

@@ -8,8 +8,8 @@ use Rattle.qg_node.specs.declared.node.Node.{Node}
 use Rattle.qg_node.specs.declared.node.Node.TheVariants.{Leaf, Inner}
 use Rattle.qg_node.specs.Nodes.{header_of}
 use Rattle.qg_super.specs.declared.superblock.Super.{Super}
-use Rattle.qg_image.specs.declared.tree.Tree.{Tree}
-use Rattle.qg_image.specs.declared.expected.Expected.{Expected}
+use Rattle.qg_blocks.specs.Types.{Tree}
+use Rattle.qg_blocks.specs.Types.{Expected}
 use Rattle.qg_walk.specs.Standing.{expected_below, form_failure}
 use Rattle.qg_descent.specs.Branch.{AreBranches, IsBranch, IsMember, IsPointed}
 use Rattle.qg_descent.proofs.Under.{AreUnder, IsUnder, both-under, level-told, none-under, under-inner, under-leaf}

@@ -9,8 +9,8 @@ use Rattle.qg_node.specs.declared.node.Node.{Node}
 use Rattle.qg_node.specs.declared.node.Node.TheVariants.{Leaf, Inner}
 use Rattle.qg_node.specs.Nodes.{header_of, own_keys, own_pointers}
 use Rattle.qg_super.specs.declared.superblock.Super.{Super}
-use Rattle.qg_image.specs.IsShaped.{is_first}
-use Rattle.qg_image.specs.declared.tree.Tree.{Tree}
+use Rattle.qg_blocks.specs.IsShaped.{is_first}
+use Rattle.qg_blocks.specs.Types.{Tree}
 use Rattle.qg_walk.proofs.KeyRanges.{same_key-true}
 use Rattle.qg_descent.specs.Branch.{AreBranches, IsBranch, IsPointed, UnderEach}
 use Rattle.qg_descent.specs.Tree.{Reaches}

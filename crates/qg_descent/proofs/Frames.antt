@@ -11,13 +11,13 @@ use Rattle.qg_node.specs.declared.node.Node.{Node}
 use Rattle.qg_node.specs.declared.node.Node.TheVariants.{Leaf, Inner}
 use Rattle.qg_node.specs.Nodes.{header_of, own_pointers}
 use Rattle.qg_super.specs.declared.superblock.Super.{Super}
-use Rattle.qg_image.specs.Below.{inner_pointers, items_below, joined, leaf_items}
-use Rattle.qg_image.specs.declared.failure.Failure.{Failure}
-use Rattle.qg_image.specs.declared.tree.Tree.{Tree}
-use Rattle.qg_image.specs.declared.expected.Expected.{Expected}
-use Rattle.qg_image.specs.Among.{found_there}
-use Rattle.qg_image.specs.Failure.{first_failure}
-use Rattle.qg_image.specs.Walk.{found_failure, pointers_failure, root_expected, walk_failure}
+use Rattle.qg_blocks.specs.Below.{inner_pointers, items_below, joined, leaf_items}
+use Rattle.qg_blocks.specs.Types.{Failure}
+use Rattle.qg_blocks.specs.Types.{Tree}
+use Rattle.qg_blocks.specs.Types.{Expected}
+use Rattle.qg_blocks.specs.Among.{found_there}
+use Rattle.qg_blocks.specs.Failure.{first_failure}
+use Rattle.qg_blocks.specs.Walk.{found_failure, pointers_failure, root_expected, walk_failure}
 use Rattle.qg_walk.specs.Standing.{expected_below, form_failure}
 use Rattle.qg_descent.specs.Tree.{IsTree, Reaches, found_in}
 

@@ -17,11 +17,11 @@ use Rattle.qg_node.specs.declared.node.Node.{Node}
 use Rattle.qg_node.specs.declared.node.Node.TheVariants.{Leaf, Inner}
 use Rattle.qg_node.specs.Nodes.{is_ascending, own_keys, own_pointers}
 use Rattle.qg_super.specs.declared.superblock.Super.{Super}
-use Rattle.qg_image.specs.IsShaped.{is_first}
+use Rattle.qg_blocks.specs.IsShaped.{is_first}
 use Rattle.qg_shape.proofs.Searched.{leads_upto}
-use Rattle.qg_image.specs.declared.tree.Tree.{Tree}
-use Rattle.qg_image.specs.declared.expected.Expected.{Expected}
-use Rattle.qg_image.specs.Walk.{next_key, root_expected}
+use Rattle.qg_blocks.specs.Types.{Tree}
+use Rattle.qg_blocks.specs.Types.{Expected}
+use Rattle.qg_blocks.specs.Walk.{next_key, root_expected}
 use Rattle.qg_walk.specs.Added.{is_from, is_to}
 use Rattle.qg_walk.specs.Standing.{expected_below}
 use Rattle.qg_walk.proofs.Failures.{IsFormed-form}

@@ -14,7 +14,7 @@ use Rattle.qg_num.specs.Key.{key_cmp}
 use Rattle.qg_num.specs.declared.key.Key.{Key}
 use Rattle.qg_node.specs.declared.item.Item.{Item}
 use Rattle.qg_node.specs.Nodes.{is_ascending}
-use Rattle.qg_image.specs.IsShaped.{same_key}
+use Rattle.qg_blocks.specs.IsShaped.{same_key}
 use Rattle.qg_shape.specs.Places.{GoesAt}
 use Rattle.qg_shape.proofs.Ascending.{all_before, all_behind, ascending_back, same_itself}
 use Rattle.qg_walk.proofs.KeyRanges.{not_less_behind, not_less_itself}

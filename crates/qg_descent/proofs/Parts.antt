@@ -10,7 +10,7 @@ use Rattle.std.proofs.lemmas.List.Elements.{filter-append}
 use Rattle.qg_num.specs.Key.{key_cmp}
 use Rattle.qg_num.specs.declared.key.Key.{Key}
 use Rattle.qg_node.specs.declared.item.Item.{Item}
-use Rattle.qg_image.specs.IsShaped.{same_key}
+use Rattle.qg_blocks.specs.IsShaped.{same_key}
 use Rattle.qg_walk.specs.Added.{is_from, is_to}
 use Rattle.qg_walk.proofs.KeyRanges.{less_upto, list_all-weaker, not_less_itself, same_key-true}
 use Rattle.qg_descent.specs.Reading.{body_at, is_upto, last_or, last_upto}

@@ -14,10 +14,10 @@ use Rattle.std.proofs.lemmas.List.Folds.{list_all-map}
 use Rattle.qg_num.specs.Key.{IsKey, key_cmp}
 use Rattle.qg_num.specs.declared.key.Key.{Key}
 use Rattle.qg_node.specs.declared.item.Item.{Item}
-use Rattle.qg_image.specs.IsShaped.{same_key}
+use Rattle.qg_blocks.specs.IsShaped.{same_key}
 use Rattle.qg_shape.proofs.Ascending.{same_itself}
 use Rattle.qg_walk.specs.Added.{is_from, is_to}
-use Rattle.qg_image.specs.Walk.{ends_before}
+use Rattle.qg_blocks.specs.Walk.{ends_before}
 use Rattle.qg_walk.proofs.KeyRanges.{ends_before-each, is_from-later, less_trans, less_upto, list_all-weaker}
 use Rattle.qg_walk.proofs.KeyRanges.{not_less_behind, not_less_itself, same_key-true}
 use Rattle.qg_descent.specs.Reading.{body_at, is_upto, is_within, items_within, rest_within}

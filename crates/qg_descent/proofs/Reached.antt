@@ -12,11 +12,11 @@ use Rattle.qg_node.specs.declared.node.Node.{Node}
 use Rattle.qg_node.specs.declared.node.Node.TheVariants.{Leaf, Inner}
 use Rattle.qg_node.specs.Nodes.{header_of, is_ascending, own_keys, own_pointers}
 use Rattle.qg_node.specs.NodeText.{IsNode}
-use Rattle.qg_image.specs.Below.{leaf_items}
+use Rattle.qg_blocks.specs.Below.{leaf_items}
 use Rattle.qg_super.specs.declared.superblock.Super.{Super}
-use Rattle.qg_image.specs.declared.expected.Expected.{Expected}
-use Rattle.qg_image.specs.declared.tree.Tree.{Tree}
-use Rattle.qg_image.specs.Walk.{root_expected}
+use Rattle.qg_blocks.specs.Types.{Expected}
+use Rattle.qg_blocks.specs.Types.{Tree}
+use Rattle.qg_blocks.specs.Walk.{root_expected}
 use Rattle.qg_walk.specs.Added.{is_to}
 use Rattle.qg_walk.specs.Standing.{expected_below, form_failure}
 use Rattle.qg_walk.proofs.Failures.{IsFormed-form}

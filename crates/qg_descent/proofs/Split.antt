@@ -13,8 +13,8 @@ use Rattle.qg_node.specs.declared.node.Node.{Node}
 use Rattle.qg_node.specs.Nodes.{is_ascending}
 use Rattle.qg_super.specs.declared.superblock.Super.{Super}
 use Rattle.qg_shape.proofs.Ascending.{all_before, all_behind, ascending_tail_of}
-use Rattle.qg_image.specs.declared.tree.Tree.{Tree}
-use Rattle.qg_image.specs.Walk.{next_key}
+use Rattle.qg_blocks.specs.Types.{Tree}
+use Rattle.qg_blocks.specs.Walk.{next_key}
 use Rattle.qg_walk.specs.Added.{is_from, is_to}
 use Rattle.qg_walk.specs.Standing.{expected_below}
 use Rattle.qg_walk.proofs.KeyRanges.{is_to-earlier, list_all-both, list_all-weaker, not_less_behind}

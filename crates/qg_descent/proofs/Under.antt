@@ -14,14 +14,14 @@ use Rattle.qg_node.specs.declared.node.Node.{Node}
 use Rattle.qg_node.specs.declared.node.Node.TheVariants.{Leaf, Inner}
 use Rattle.qg_node.specs.Nodes.{own_keys}
 use Rattle.qg_super.specs.declared.superblock.Super.{Super}
-use Rattle.qg_image.specs.Below.{inner_pointers, items_below, joined, leaf_items}
-use Rattle.qg_image.specs.IsShaped.{is_first, is_shaped}
-use Rattle.qg_image.specs.declared.failure.Failure.{Failure}
-use Rattle.qg_image.specs.declared.tree.Tree.{Tree}
-use Rattle.qg_image.specs.declared.expected.Expected.{Expected}
-use Rattle.qg_image.specs.Among.{found_there}
-use Rattle.qg_image.specs.Walk.{found_failure, is_told, next_key, pointers_failure, shape_failure, walk_failure}
-use Rattle.qg_image.specs.Walk.{way_failure}
+use Rattle.qg_blocks.specs.Below.{inner_pointers, items_below, joined, leaf_items}
+use Rattle.qg_blocks.specs.IsShaped.{is_first, is_shaped}
+use Rattle.qg_blocks.specs.Types.{Failure}
+use Rattle.qg_blocks.specs.Types.{Tree}
+use Rattle.qg_blocks.specs.Types.{Expected}
+use Rattle.qg_blocks.specs.Among.{found_there}
+use Rattle.qg_blocks.specs.Walk.{found_failure, is_told, next_key, pointers_failure, shape_failure, walk_failure}
+use Rattle.qg_blocks.specs.Walk.{way_failure}
 use Rattle.qg_num.specs.declared.rule.Rule.TheVariants as rule
 use Rattle.qg_walk.specs.Added.{is_from, is_to}
 use Rattle.qg_walk.specs.Standing.{expected_below, form_failure}

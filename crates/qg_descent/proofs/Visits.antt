@@ -19,13 +19,13 @@ use Rattle.qg_node.specs.Nodes.{header_of, own_pointers}
 use Rattle.qg_node.specs.NodeText.{IsNode}
 use Rattle.qg_super.specs.declared.sizes.Sizes.{Sizes}
 use Rattle.qg_super.specs.declared.superblock.Super.{Super}
-use Rattle.qg_image.specs.IsShaped.{is_shaped}
-use Rattle.qg_image.specs.declared.expected.Expected.{Expected}
-use Rattle.qg_image.specs.declared.failure.Failure.{Failure}
-use Rattle.qg_image.specs.declared.failure.Failure.TheVariants.{Broken, Differs}
-use Rattle.qg_image.specs.declared.tree.Tree.{Tree}
-use Rattle.qg_image.specs.Failure.{first_failure, unless}
-use Rattle.qg_image.specs.Walk.{is_generation, is_owner, is_told, shape_failure, way_failure}
+use Rattle.qg_blocks.specs.IsShaped.{is_shaped}
+use Rattle.qg_blocks.specs.Types.{Expected}
+use Rattle.qg_blocks.specs.Types.{Failure}
+use Rattle.qg_blocks.specs.Types.{Broken, Differs}
+use Rattle.qg_blocks.specs.Types.{Tree}
+use Rattle.qg_blocks.specs.Failure.{first_failure, unless}
+use Rattle.qg_blocks.specs.Walk.{is_generation, is_owner, is_told, shape_failure, way_failure}
 use Rattle.qg_walk.specs.Standing.{form_failure}
 use Rattle.qg_walk.proofs.Failures.{IsFormed-form}
 use Rattle.qg_blocks.specs.Held.{Draft, Held}

@@ -14,18 +14,18 @@ use Rattle.qg_node.specs.declared.node.Node.{Node}
 use Rattle.qg_node.specs.Nodes.{header_of, own_items, own_keys, own_pointers}
 use Rattle.qg_super.specs.declared.sizes.Sizes.{Sizes}
 use Rattle.qg_super.specs.declared.superblock.Super.{Super}
-use Rattle.qg_image.specs.Below.{items_below}
-use Rattle.qg_image.specs.IsShaped.{is_shaped}
-use Rattle.qg_image.specs.ItemMeaning.{when}
-use Rattle.qg_image.specs.declared.failure.Failure.{Failure}
-use Rattle.qg_image.specs.declared.tree.Tree.{Tree}
-use Rattle.qg_image.specs.declared.expected.Expected.{Expected}
-use Rattle.qg_image.specs.Among.{found_there}
-use Rattle.qg_image.specs.Failure.{first_failure, unless}
-use Rattle.qg_image.specs.Walk.{begins_at, deepest, ends_before, found_failure, is_generation, is_item_of, is_owner}
-use Rattle.qg_image.specs.Walk.{is_told, node_failure, node_found, pointers_failure, root_expected, shape_failure}
-use Rattle.qg_image.specs.Walk.{tree_failure, walk_failure, way_failure}
-use Rattle.qg_image.specs.ItemsUnder.{is_way, items_under, nodes_of}
+use Rattle.qg_blocks.specs.Below.{items_below}
+use Rattle.qg_blocks.specs.IsShaped.{is_shaped}
+use Rattle.qg_blocks.specs.ItemMeaning.{when}
+use Rattle.qg_blocks.specs.Types.{Failure}
+use Rattle.qg_blocks.specs.Types.{Tree}
+use Rattle.qg_blocks.specs.Types.{Expected}
+use Rattle.qg_blocks.specs.Among.{found_there}
+use Rattle.qg_blocks.specs.Failure.{first_failure, unless}
+use Rattle.qg_blocks.specs.Walk.{begins_at, deepest, ends_before, found_failure, is_generation, is_item_of, is_owner}
+use Rattle.qg_blocks.specs.Walk.{is_told, node_failure, node_found, pointers_failure, root_expected, shape_failure}
+use Rattle.qg_blocks.specs.Walk.{tree_failure, walk_failure, way_failure}
+use Rattle.qg_blocks.specs.ItemsUnder.{is_way, items_under, nodes_of}
 use Rattle.qg_walk.specs.Standing.{expected_below, form_failure}
 use Rattle.qg_walk.proofs.Failures.{kept-none, neither, none_of_two}
 use Rattle.qg_blocks.specs.Held.{Draft}

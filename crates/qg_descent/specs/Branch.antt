@@ -9,9 +9,9 @@ use Rattle.qg_node.specs.declared.node.Node.TheVariants.{Leaf, Inner}
 use Rattle.qg_node.specs.Nodes.{header_of, own_keys, used_bytes}
 use Rattle.qg_super.specs.declared.superblock.Super.{Super}
 use Rattle.qg_super.specs.Places.{capacity}
-use Rattle.qg_image.specs.IsShaped.{is_first}
-use Rattle.qg_image.specs.declared.tree.Tree.{Tree}
-use Rattle.qg_image.specs.Walk.{is_generation, is_owner}
+use Rattle.qg_blocks.specs.IsShaped.{is_first}
+use Rattle.qg_blocks.specs.Types.{Tree}
+use Rattle.qg_blocks.specs.Walk.{is_generation, is_owner}
 
 -- a node that a tree may have on a level: by its level, its owner and its generation
 pub record IsMember (tree : Tree) (super : Super) (level : ℕ) (header : Header) : Type 0 where

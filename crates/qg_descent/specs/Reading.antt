@@ -4,7 +4,7 @@ use Rattle.std.specs.Ordering.{is_lt}
 use Rattle.qg_num.specs.Key.{key_cmp}
 use Rattle.qg_num.specs.declared.key.Key.{Key}
 use Rattle.qg_node.specs.declared.item.Item.{Item}
-use Rattle.qg_image.specs.IsShaped.{same_key}
+use Rattle.qg_blocks.specs.IsShaped.{same_key}
 
 -- the body under a key, if an item has it
 abbrev pub body_at : Key → List Item → Option (List ℕ)

@@ -5,11 +5,11 @@ use Rattle.qg_node.specs.declared.pointer.Pointer.{Pointer}
 use Rattle.qg_node.specs.declared.node.Node.{Node}
 use Rattle.qg_node.specs.Nodes.{own_pointers}
 use Rattle.qg_super.specs.declared.superblock.Super.{Super}
-use Rattle.qg_image.specs.Below.{items_below}
-use Rattle.qg_image.specs.declared.failure.Failure.{Failure}
-use Rattle.qg_image.specs.declared.tree.Tree.{Tree}
-use Rattle.qg_image.specs.Among.{found_there}
-use Rattle.qg_image.specs.Walk.{root_expected, walk_failure}
+use Rattle.qg_blocks.specs.Below.{items_below}
+use Rattle.qg_blocks.specs.Types.{Failure}
+use Rattle.qg_blocks.specs.Types.{Tree}
+use Rattle.qg_blocks.specs.Among.{found_there}
+use Rattle.qg_blocks.specs.Walk.{root_expected, walk_failure}
 use Rattle.qg_walk.specs.Standing.{form_failure}
 use Rattle.qg_device.specs.History.{History}
 use Rattle.qg_blocks.specs.Held.{Draft}

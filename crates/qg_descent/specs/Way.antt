@@ -18,10 +18,10 @@ use Rattle.qg_node.specs.declared.node.Node.TheVariants.{Leaf}
 use Rattle.qg_node.specs.Nodes.{header_of, is_ascending, own_pointers}
 use Rattle.qg_super.specs.declared.superblock.Super.{Super}
 use Rattle.qg_shape.specs.Places.{LeadsTo}
-use Rattle.qg_image.specs.declared.expected.Expected.{Expected}
-use Rattle.qg_image.specs.declared.failure.Failure.TheVariants.{Broken}
-use Rattle.qg_image.specs.declared.tree.Tree.{Tree}
-use Rattle.qg_image.specs.Walk.{ends_before, root_expected}
+use Rattle.qg_blocks.specs.Types.{Expected}
+use Rattle.qg_blocks.specs.Types.{Broken}
+use Rattle.qg_blocks.specs.Types.{Tree}
+use Rattle.qg_blocks.specs.Walk.{ends_before, root_expected}
 use Rattle.qg_walk.specs.Added.{is_to}
 use Rattle.qg_walk.specs.Standing.{expected_below, form_failure}
 use Rattle.qg_blocks.specs.Held.{Draft, Held}

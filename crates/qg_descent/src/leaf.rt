@@ -1,6 +1,6 @@
 // What is read of one leaf.
 ghost use Rattle.std.specs.Prelude.{◌≡◌, ◌++◌, map, IfOk, IsSome, OnOk, Some, IsTrue};
-ghost use Rattle.qg_image.specs.Below.{leaf_items};
+ghost use Rattle.qg_blocks.specs.Below.{leaf_items};
 ghost use Rattle.qg_node.specs.Nodes.{is_ascending};
 ghost use Rattle.qg_descent.specs.Reading.{body_at, is_within, items_within, last_upto};
 ghost use Rattle.qg_descent.specs.Way.{next_within};

@@ -12,11 +12,11 @@ ghost use Rattle.qg_descent.specs.Way.{FailsOnWay, FailsThere, HasRead, IsReadab
 use crate::Tree;
 use crate::way::{Way, next_way};
 use qg_blocks::Blocks;
+use qg_blocks::image::Failure;
 use qg_disk::Disk;
-use qg_image::Failure;
 use qg_num::{BlockFault, Key, Steps};
-use qg_parts::TreePart;
 use qg_walk::form_failure;
+use qg_walk::parts::TreePart;
 use std::sync::ledger::Ledger;
 
 impl Tree {

@@ -14,7 +14,7 @@ use qg_blocks::Blocks;
 use qg_disk::Disk;
 use qg_node::{Body, Item, Items};
 use qg_num::{BlockFault, Key, Steps};
-use qg_parts::TreePart;
+use qg_walk::parts::TreePart;
 use std::alloc::Global;
 use std::sync::ledger::Ledger;
 

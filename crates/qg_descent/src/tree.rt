@@ -1,11 +1,11 @@
 // A tree.
 ghost use Rattle.std.specs.Prelude.{◌≡◌, ◌+◌, ◌-◌, ◌<◌, ◌^◌, None, Some};
-ghost use Rattle.qg_image.specs.Walk.{root_expected};
+ghost use Rattle.qg_blocks.specs.Walk.{root_expected};
 ghost use Rattle.qg_descent.specs.Tree.{super_of};
 
 use crate::way::Way;
 use qg_blocks::Blocks;
-use qg_image::Expected;
+use qg_blocks::image::Expected;
 use qg_num::{Address, Generation, RootId};
 use qg_super::Super;
 use std::marker::Model;

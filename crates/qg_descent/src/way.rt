@@ -3,7 +3,7 @@ ghost use Rattle.std.specs.Prelude.{◌<◌, length, map, IsTrue};
 ghost use Rattle.qg_node.specs.Nodes.{is_ascending, own_keys, own_pointers};
 ghost use Rattle.qg_descent.specs.Way.{LeadsFor};
 
-use qg_image::Expected;
+use qg_blocks::image::Expected;
 use qg_node::{Node, Pointer};
 use qg_num::{Address, Key};
 use qg_shape::child_for;

@@ -110,6 +110,7 @@ fn write_whole<F: Write + Seek>(file: &mut F, at: u64, bytes: &[u8]) -> usize
 }
 
 impl<F: Read + Write + Seek + OpenFile> Disk for FileDisk<F> {
+    ghost use Rattle.std.specs.Prelude.{false};
     ghost use Rattle.qg_disk.specs.FileDisk.{sized_untold};
 
     ghost history = { λ d. Unrecorded d.changes };
@@ -117,6 +118,8 @@ impl<F: Read + Write + Seek + OpenFile> Disk for FileDisk<F> {
     ghost size = { λ d. d.len };
 
     ghost faults = { λ d. d.faults };
+
+    ghost takes_memory = { false };
 
     ghost sized = { λ d events told. sized_untold d.len d.changes events told };
 

@@ -120,6 +120,7 @@ impl MemDisk {
 }
 
 impl Disk for MemDisk {
+    ghost use Rattle.std.specs.Prelude.{true};
     ghost use Rattle.qg_disk.specs.Call.{sized_as_told};
 
     ghost history = { memory_history };
@@ -127,6 +128,8 @@ impl Disk for MemDisk {
     ghost size = { memory_size };
 
     ghost faults = { memory_faults };
+
+    ghost takes_memory = { true };
 
     ghost sized = { λ disk events told. sized_as_told disk.calls events told };
 

@@ -41,6 +41,7 @@ impl SureDisk {
 }
 
 impl Disk for SureDisk {
+    ghost use Rattle.std.specs.Prelude.{true};
     ghost use Rattle.qg_disk.specs.Call.{sized_as_told};
 
     ghost history = { λ calls. Recorded (history_of calls) };
@@ -48,6 +49,8 @@ impl Disk for SureDisk {
     ghost size = { size_of };
 
     ghost faults = { λ _. 0 };
+
+    ghost takes_memory = { true };
 
     ghost sized = { sized_as_told };
 

@@ -1,5 +1,5 @@
 // A disk as the layers above see it.
-ghost use Rattle.std.specs.Prelude.{◌≡◌, ◌+◌, ◌^◌, ◌<◌, ◌≤◌, List, ℕ, length, max, OnOk, IsErrOf};
+ghost use Rattle.std.specs.Prelude.{◌≡◌, ◌+◌, ◌^◌, ◌<◌, ◌≤◌, Bool, List, ℕ, length, max, OnOk, IsErrOf, IsTrue};
 ghost use Rattle.qg_device.specs.Cause.{HasCause};
 ghost use Rattle.qg_device.specs.History.{Event, History, Recorded, content, range};
 ghost use Rattle.qg_disk.specs.Disk.{Writes, Cuts, Syncs};
@@ -19,6 +19,9 @@ pub trait Disk {
     /// How many calls have failed, up to the last number of 64 bits.
     ghost faults: { Self → ℕ };
 
+    /// Whether its calls take memory, so that they may want it. A disk whose calls take none never answers `NoMemory`.
+    ghost takes_memory: { Bool };
+
     /// Its length in bytes.
     fn len(&self) -> u64
         ensures { result ≡ size self.now };
@@ -30,6 +33,7 @@ pub trait Disk {
             → OnOk result (buf.new ≡ range at (length buf.old) (content events)) }
         ensures history { history self.new ≡ history self.old }
         ensures size { size self.new ≡ size self.old }
+        ensures memory { IsErrOf result DiskFault.NoMemory → IsTrue takes_memory }
         ensures cause { HasCause DiskFault.Failed (faults self.old) (faults self.new) result };
 
     /// Writes bytes from `at` on, also past the end, where a gap reads as 0; one of no bytes past the end
@@ -41,6 +45,7 @@ pub trait Disk {
         ensures no_less { size self.old ≤ size self.new }
         ensures no_more { size self.new ≤ max (size self.old) (at + length bytes.now) }
         ensures no_memory { IsErrOf result DiskFault.NoMemory → size self.new ≡ size self.old }
+        ensures memory { IsErrOf result DiskFault.NoMemory → IsTrue takes_memory }
         ensures cause { HasCause DiskFault.Failed (faults self.old) (faults self.new) result };
 
     /// Cuts the disk to a length. One that fails may leave any bytes behind it, and makes the disk no
@@ -52,12 +57,14 @@ pub trait Disk {
         ensures no_less { len ≤ size self.new }
         ensures no_more { size self.new ≤ size self.old }
         ensures no_memory { IsErrOf result DiskFault.NoMemory → size self.new ≡ size self.old }
+        ensures memory { IsErrOf result DiskFault.NoMemory → IsTrue takes_memory }
         ensures cause { HasCause DiskFault.Failed (faults self.old) (faults self.new) result };
 
     /// Makes sure of what the disk holds, so that a crash leaves it. One that fails changes nothing.
     fn sync(&mut self) -> Result<(), DiskFault>
         ensures event { Syncs (history self.old) (history self.new) result }
         ensures size { size self.new ≡ size self.old }
+        ensures memory { IsErrOf result DiskFault.NoMemory → IsTrue takes_memory }
         ensures cause { HasCause DiskFault.Failed (faults self.old) (faults self.new) result };
 
     /// Where it tells, its size is that of what it holds.

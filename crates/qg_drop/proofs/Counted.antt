@@ -33,7 +33,7 @@ use Rattle.qg_descent.proofs.Under.{IsInnerUnder, IsUnder, under-inner}
 use Rattle.qg_forest.proofs.Below.{met-reached}
 use Rattle.qg_forest.proofs.Meeting.{placed-there}
 use Rattle.qg_drop.specs.declared.child.Child.{Child}
-use Rattle.qg_drop.specs.Counting.{LeadsToBranch, TellsNodes, nodes_below, ways_reached, ways_told}
+use Rattle.qg_drop.specs.Counting.{LeadsToBranch, TellsNodes, node_count_below, ways_reached, ways_told}
 use Rattle.qg_drop.specs.Dropping.{is_below}
 use Rattle.qg_drop.proofs.Among.{among-first, among-none, nodes_among}
 use Rattle.qg_drop.proofs.Dropped.{count-inner, count-pointers}
@@ -126,7 +126,7 @@ module _ (draft : Draft) (history : History) (state : State) (tells : TellsNodes
 
       -- ---- a leaf
 
-      pub leaf-count : level ≡ 0 → nodes_below state level at ≡ 1
+      pub leaf-count : level ≡ 0 → node_count_below state level at ≡ 1
       leaf-count low =
           let own = map extent_of (pieces_of top.0) in
           let none : (q : ℕ) → has_key q state.layout ≡ true → is_among q own ≡ true → ⊥
@@ -135,7 +135,7 @@ module _ (draft : Draft) (history : History) (state : State) (tells : TellsNodes
           let first = among-first state.layout (record { address = at; bytes = state.sizes.nodesize }) own top_key
           (λ q key among same. none q key among) in
           let rest = among-none state.layout own none in
-          let level_is = ap (λ (n : ℕ). nodes_below state n at) low in
+          let level_is = ap (λ (n : ℕ). node_count_below state n at) low in
           let whole = ap (λ (o : Option Node). nodes_among state.layout (own_elements state.sizes.nodesize at o))
           top.1 in
           omega (arith, level_is, whole, first, rest)
@@ -192,8 +192,8 @@ module _ (draft : Draft) (history : History) (state : State) (tells : TellsNodes
             branches-apart Files super nodes lower inner.pointers leads.items branches leads.ascending i j p r is_p is_r
             differ q (below_reached lower p.child q key below) (below_reached lower r.child q key below')
 
-        counted : nodes_below state level at ≡ ways_reached state lower (ways_told way.expected.to lower inner.pointers)
-            + 1
+        counted : node_count_below state level at
+            ≡ ways_reached state lower (ways_told way.expected.to lower inner.pointers) + 1
         counted =
             let part : Child = record { way = way; full = false } in
             let all = sum_by-cons (λ (part : Child). nodes_among state.layout (reach_under nodes state.sizes.nodesize
@@ -201,23 +201,23 @@ module _ (draft : Draft) (history : History) (state : State) (tells : TellsNodes
             let one = count-inner state lower at inner.header inner.pointers inner.here part refl top_key not_top in
             let each = count-pointers state lower inner.pointers apart in
             let sum = ways-sum state lower way.expected.to inner.pointers in
-            let above = ap (λ (n : ℕ). nodes_below state n at) high in
+            let above = ap (λ (n : ℕ). node_count_below state n at) high in
             omega (arith, all, one, each, sum, above)
 
         -- and below it lie one more than below them
         pub inner-count : (judge : Super) (held : Held)
             → IsVisited Files judge way.expected draft history held at → (seen : Node)
             → held_at held at ≡ Some seen
-            → nodes_below state level at
+            → node_count_below state level at
             ≡ ways_reached state lower (ways_told way.expected.to lower (own_pointers seen)) + 1
         inner-count judge held visited seen has =
-            subst (λ (pointers : List Pointer). nodes_below state level at
+            subst (λ (pointers : List Pointer). node_count_below state level at
             ≡ ways_reached state lower (ways_told way.expected.to lower pointers) + 1)
             (sym (pointers_seen judge held visited seen has)) counted
 
       -- the node itself lies there
-      pub some-below : 0 < nodes_below state level at
+      pub some-below : 0 < node_count_below state level at
       some-below = by level refl where
-        by : (n : ℕ) → level ≡ n → 0 < nodes_below state level at
+        by : (n : ℕ) → level ≡ n → 0 < node_count_below state level at
         by zero low = let one = leaf-count low in omega (arith, one)
         by (suc lower) high = let more = counted lower high in omega (arith, more)

@@ -1,3 +1,6 @@
+pub use Rattle.qg_forest.proofs.Extents
+pub use Rattle.qg_forest.proofs.Meeting
+pub use Rattle.qg_forest.proofs.Roots
 pub mod Partly
 pub mod Parted
 pub mod Stepped

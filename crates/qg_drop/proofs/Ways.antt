@@ -14,7 +14,7 @@ use Rattle.qg_walk.specs.Standing.{expected_below}
 use Rattle.qg_descent.specs.declared.way.Way.{Way}
 use Rattle.qg_descent.proofs.BranchRanges.{ascending-first, ascending-others}
 use Rattle.qg_descent.proofs.Under.{AreUnder, both-under}
-use Rattle.qg_drop.specs.Counting.{LeadsToBranch, nodes_below, ways_reached, ways_told}
+use Rattle.qg_drop.specs.Counting.{LeadsToBranch, node_count_below, ways_reached, ways_told}
 
 -- what is expected on ways to children is of their level
 pub ways-levelled : (to : Option Key) (level : ℕ) (pointers : List Pointer)
@@ -44,16 +44,16 @@ module _ (state : State) where
       (ascending-others both.first both.others items both.items_are ascending))
 
   pub ways-first : (level : ℕ) (way : Way) (ways : List Way)
-      → ways_reached state level (way ∷ ways) ≡ nodes_below state level way.address + ways_reached state level ways
-  ways-first level way ways = sum_by-cons (λ (way : Way). nodes_below state level way.address) way ways
+      → ways_reached state level (way ∷ ways) ≡ node_count_below state level way.address + ways_reached state level ways
+  ways-first level way ways = sum_by-cons (λ (way : Way). node_count_below state level way.address) way ways
 
   pub ways-sum : (level : ℕ) (to : Option Key) (pointers : List Pointer)
       → ways_reached state level (ways_told to level pointers)
-      ≡ sum_by (λ (pointer : Pointer). nodes_below state level pointer.child) pointers
+      ≡ sum_by (λ (pointer : Pointer). node_count_below state level pointer.child) pointers
   ways-sum level to [] = refl
   ways-sum level to (pointer ∷ pointers) =
       let way : Way = record { address = pointer.child; expected = expected_below level to pointer pointers } in
       let all = ways-first level way (ways_told to level pointers) in
       let rest = ways-sum level to pointers in
-      let sum = sum_by-cons (λ (pointer : Pointer). nodes_below state level pointer.child) pointer pointers in
+      let sum = sum_by-cons (λ (pointer : Pointer). node_count_below state level pointer.child) pointer pointers in
       omega (arith, all, rest, sum)

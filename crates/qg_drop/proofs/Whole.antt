@@ -27,7 +27,7 @@ use Rattle.qg_forest.proofs.Extents.{among-one, apart-held, extents-held, some-o
 use Rattle.qg_forest.proofs.Meeting.{each-there, placed-there, root-valued}
 use Rattle.qg_forest.proofs.Referring.{extents-named, named_by}
 use Rattle.qg_forest.proofs.Roots.{root_level-value, root_of-value}
-use Rattle.qg_drop.specs.Counting.{LeadsToBranch, TellsNodes, nodes_below}
+use Rattle.qg_drop.specs.Counting.{LeadsToBranch, TellsNodes, node_count_below}
 use Rattle.qg_drop.proofs.Among.{nodes_among}
 use Rattle.qg_drop.proofs.Few.{nodes-few}
 
@@ -113,10 +113,10 @@ module _ (land : Ground) (history : History) (book : TreeRefs) (state : State)
 
     -- and below it lies what the subvolume reaches
     pub root-count : (height at : ℕ) → height ≡ root_level state sub → at ≡ root_of state sub
-        → nodes_below state height at ≡ nodes_reached state sub
+        → node_count_below state height at ≡ nodes_reached state sub
     root-count height at high address =
         let level_is = high ∙ root_level-value state sub mine.0 mine.1 in
         let root_is = address ∙ root_of-value state sub mine.0 mine.1 in
-        ap (λ (n : ℕ). nodes_below state n at) level_is ∙ ap (λ (a : ℕ). nodes_below state level a) root_is
+        ap (λ (n : ℕ). node_count_below state n at) level_is ∙ ap (λ (a : ℕ). node_count_below state level a) root_is
         ∙ sym (ap (λ (elements : List Element). nodes_among state.layout elements)
         (reach_value state sub mine.0 mine.1))

@@ -43,10 +43,10 @@ pub record LeadsToBranch (state : State) (level : ℕ) (way : Way) : Type 0 wher
   pub ascending : IsTrue (is_ascending (map (λ item. item.key) items))
 
 -- how many nodes lie below the node of a level at an address, itself included
-abbrev pub nodes_below : State → ℕ → ℕ → ℕ
-nodes_below state level at = length (filter (λ element. has_key element.address state.layout)
+abbrev pub node_count_below : State → ℕ → ℕ → ℕ
+node_count_below state level at = length (filter (λ element. has_key element.address state.layout)
     (distinct (reach_under (node_at state.layout) state.sizes.nodesize level at)))
 
 -- how many lie below the nodes that ways lead to, each way by itself
 abbrev pub ways_reached : State → ℕ → List Way → ℕ
-ways_reached state level ways = sum_by (λ (way : Way). nodes_below state level way.address) ways
+ways_reached state level ways = sum_by (λ (way : Way). node_count_below state level way.address) ways

@@ -1,2 +1,3 @@
+pub use Rattle.qg_forest.specs.Standing
 pub mod Dropping
 pub mod Counting

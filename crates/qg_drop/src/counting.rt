@@ -10,7 +10,7 @@ ghost use Rattle.qg_descent.specs.Way.{HasRead, IsReadable};
 ghost use Rattle.qg_tree_edits.specs.Editing.{IsEditable};
 ghost use Rattle.qg_tree_refs.specs.declared.tree_refs.TreeRefs.{TreeRefs as BookOfTree};
 ghost use Rattle.qg_forest.specs.Standing.{HoldsState, tree_of};
-ghost use Rattle.qg_drop.specs.Counting.{LeadsToBranch, TellsNodes, nodes_below, ways_reached, ways_told};
+ghost use Rattle.qg_drop.specs.Counting.{LeadsToBranch, TellsNodes, node_count_below, ways_reached, ways_told};
 
 use qg_blocks::Blocks;
 use qg_descent::{Tree, Way};
@@ -81,13 +81,13 @@ fn count_under<D: Disk, L: Ledger>(
     requires levelled { way.now.expected.level ≡ Some level }
     ensures counted { (state : MachineState) → TellsNodes blocks.old.draft (D.history disk.old) state
         → LeadsToBranch state level way.now
-        → IfOk result (λ count. count ≡ min (nodes_below state level way.now.address) (2 ^ 64 - 1)) }
+        → IfOk result (λ count. count ≡ min (node_count_below state level way.now.address) (2 ^ 64 - 1)) }
     ensures sound { (state : MachineState) → tree.now.next ≡ next_generation state
         → TellsNodes blocks.old.draft (D.history disk.old) state
         → LeadsToBranch state level way.now → BreaksNone result }
     ensures reads { (state : MachineState) → TellsNodes blocks.old.draft (D.history disk.old) state
         → LeadsToBranch state level way.now
-        → reads.new ≤ reads.old + nodes_below state level way.now.address }
+        → reads.new ≤ reads.old + node_count_below state level way.now.address }
     ensures readable { IsReadable blocks.new (D.history disk.new) (D.size disk.new) }
     ensures read { HasRead blocks.old blocks.new (D.history disk.old) (D.history disk.new) (D.size disk.old)
         (D.size disk.new) }

@@ -20,9 +20,9 @@ use Rattle.qg_image.specs.Record.{same_reference}
 use Rattle.qg_parts.proofs.Parts.{and-false}
 use Rattle.qg_rules.specs.Writable.{AreWritableFiles, IsWritableFile}
 use Rattle.qg_files.proofs.Ascending.{Ascends, Ascends-increasing, all_past}
-use Rattle.qg_tree_refs.specs.Exchange.{times}
-use Rattle.qg_tree_refs.proofs.Owings.{times-cons, times-few}
-use Rattle.qg_tree_refs.proofs.Times.{one_of, times-append, times-nil}
+use Rattle.qg_fs_tree.specs.Exchange.{times}
+use Rattle.qg_fs_tree.proofs.TreeRefsOwings.{times-cons, times-few}
+use Rattle.qg_fs_tree.proofs.Times.{one_of, times-append, times-nil}
 use Rattle.qg_fs_tree.specs.Standing.{name_of, names_times}
 use Rattle.qg_exchange.specs.Named.{names_by, names_of}
 

@@ -1,3 +1,12 @@
+pub use Rattle.qg_file_items.proofs.Counted
+pub use Rattle.qg_file_items.proofs.Edited
+pub use Rattle.qg_file_items.proofs.Exchanged
+pub use Rattle.qg_file_items.proofs.FileBodies
+pub use Rattle.qg_file_items.proofs.Pieces
+pub use Rattle.qg_file_items.proofs.RangeEdits
+pub use Rattle.qg_file_items.proofs.Spelled
+pub use Rattle.qg_file_items.proofs.Tables as FileItemsTables
+pub use Rattle.qg_file_items.proofs.Told
 pub mod Ascending
 pub mod Positions
 pub mod Between

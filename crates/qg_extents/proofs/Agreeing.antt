@@ -8,14 +8,14 @@ use Rattle.std.proofs.lemmas.Bool.Decides.{nat_tests}
 use Rattle.std.proofs.lemmas.List.Sums.{sum_by-cons}
 use Rattle.qg_node.specs.declared.node.Header.{Header}
 use Rattle.qg_items.specs.declared.extent.Reference.{Reference}
-use Rattle.qg_image.specs.declared.part.ExtentPart.{ExtentPart}
-use Rattle.qg_image.specs.declared.part.ExtentPart.TheVariants.{DataRecord, NodeRecord, Referenced}
-use Rattle.qg_image.specs.ItemMeaning.{some_passes}
-use Rattle.qg_image.specs.State.{Layout}
-use Rattle.qg_image.specs.Record.{same_reference}
-use Rattle.qg_image.specs.Owed.{Agrees, What, agrees_at, are_references, is_nothing, is_record, is_recorded_once}
-use Rattle.qg_image.specs.Owed.{is_told_once, node_flags, owed_count, owed_to, part_address, what_at}
-use Rattle.qg_image.specs.Owed.What.{Nothing, Data, Block}
+use Rattle.qg_parts.specs.Types.{ExtentPart}
+use Rattle.qg_parts.specs.Types.{DataRecord, NodeRecord, Referenced}
+use Rattle.qg_parts.specs.ItemMeaning.{some_passes}
+use Rattle.qg_parts.specs.State.{Layout}
+use Rattle.qg_parts.specs.Record.{same_reference}
+use Rattle.qg_parts.specs.Owed.{Agrees, What, agrees_at, are_references, is_nothing, is_record, is_recorded_once}
+use Rattle.qg_parts.specs.Owed.{is_told_once, node_flags, owed_count, owed_to, part_address, what_at}
+use Rattle.qg_parts.specs.Owed.What.{Nothing, Data, Block}
 use Rattle.qg_refs.specs.Book.{AgreesWithOwed, Book}
 use Rattle.qg_refs.specs.Counts.{greatest_count}
 use Rattle.qg_refs.proofs.RankOrder.{same_reference_is}

@@ -18,10 +18,10 @@ use Rattle.std.proofs.lemmas.List.Kept.{AllPairs-cons}
 use Rattle.std.proofs.lemmas.Map.Entries.{All-lookup}
 use Rattle.qg_items.specs.declared.extent.ExtentItem.{ExtentItem}
 use Rattle.qg_items.specs.declared.extent.Reference.{Reference}
-use Rattle.qg_image.specs.declared.part.ExtentPart.{ExtentPart}
-use Rattle.qg_image.specs.ItemMeaning.{some_passes}
-use Rattle.qg_image.specs.Owed.{is_record, is_told_once, part_address}
-use Rattle.qg_image.specs.Record.{same_reference}
+use Rattle.qg_parts.specs.Types.{ExtentPart}
+use Rattle.qg_parts.specs.ItemMeaning.{some_passes}
+use Rattle.qg_parts.specs.Owed.{is_record, is_told_once, part_address}
+use Rattle.qg_parts.specs.Record.{same_reference}
 use Rattle.qg_refs.specs.declared.counted.Counted.{Counted}
 use Rattle.qg_refs.specs.declared.kept.Kept.{Kept}
 use Rattle.qg_refs.specs.Book.{references_in, full_in, what_in}

@@ -1,3 +1,5 @@
+pub use Rattle.qg_refs.proofs.Counting
+pub use Rattle.qg_refs.proofs.RankOrder
 pub mod Tables
 pub mod ItemsSaid
 pub mod ItemsAscend

@@ -2,10 +2,10 @@
 use Rattle.std.specs.Prelude.{◌≡◌, ℕ, ◌<◌, Bool, true, false, ◌==◌, List, length, All, Some, None, nat_le}
 use Rattle.std.specs.List.{list_all}
 use Rattle.qg_node.specs.declared.node.Header.{Header}
-use Rattle.qg_image.specs.declared.part.ExtentPart.{ExtentPart}
-use Rattle.qg_image.specs.State.{Layout}
-use Rattle.qg_image.specs.Owed.{Agrees, is_nothing, owed_to, what_at}
-use Rattle.qg_image.specs.Owed.What.{Block}
+use Rattle.qg_parts.specs.Types.{ExtentPart}
+use Rattle.qg_parts.specs.State.{Layout}
+use Rattle.qg_parts.specs.Owed.{Agrees, is_nothing, owed_to, what_at}
+use Rattle.qg_parts.specs.Owed.What.{Block}
 use Rattle.qg_refs.specs.declared.kept.Kept.{Kept}
 use Rattle.qg_refs.specs.Book.{AgreesWithOwed, Book}
 use Rattle.qg_refs.specs.Counts.{greatest_count}

@@ -1,3 +1,5 @@
+pub use Rattle.qg_refs.specs.Book
+pub use Rattle.qg_refs.specs.Counts
 pub mod Table
 pub mod Written
 pub mod Told
@@ -5,3 +7,4 @@ pub mod Reading
 pub mod Laws
 pub mod Fresh
 pub mod Examples
+pub mod Types

@@ -2,8 +2,8 @@
 use Rattle.std.specs.Prelude.{◌≡◌, ◌≢◌, ℕ, ◌+◌, ◌<◌, ◌≤◌, ◌⊎◌, Bool, true, false, ◌&&◌, List, length, Option, Some}
 use Rattle.std.specs.Prelude.{None, ◌==◌, slice_index_or}
 use Rattle.qg_items.specs.declared.extent.Reference.{Reference}
-use Rattle.qg_image.specs.declared.part.ExtentPart.{ExtentPart}
-use Rattle.qg_image.specs.Owed.{part_address}
+use Rattle.qg_parts.specs.Types.{ExtentPart}
+use Rattle.qg_parts.specs.Owed.{part_address}
 use Rattle.qg_refs.specs.declared.counted.Counted.{Counted}
 use Rattle.qg_refs.specs.Counts.{count_of, greatest_count, HasSoManyMore, IsRefList}
 use Rattle.qg_extents.specs.declared.head.Head.{Head}

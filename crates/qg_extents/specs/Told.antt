@@ -5,11 +5,11 @@ use Rattle.std.specs.Prelude.{None, ◌==◌, nat_lt, nat_le, if◌then◌else�
 use Rattle.std.specs.List.{AllPairs, filter, filter_map, find, list_all, sum_by}
 use Rattle.std.specs.Option.{option_and_then}
 use Rattle.qg_items.specs.declared.extent.Reference.{Reference}
-use Rattle.qg_image.specs.declared.part.ExtentPart.{ExtentPart}
-use Rattle.qg_image.specs.declared.part.ExtentPart.TheVariants.{DataRecord, NodeRecord, Referenced}
-use Rattle.qg_image.specs.ItemMeaning.{some_passes}
-use Rattle.qg_image.specs.Record.{same_reference}
-use Rattle.qg_image.specs.Owed.{is_record, is_told_once, node_flags, part_address, reference_told}
+use Rattle.qg_parts.specs.Types.{ExtentPart}
+use Rattle.qg_parts.specs.Types.{DataRecord, NodeRecord, Referenced}
+use Rattle.qg_parts.specs.ItemMeaning.{some_passes}
+use Rattle.qg_parts.specs.Record.{same_reference}
+use Rattle.qg_parts.specs.Owed.{is_record, is_told_once, node_flags, part_address, reference_told}
 use Rattle.qg_refs.specs.declared.kept.What.{What}
 use Rattle.qg_refs.specs.declared.kept.Kept.{Kept}
 use Rattle.qg_refs.specs.Book.{Book, count_at, full_in, what_in}

@@ -1,11 +1,11 @@
 // The references that parts tell.
 ghost use Rattle.std.specs.Prelude.{◌≡◌, true, false, IfOk, MatchOption};
 ghost use Rattle.qg_refs.specs.Counts.{greatest_count};
-ghost use Rattle.qg_image.specs.Owed.{reference_told};
+ghost use Rattle.qg_parts.specs.Owed.{reference_told};
 ghost use Rattle.qg_extents.specs.Reading.{IsGathered, IsPartRefused, IsPartTaken, IsRefused, IsTaken, adds_up};
 
-use qg_image::ExtentPart;
 use qg_num::NoMemory;
+use qg_parts::image::ExtentPart;
 use qg_refs::{RefList, Reference};
 use std::alloc::Global;
 

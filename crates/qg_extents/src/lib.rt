@@ -16,3 +16,4 @@ pub use extents::Extents;
 pub use fault::RefsFault;
 pub use fresh::fresh_records;
 pub use laws::book_laws;
+pub use qg_refs as refs;

@@ -1,6 +1,6 @@
 // The book that the extent tree's items tell.
 ghost use Rattle.std.specs.Prelude.{◌≡◌, ◌<◌, false, length, None, IfOk, OnOk, IfErr, MatchOption};
-ghost use Rattle.qg_image.specs.Owed.{part_address};
+ghost use Rattle.qg_parts.specs.Owed.{part_address};
 ghost use Rattle.qg_extents.specs.Reading.{IsRun};
 ghost use Rattle.qg_extents.specs.Table.{book_of};
 ghost use Rattle.qg_extents.specs.Told.{AreInOrder, IsTold, IsFault, IsEntryOf, is_entry, records_failure};
@@ -9,8 +9,8 @@ use crate::Extents;
 use crate::fault::RefsFault;
 use crate::gather::read_references;
 use crate::head::{head_of, only_record};
-use qg_image::ExtentPart;
 use qg_num::{Address, NoMemory};
+use qg_parts::image::ExtentPart;
 use qg_refs::Kept;
 use std::alloc::Global;
 

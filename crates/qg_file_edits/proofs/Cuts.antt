@@ -18,9 +18,9 @@ use Rattle.qg_image.proofs.Pieces.{WholeFile-is_file}
 use Rattle.qg_machine.specs.FileChange.{before, pieces_or_none, pieces_past, with_size}
 use Rattle.qg_rules.specs.Writable.{AreWritableFiles, IsFileBy, IsWritableFile}
 use Rattle.qg_contents.specs.Written.{inode_of, items_of_file}
-use Rattle.qg_file_items.specs.Pieces.{pieces_cut}
-use Rattle.qg_file_items.proofs.RangeEdits.{edits-size}
-use Rattle.qg_file_items.proofs.Tables.{writable-with}
+use Rattle.qg_exchange.specs.Pieces.{pieces_cut}
+use Rattle.qg_exchange.proofs.RangeEdits.{edits-size}
+use Rattle.qg_exchange.proofs.FileItemsTables.{writable-with}
 use Rattle.qg_exchange.specs.declared.step.Step.{Step}
 use Rattle.qg_exchange.specs.Applying.{CanExchange}
 use Rattle.qg_exchange.specs.Exchange.{IsExchange}

@@ -13,11 +13,11 @@ use Rattle.qg_rules.specs.Writable.{AreWritableFiles}
 use Rattle.qg_contents.specs.Written.{item_of_piece, items_of_file}
 use Rattle.qg_edit.specs.Edits.{has_key, with_item, without_key}
 use Rattle.qg_descent.specs.Reading.{body_at}
-use Rattle.qg_file_items.specs.Bodies.{body_in_file}
-use Rattle.qg_file_items.specs.FileEdits.{with_items, without_items}
-use Rattle.qg_file_items.proofs.Edited.{body-with_item, body-without_key}
-use Rattle.qg_file_items.proofs.FileBodies.{body-files}
-use Rattle.qg_file_items.proofs.Told.{has-body}
+use Rattle.qg_exchange.specs.Bodies.{body_in_file}
+use Rattle.qg_exchange.specs.FileEdits.{with_items, without_items}
+use Rattle.qg_exchange.proofs.Edited.{body-with_item, body-without_key}
+use Rattle.qg_exchange.proofs.FileBodies.{body-files}
+use Rattle.qg_exchange.proofs.Told.{has-body}
 use Rattle.qg_exchange.specs.Applying.{key_at}
 use Rattle.qg_file_edits.specs.Editing.{inode_key}
 use Rattle.qg_file_edits.specs.Exchanging.{exchanged}

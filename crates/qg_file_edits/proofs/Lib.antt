@@ -1,4 +1,4 @@
-pub use Rattle.qg_file_items.proofs.Spelled
+pub use Rattle.qg_exchange.proofs.Spelled
 pub use Rattle.qg_fs_layout.proofs.Before
 pub use Rattle.qg_fs_layout.proofs.Changed
 pub use Rattle.qg_fs_layout.proofs.Copied

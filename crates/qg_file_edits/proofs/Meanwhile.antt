@@ -18,8 +18,8 @@ use Rattle.qg_edit.specs.Edits.{with_item, without_key}
 use Rattle.qg_fs_layout.proofs.Times.{times-nil}
 use Rattle.qg_fs_layout.specs.Standing.{name_told, names_times}
 use Rattle.qg_fs_layout.proofs.Owned.{names-fewer}
-use Rattle.qg_file_items.specs.Bodies.{piece_at}
-use Rattle.qg_file_items.proofs.Pieces.{at-here, at-later}
+use Rattle.qg_exchange.specs.Bodies.{piece_at}
+use Rattle.qg_exchange.proofs.Pieces.{at-here, at-later}
 use Rattle.qg_exchange.specs.declared.step.Step.{Step}
 use Rattle.qg_exchange.specs.declared.step.Step.TheVariants.{Remove, Insert, Replace}
 use Rattle.qg_exchange.specs.Applying.{after_step, after_steps, key_at}

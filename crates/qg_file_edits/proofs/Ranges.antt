@@ -22,11 +22,11 @@ use Rattle.qg_machine.specs.FileChange.{file_or_new, pieces_meeting, pieces_or_n
 use Rattle.qg_rules.specs.Writable.{AreWritableFiles, IsFileBy, IsPlaced, IsWritableFile}
 use Rattle.qg_contents.specs.Written.{inode_of, item_of_inode, items_of_file}
 use Rattle.qg_edit.specs.Edits.{has_key, with_item}
-use Rattle.qg_file_items.specs.FileEdits.{file_edited}
-use Rattle.qg_file_items.specs.Pieces.{pieces_met}
-use Rattle.qg_file_items.proofs.Exchanged.{makes-file}
-use Rattle.qg_file_items.proofs.RangeEdits.{edits-range}
-use Rattle.qg_file_items.proofs.Tables.{writable-with}
+use Rattle.qg_exchange.specs.FileEdits.{file_edited}
+use Rattle.qg_exchange.specs.Pieces.{pieces_met}
+use Rattle.qg_exchange.proofs.Exchanged.{makes-file}
+use Rattle.qg_exchange.proofs.RangeEdits.{edits-range}
+use Rattle.qg_exchange.proofs.FileItemsTables.{writable-with}
 use Rattle.qg_exchange.specs.declared.step.Step.{Step}
 use Rattle.qg_exchange.specs.Applying.{CanExchange}
 use Rattle.qg_exchange.specs.Exchange.{IsExchange}

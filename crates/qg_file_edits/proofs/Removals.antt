@@ -17,9 +17,9 @@ use Rattle.qg_rules.specs.Writable.{AreWritableFiles, IsFileBy}
 use Rattle.qg_contents.specs.Written.{item_of_piece, items_of_file}
 use Rattle.qg_edit.specs.Edits.{without_key}
 use Rattle.qg_fs_layout.specs.Standing.{name_told, names_times}
-use Rattle.qg_file_items.specs.FileEdits.{without_items}
-use Rattle.qg_file_items.proofs.Exchanged.{removes-file}
-use Rattle.qg_file_items.proofs.Tables.{writable-without}
+use Rattle.qg_exchange.specs.FileEdits.{without_items}
+use Rattle.qg_exchange.proofs.Exchanged.{removes-file}
+use Rattle.qg_exchange.proofs.FileItemsTables.{writable-without}
 use Rattle.qg_exchange.specs.declared.step.Step.{Step}
 use Rattle.qg_exchange.specs.Applying.{CanExchange}
 use Rattle.qg_exchange.specs.Named.{AreNamesExchanged, named, names_by, names_of}

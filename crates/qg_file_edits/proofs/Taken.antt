@@ -19,7 +19,7 @@ use Rattle.qg_files.specs.Apart.{AreApart, AreApartFrom}
 use Rattle.qg_files.proofs.Kept.{are_pieces-moved, are_pieces-within, no_pieces}
 use Rattle.qg_files.proofs.KeptApart.{apart-within_from, ends-within}
 use Rattle.qg_files.proofs.Order.{all_begin_from}
-use Rattle.qg_file_items.specs.Pieces.{pieces_met}
+use Rattle.qg_exchange.specs.Pieces.{pieces_met}
 use Rattle.qg_files.proofs.Sectors.{aligned-add}
 use Rattle.qg_file_edits.specs.Files.{pieces_of}
 use Rattle.qg_file_edits.proofs.Extents.{IsOfNamed}

@@ -23,8 +23,8 @@ use Rattle.qg_space.specs.Holding.{Holding, is_free_run}
 use Rattle.qg_descent.specs.Tree.{Root}
 use Rattle.qg_files.specs.Apart.{AreApart, AreApartFrom}
 use Rattle.qg_files.proofs.Kept.{are_pieces-new_piece}
-use Rattle.qg_file_items.specs.Pieces.{pieces_cut, pieces_met}
-use Rattle.qg_file_items.proofs.Counted.{met-all, met-past}
+use Rattle.qg_exchange.specs.Pieces.{pieces_cut, pieces_met}
+use Rattle.qg_exchange.proofs.Counted.{met-all, met-past}
 use Rattle.qg_files.proofs.Sectors.{aligned-add}
 use Rattle.qg_exchange.specs.Named.{named, names_of}
 use Rattle.qg_fs_layout.specs.Types.{FsTree}

@@ -9,7 +9,7 @@ use Rattle.qg_image.specs.declared.file.File.{File}
 use Rattle.qg_contents.specs.Written.{item_of_piece, items_of_file}
 use Rattle.qg_space.specs.Holding.{Holding, is_free_run}
 use Rattle.qg_fs_layout.specs.Standing.{name_told}
-use Rattle.qg_file_items.specs.FileEdits.{with_items, without_items}
+use Rattle.qg_exchange.specs.FileEdits.{with_items, without_items}
 use Rattle.qg_exchange.specs.declared.step.Step.{Step}
 use Rattle.qg_exchange.specs.Applying.{CanExchange, after_steps}
 use Rattle.qg_exchange.specs.Named.{AreNamesExchanged, named, names_of}

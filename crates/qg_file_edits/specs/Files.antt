@@ -14,7 +14,7 @@ use Rattle.qg_rules.specs.Writable.{AreWritableFiles, IsFileBy}
 use Rattle.qg_contents.specs.Written.{inode_of, items_of_file}
 use Rattle.qg_space.specs.Holding.{free_slots}
 use Rattle.qg_descent.specs.Tree.{Root}
-use Rattle.qg_file_items.specs.Pieces.{pieces_met}
+use Rattle.qg_exchange.specs.Pieces.{pieces_met}
 use Rattle.qg_exchange.specs.Named.{named}
 use Rattle.qg_image.specs.Need.{file_copies}
 use Rattle.qg_fs_layout.specs.Heavier.{BookGetsHeavier, edit_bytes, name_new_bytes}

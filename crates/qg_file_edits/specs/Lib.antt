@@ -1,6 +1,6 @@
 pub use Rattle.qg_exchange.specs.Named
-pub use Rattle.qg_file_items.specs.Bodies
-pub use Rattle.qg_file_items.specs.Laws as FileItemsLaws
+pub use Rattle.qg_exchange.specs.Bodies
+pub use Rattle.qg_exchange.specs.FileItemsLaws as FileItemsLaws
 pub use Rattle.qg_fs_layout.specs.Counting
 pub use Rattle.qg_fs_layout.specs.Editing as TreeEditsEditing
 pub use Rattle.qg_fs_layout.specs.Following

@@ -10,7 +10,7 @@ ghost use Rattle.qg_image.specs.Need.{file_copies};
 ghost use Rattle.qg_blocks.specs.Told.{BreaksNone};
 ghost use Rattle.qg_space.specs.Holding.{free_slots, is_free_run};
 ghost use Rattle.qg_files.specs.Apart.{AreApart};
-ghost use Rattle.qg_file_items.specs.Pieces.{pieces_met};
+ghost use Rattle.qg_exchange.specs.Pieces.{pieces_met};
 ghost use Rattle.qg_descent.specs.Tree.{Root};
 ghost use Rattle.qg_fs_layout.specs.Standing.{IsSubvolume, trees_of};
 ghost use Rattle.qg_file_edits.specs.Changes.{files_cloned_from, files_cut, files_written};

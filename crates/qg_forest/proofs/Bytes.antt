@@ -6,7 +6,7 @@ use Rattle.qg_items.specs.declared.extent.Reference.{Reference}
 use Rattle.qg_items.specs.declared.extent.Reference.TheVariants.{KeyedBlock, KeyedData, SharedBlock, SharedData}
 use Rattle.qg_image.specs.Owed.{Owing}
 use Rattle.qg_image.specs.Record.{same_reference}
-use Rattle.qg_weighed.specs.Weight.{reference_bytes}
+use Rattle.qg_tree_refs.specs.Weight.{reference_bytes}
 use Rattle.qg_tree_refs.specs.Exchange.{times}
 use Rattle.qg_tree_refs.proofs.Owings.{times-cons, times-few}
 use Rattle.qg_tree_refs.proofs.Times.{one_of, times-nil}

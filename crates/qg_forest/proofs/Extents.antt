@@ -24,7 +24,7 @@ use Rattle.qg_image.specs.declared.tree.Tree.TheVariants.{Files}
 use Rattle.qg_image.specs.Among.{found_there}
 use Rattle.qg_image.specs.Walk.{root_expected}
 use Rattle.qg_machine.specs.Layout.{IsReached, IsTreeOf, IsWhole, found_in, super_to_come}
-use Rattle.qg_ground.specs.declared.ground.Ground.{Ground}
+use Rattle.qg_tree_refs.specs.Types.{Ground}
 use Rattle.qg_descent.specs.Branch.{IsBranch}
 use Rattle.qg_descent.specs.Tree.{IsTree}
 use Rattle.qg_descent.proofs.BranchWalk.{branch-under}

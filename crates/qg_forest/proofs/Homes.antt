@@ -13,7 +13,7 @@ use Rattle.qg_image.specs.Reach.{extent_of, is_among, own_elements, pieces_of, p
 use Rattle.qg_image.specs.State.{Layout, Placed}
 use Rattle.qg_image.proofs.Contained.{contains_cases, none_contained}
 use Rattle.qg_home.proofs.Reaching.{entry_of_value, value_of_entry}
-use Rattle.qg_owed.proofs.Filters.{none_found}
+use Rattle.qg_tree_refs.proofs.Filters.{none_found}
 use Rattle.qg_reach.proofs.Members.{contains_map, one_mapped}
 
 none_passes : {X : Type 0} (test : X → Bool) (xs : List X) → find test xs ≡ None → (x : X) → Contains xs x

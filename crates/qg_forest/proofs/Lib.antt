@@ -1,3 +1,12 @@
+pub use Rattle.qg_descent.proofs.BranchFrames
+pub use Rattle.qg_descent.proofs.BranchItems
+pub use Rattle.qg_descent.proofs.BranchWalk
+pub use Rattle.qg_descent.proofs.Branches
+pub use Rattle.qg_descent.proofs.Frames
+pub use Rattle.qg_descent.proofs.Under
+pub use Rattle.qg_tree_refs.proofs.Covered
+pub use Rattle.qg_tree_refs.proofs.Sums
+pub use Rattle.qg_tree_refs.proofs.Times
 pub mod Known
 pub mod Tables
 pub mod Owing

@@ -1,1 +1,10 @@
+pub use Rattle.qg_descent.specs.Branch
+pub use Rattle.qg_descent.specs.Tree
+pub use Rattle.qg_tree_refs.specs.Exchange
+pub use Rattle.qg_tree_refs.specs.Following
+pub use Rattle.qg_tree_refs.specs.Heavier
+pub use Rattle.qg_tree_refs.specs.Need
+pub use Rattle.qg_tree_refs.specs.Settled
+pub use Rattle.qg_tree_refs.specs.TreeBook
 pub mod Standing
+pub mod Types

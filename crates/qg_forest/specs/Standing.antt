@@ -13,7 +13,7 @@ use Rattle.qg_image.specs.State.{Placed, State, Subvolume, layout_of, next_gener
 use Rattle.qg_machine.specs.Layout.{IsWhole}
 use Rattle.qg_machine.specs.Refusals.{root_level}
 use Rattle.qg_blocks.specs.Told.{told}
-use Rattle.qg_ground.specs.declared.ground.Ground.{Ground}
+use Rattle.qg_tree_refs.specs.Types.{Ground}
 use Rattle.qg_refs.specs.Book.{AgreesWithOwed, Book, full_in, what_in}
 use Rattle.qg_extents.specs.Table.{book_of}
 use Rattle.qg_descent.specs.Tree.{Root}

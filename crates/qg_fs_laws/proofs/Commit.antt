@@ -2,38 +2,38 @@
 use Rattle.std.proofs.Common.{◌≡◌, ℕ, Bool, true, false, List, [], ◌∷◌, map, Option, None, Some, refl, sym, ap, ◌∙◌}
 use Rattle.std.proofs.Common.{inl, inr}
 use Rattle.std.specs.Prelude.{◌⊎◌, ◌==◌, ◌&&◌, not, if◌then◌else◌, All}
-use Rattle.std.specs.List.{Contains, list_all, list_any}
+use Rattle.std.specs.List.{AllByRecursion, Contains, list_any}
 use Rattle.std.specs.Option.{option_map}
-use Rattle.std.proofs.lemmas.Bool.{and_from, and_parts, cases_Bool, cond-false, cond-true, eqb-true, or_left}
+use Rattle.std.proofs.lemmas.Bool.{and_parts, cases_Bool, cond-false, cond-true, eqb-true, not-true}
 use Rattle.std.proofs.lemmas.List.Elements.{All-contains}
 use Rattle.qg_num.specs.declared.counters.Counters.{Counters}
 use Rattle.qg_node.specs.declared.node.Node.{Node}
+use Rattle.qg_node.specs.Nodes.{header_of}
 use Rattle.qg_super.specs.Places.{is_slot}
 use Rattle.qg_image.specs.Table.{has_key}
 use Rattle.qg_image.specs.declared.quota.Group.{Group}
 use Rattle.qg_image.specs.declared.quota.Quota.{Quota}
-use Rattle.qg_image.specs.Counts.{direct_count}
-use Rattle.qg_image.specs.Members.{Hierarchy, hierarchy_of}
+use Rattle.qg_image.specs.Counts.{due_counters}
 use Rattle.qg_image.specs.Space.{is_free_slot, present_extents}
 use Rattle.qg_image.specs.State.{Layout, State, layout_of, next_generation}
 use Rattle.qg_image.proofs.Contained.{contains_here, contains_later}
 use Rattle.qg_image.specs.ImageState.{addresses_of, as_committed}
 use Rattle.qg_machine.specs.GroupChange.{recounted, recounted_group, same_counters}
-use Rattle.qg_machine.specs.Layout.{is_other_slot}
+use Rattle.qg_machine.specs.Layout.{LiesInOtherSlot}
 use Rattle.qg_machine.specs.Step.{Commits, settled}
 use Rattle.qg_tree_commit.specs.Types.{OtherTrees}
 use Rattle.qg_tree_commit.specs.Sound.{committed}
 use Rattle.qg_tree_commit.specs.Telling.{AreToldBy}
 use Rattle.qg_tree_commit.specs.Trees.{stamp_after}
-use Rattle.qg_fs_laws.specs.Keeping.{AreDirectCounts, group_after, quota_after, quota_laid}
+use Rattle.qg_fs_laws.specs.Keeping.{AreDueCounters, group_after, quota_after, quota_laid}
 
 -- ---- the group
 
 -- a group is counted as the machine counts it
-group_is : (layout : Layout) (hierarchy : Hierarchy) (generation : ℕ) (counters : ℕ → Counters) (entry : ℕ × Group)
-    → counters entry.0 ≡ direct_count layout hierarchy entry.0
-    → recounted_group layout hierarchy generation entry ≡ group_after generation counters entry
-group_is layout hierarchy generation counters entry count =
+group_is : (layout : Layout) (quota : Quota) (generation : ℕ) (counters : ℕ → Counters) (entry : ℕ × Group)
+    → counters entry.0 ≡ due_counters layout quota entry.0
+    → recounted_group layout quota generation entry ≡ group_after generation counters entry
+group_is layout quota generation counters entry count =
     ap (λ (c : Counters). if same_counters entry.1.counters c then entry
     else (entry.0, record entry.1 { counters = c; stamp = generation })) (sym count)
     ∙ entry_is (counters entry.0) (cases_Bool (same_counters entry.1.counters (counters entry.0))) where
@@ -69,15 +69,15 @@ map_each {A} {B} f g (x ∷ xs) same =
     ap (λ (y : B). y ∷ map f xs) (same x (contains_here x xs))
     ∙ ap (λ (ys : List B). g x ∷ ys) (map_each f g xs (λ y has. same y (contains_later x xs y has)))
 
-module _ (old : State) (counters : ℕ → Counters) (counts : AreDirectCounts old counters) where
+module _ (old : State) (counters : ℕ → Counters) (counts : AreDueCounters old counters) where
   recounted_is : (quota : Quota) → old.quota ≡ Some quota
       → recounted (layout_of old) (next_generation old) quota ≡ quota_after (next_generation old) counters quota
   unfolding recounted
   recounted_is quota is =
       ap (λ (groups : List (ℕ × Group)). record quota { groups = groups })
-      (map_each (recounted_group (layout_of old) (hierarchy_of quota) (next_generation old))
+      (map_each (recounted_group (layout_of old) quota (next_generation old))
       (group_after (next_generation old) counters) quota.groups
-      (λ entry has. group_is (layout_of old) (hierarchy_of quota) (next_generation old) counters entry
+      (λ entry has. group_is (layout_of old) quota (next_generation old) counters entry
       (counts quota is entry has)))
 
   quota_by : (quota : Option Quota) → old.quota ≡ quota
@@ -113,28 +113,35 @@ module _ (old : State) (counters : ℕ → Counters) (counts : AreDirectCounts o
 
 -- ---- slots
 
-slot_other : (old : State) (at : ℕ) → is_free_slot old at ≡ true → is_other_slot old old at ≡ true
+lies_in_slot : (old : State) (node : Node) → is_free_slot old (header_of node).address ≡ true
+    → LiesInOtherSlot old old node
 unfolding is_free_slot
-slot_other old at free =
-    let taken = list_any (λ node. node == at) old.held.nodes in
+lies_in_slot old node free =
+    let at = (header_of node).address in
+    let taken = list_any (λ held. held == at) old.held.nodes in
     let parts = and_parts (is_slot old.sizes at && not (has_key at old.layout)) (not taken) free in
-    and_from (is_slot old.sizes at && not (has_key at old.layout)) _ parts.0 (or_left _ _ free)
+    let both = and_parts (is_slot old.sizes at) (not (has_key at old.layout)) parts.0 in
+    record { slot = both.0; left = not-true (has_key at old.layout) both.1; free_or_held = inl free }
 
-each_true : (test : ℕ → Bool) (xs : List ℕ) → ((x : ℕ) → Contains xs x → test x ≡ true) → list_all test xs ≡ true
-each_true test [] each = refl
-each_true test (x ∷ xs) each =
-    and_from (test x) (list_all test xs) (each x (contains_here x xs))
-    (each_true test xs (λ y has. each y (contains_later x xs y has)))
+each_lies : (old : State) (others : List Node)
+    → ((at : ℕ) → Contains (addresses_of others) at → is_free_slot old at ≡ true)
+    → AllByRecursion (LiesInOtherSlot old old) others
+each_lies old [] free = tt
+each_lies old (node ∷ others) free = (
+  lies_in_slot old node
+      (free (header_of node).address (contains_here (header_of node).address (addresses_of others))),
+  each_lies old others
+      (λ at has. free at (contains_later (header_of node).address (addresses_of others) at has)),
+)
 
 pub commit-of-machine : (old : State) (counters : ℕ → Counters) (slots : List ℕ) (trees : OtherTrees)
-    (others : List Node) → AreDirectCounts old counters → All (λ slot. is_free_slot old slot ≡ true) slots
+    (others : List Node) → AreDueCounters old counters → All (λ slot. is_free_slot old slot ≡ true) slots
     → AreToldBy (committed others old (quota_laid (next_generation old) counters old.quota)) slots trees others
     → Commits old (committed others old (quota_laid (next_generation old) counters old.quota))
 commit-of-machine old counters slots trees others counts free told = record {
   others = others;
-  slots = each_true (is_other_slot old old) (addresses_of others)
-      (λ at has. slot_other old at
-      (All-contains (λ slot. is_free_slot old slot ≡ true) slots at free (told.within at has)));
+  slots = each_lies old others
+      (λ at has. All-contains (λ slot. is_free_slot old slot ≡ true) slots at free (told.within at has));
   apart = told.apart;
   trees = told.tell;
   committed = committed-is old counters counts others;

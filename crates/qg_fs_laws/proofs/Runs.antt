@@ -6,7 +6,6 @@ use Rattle.std.specs.List.{Contains, flat_map}
 use Rattle.qg_device.specs.History.{History}
 use Rattle.qg_node.specs.Nodes.{header_of}
 use Rattle.qg_super.specs.declared.sizes.Sizes.{Sizes}
-use Rattle.qg_super.specs.Places.{is_run}
 use Rattle.qg_image.specs.declared.file.File.{File}
 use Rattle.qg_image.specs.Table.{keys_of, value_at}
 use Rattle.qg_image.specs.declared.element.Element.{Element}
@@ -105,11 +104,7 @@ module _ (fs : FsTree) (history : History) (bytes : ℕ) (state : State) (mine :
   extent_known run has =
       let all = counted fs history bytes state mine files kept keeps in
       let known = all.known run ((all.extents run).1 has) in
-      record {
-        lies = ap (λ (sizes : Sizes). is_run sizes run.address run.bytes) keeps.laid.sizes ∙ known.lies;
-        generation = known.generation;
-        known = known.known;
-      }
+      subst (λ (sizes : Sizes). IsKnownRun sizes (book_of fs.refs.refs) run) (sym keeps.laid.sizes) known
 
   pub state-held : HoldsState fs.land history fs.refs state
   state-held =

@@ -11,9 +11,8 @@ use Rattle.qg_super.specs.Places.{data_begin, is_slot, total_bytes}
 use Rattle.qg_image.specs.declared.file.File.{File}
 use Rattle.qg_image.specs.Table.{keys_of, value_at, without_key}
 use Rattle.qg_image.specs.declared.quota.Quota.{Quota}
-use Rattle.qg_image.specs.Counts.{direct_count}
-use Rattle.qg_image.specs.Members.{hierarchy_of}
-use Rattle.qg_image.specs.State.{State, Subvolume, layout_of}
+use Rattle.qg_image.specs.Counts.{StoresCounts}
+use Rattle.qg_image.specs.State.{State, Subvolume}
 use Rattle.qg_image.specs.Verdict.{longest_extent}
 use Rattle.qg_machine.specs.Written.{new_nodes}
 use Rattle.qg_machine.specs.Step.{Commits}
@@ -31,7 +30,7 @@ use Rattle.qg_tree_commit.specs.Sound.{committed}
 use Rattle.qg_tree_commit.specs.Sound as sound
 use Rattle.qg_tree_commit.specs.Holds.{AreFree, with_tree_commit}
 use Rattle.qg_tree_commit.specs.Writing.{IsLaying, nodes_written}
-use Rattle.qg_fs_laws.specs.Keeping.{AreDirectCounts, IsKept, KeepsState, NamesOthers, other_names, quota_laid}
+use Rattle.qg_fs_laws.specs.Keeping.{AreDueCounters, IsKept, KeepsState, NamesOthers, other_names, quota_laid}
 
 -- ---- what is asked
 
@@ -96,7 +95,7 @@ pub record LaysTree (fs : FsTree) (events : List Event) (bytes : ℕ) (state : S
   pub order : IsInOrder fs.land.space
   pub short : IsShort state
   pub long : total_bytes fs.land.space.sizes ≤ length (content events)
-  pub counted : AreDirectCounts state counters
+  pub counted : AreDueCounters state counters
   pub roots_are : AreRootsNow fs state roots
   pub free : AreFree fs.land.space slots
   pub laid : IsLaying fs.land.space.sizes fs.tree.next roots fs.refs.refs
@@ -104,14 +103,9 @@ pub record LaysTree (fs : FsTree) (events : List Event) (bytes : ℕ) (state : S
 
 -- ---- what the disk holds
 
--- each group's stored counters are its direct counts
-abbrev pub StoresCounts : State → Type 0
-StoresCounts state = (quota : Quota) → state.quota ≡ Some quota
-    → All (λ entry. entry.1.counters ≡ direct_count (layout_of state) (hierarchy_of quota) entry.0) quota.groups
-
 -- Once the commit's calls were made the image is sound, and stands for the state that the commit leaves, whose quota is
 -- this. That is one of the machine; the nodes written are those that the commit before did not hold, in some
--- order; and each group stores its direct count
+-- order; and each group stores the counters that are due
 pub record IsSoundCommit (fs : FsTree) (events : List Event) (state : State) (quota : Option Quota) (slots : List ℕ)
     (trees : OtherTrees) : Type 0 where
   pub is : sound.IsCommitted trees state quota slots (content (with_tree_commit fs trees events))

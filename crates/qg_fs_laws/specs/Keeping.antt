@@ -17,8 +17,7 @@ use Rattle.qg_image.specs.Table.{has_key, keys_of, value_at, without_key}
 use Rattle.qg_image.specs.declared.element.Element.{Element}
 use Rattle.qg_image.specs.declared.quota.Group.{Group}
 use Rattle.qg_image.specs.declared.quota.Quota.{Quota}
-use Rattle.qg_image.specs.Counts.{direct_count}
-use Rattle.qg_image.specs.Members.{hierarchy_of}
+use Rattle.qg_image.specs.Counts.{due_counters}
 use Rattle.qg_image.specs.Need.{held_records, quota_records, root_records}
 use Rattle.qg_image.specs.Record.{Record, records_bytes}
 use Rattle.qg_image.specs.Space as present
@@ -173,11 +172,11 @@ quota_after generation counters quota = record quota { groups = map (group_after
 abbrev pub quota_laid : ℕ → (ℕ → Counters) → Option Quota → Option Quota
 quota_laid generation counters quota = option_map (quota_after generation counters) quota
 
--- these counters are the direct counts of a state's groups, while quota is on
-abbrev pub AreDirectCounts : State → (ℕ → Counters) → Type 0
-AreDirectCounts state counters = (quota : Quota) → state.quota ≡ Some quota
+-- these counters are those that are due to a state's groups, while quota is on
+abbrev pub AreDueCounters : State → (ℕ → Counters) → Type 0
+AreDueCounters state counters = (quota : Quota) → state.quota ≡ Some quota
     → (entry : ℕ × Group) → Contains quota.groups entry
-    → counters entry.0 ≡ direct_count (layout_of state) (hierarchy_of quota) entry.0
+    → counters entry.0 ≡ due_counters (layout_of state) quota entry.0
 
 -- ---- a file command
 

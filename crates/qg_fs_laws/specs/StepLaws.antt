@@ -28,7 +28,7 @@ use Rattle.qg_tree_commit.specs.Types.{OtherTrees}
 use Rattle.qg_tree_commit.specs.Sound.{committed}
 use Rattle.qg_tree_commit.specs.Telling.{AreToldBy}
 use Rattle.qg_tree_commit.specs.Trees.{quota_tree_bytes, root_tree_bytes}
-use Rattle.qg_fs_laws.specs.Keeping.{AreDirectCounts, AreTreesOf, AreYoung, FollowsCommand, IsKept}
+use Rattle.qg_fs_laws.specs.Keeping.{AreDueCounters, AreTreesOf, AreYoung, FollowsCommand, IsKept}
 use Rattle.qg_fs_laws.specs.Keeping.{KeepsState, LieApart, NamesOthers, OthersHaveFiles}
 use Rattle.qg_fs_laws.specs.Keeping.{TellsChanges, TellsSpace, elements_of, mine_after, other_names, other_weight}
 use Rattle.qg_fs_laws.specs.Keeping.{quota_laid, state_after}
@@ -113,10 +113,10 @@ FileCommandCopies = (old new : FsTree) (history : History) (bytes left pieces : 
     → FollowsCommand new history before (state_after before files_new new history last)
     (mine_after mine files_new new) files_new old.tree.owner (file_copies old.tree.height pieces)
 
--- a commit whose other trees tell the state that it leaves, its groups having their direct counts, and lie in free
+-- a commit whose other trees tell the state that it leaves, its groups having the counters due, and lie in free
 -- slots, is one of the machine
 abbrev pub CommitIsOfMachine : Type 0
 CommitIsOfMachine = (old : State) (counters : ℕ → Counters) (slots : List ℕ) (trees : OtherTrees) (others : List Node)
-    → AreDirectCounts old counters → All (λ slot. IsTrue (is_free_slot old slot)) slots
+    → AreDueCounters old counters → All (λ slot. IsTrue (is_free_slot old slot)) slots
     → AreToldBy (committed others old (quota_laid (next_generation old) counters old.quota)) slots trees others
     → Commits old (committed others old (quota_laid (next_generation old) counters old.quota))

@@ -21,7 +21,7 @@ use Rattle.qg_image.proofs.Contained.{contains_cases, contains_here, contains_la
 use Rattle.qg_space.specs.Holding as holding
 use Rattle.qg_space.proofs.Free.{free_is_slot}
 use Rattle.qg_space.proofs.Members.{filter_contains, one_passes}
-use Rattle.qg_descent.specs.Tree.{Root}
+use Rattle.qg_forest.specs.Tree.{Root}
 use Rattle.qg_fs_tree.specs.declared.fs_tree.FsTree.{FsTree}
 use Rattle.qg_fs_tree.specs.Standing.{IsAtHome, IsElsewhere, IsReached, IsReachedBy, IsSubvolume, Stands, nodes_of}
 use Rattle.qg_fs_tree.specs.Standing.{ways_in}

@@ -18,15 +18,16 @@ use Rattle.qg_image.specs.declared.tree.Tree.TheVariants.{Files}
 use Rattle.qg_blocks.specs.Told.{fresh_at}
 use Rattle.qg_refs.specs.Book.{count_at, what_in}
 use Rattle.qg_extents.specs.Table.{book_of}
-use Rattle.qg_descent.specs.Tree.{Root, super_of}
-use Rattle.qg_tree_refs.specs.Settled.{what_of}
+use Rattle.qg_forest.specs.Tree.{Root, super_of}
+use Rattle.qg_forest.specs.Standing.{IsKnownRun}
+use Rattle.qg_forest.specs.Settled.{what_of}
 use Rattle.qg_fs_tree.specs.declared.fs_tree.FsTree.{FsTree}
 use Rattle.qg_fs_tree.specs.Standing.{IsSubvolume, Stands, items_in, layout_in, name_told, names_elsewhere, nodes_of}
 use Rattle.qg_fs_tree.specs.Standing.{trees_of}
 use Rattle.qg_fs_tree.proofs.Before.{known_of}
-use Rattle.qg_descent.proofs.BranchItems.{from-leaf, in-leaf}
+use Rattle.qg_forest.proofs.BranchItems.{from-leaf, in-leaf}
 use Rattle.qg_fs_tree.proofs.Lists.{has-flat}
-use Rattle.qg_fs_layout.specs.Laying.{HaveFiles, IsCounted, IsKnownRun, IsLaidOut, IsMetAs, names_in, nodes_in}
+use Rattle.qg_fs_layout.specs.Laying.{HaveFiles, IsCounted, IsLaidOut, IsMetAs, names_in, nodes_in}
 use Rattle.qg_fs_layout.proofs.Extents.{TellsExtent, from-files, from-layout, from-present, in-files, in-layout}
 use Rattle.qg_fs_layout.proofs.Extents.{in-names, in-present}
 use Rattle.qg_fs_layout.proofs.Held.{met-referred}

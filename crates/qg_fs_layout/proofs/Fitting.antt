@@ -24,10 +24,10 @@ use Rattle.qg_image.specs.ItemMeaning.{is_subvolume_number}
 use Rattle.qg_image.proofs.Contained.{contains_here}
 use Rattle.qg_image.specs.declared.tree.Tree.TheVariants.{Files}
 use Rattle.qg_image.specs.Walk.{is_generation}
-use Rattle.qg_descent.specs.Branch.{AreBranches, IsBranch, IsMember, IsPointed}
-use Rattle.qg_descent.specs.Tree.{Reaches, Root, super_of}
-use Rattle.qg_descent.proofs.Branches.{IsRow, branch-below, branch-first}
-use Rattle.qg_descent.proofs.Under.{BeginAt}
+use Rattle.qg_forest.specs.Branch.{AreBranches, IsBranch, IsMember, IsPointed}
+use Rattle.qg_forest.specs.Tree.{Reaches, Root, super_of}
+use Rattle.qg_forest.proofs.Branches.{IsRow, branch-below, branch-first}
+use Rattle.qg_forest.proofs.Under.{BeginAt}
 use Rattle.qg_fs_tree.specs.declared.fs_tree.FsTree.{FsTree}
 use Rattle.qg_fs_tree.specs.Standing.{IsSubvolume, Stands, items_in, nodes_of, trees_of}
 use Rattle.qg_fs_tree.proofs.Lists.{all-contained}

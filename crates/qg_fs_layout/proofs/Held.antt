@@ -16,8 +16,8 @@ use Rattle.qg_home.proofs.Reaching.{entry_of_value}
 use Rattle.qg_blocks.specs.Told.{fresh_at}
 use Rattle.qg_space.specs.Holding.{has_slot}
 use Rattle.qg_extents.specs.Table.{book_of}
-use Rattle.qg_descent.specs.Tree.{Root}
-use Rattle.qg_tree_refs.specs.Following.{references_to}
+use Rattle.qg_forest.specs.Tree.{Root}
+use Rattle.qg_forest.specs.Following.{references_to}
 use Rattle.qg_forest.proofs.Referring.{OwesChild, OwesRoot, child-counted, children_of, counted-referred, root-counted}
 use Rattle.qg_fs_tree.specs.declared.fs_tree.FsTree.{FsTree}
 use Rattle.qg_fs_tree.specs.Standing.{IsReachedBy, IsSubvolume, Stands, layout_in, nodes_of, roots_of, trees_of}

@@ -25,7 +25,7 @@ use Rattle.qg_ground.specs.declared.ground.Ground.{Ground}
 use Rattle.qg_ground.specs.Land.{IsDrafted}
 use Rattle.qg_refs.specs.Book.{full_in}
 use Rattle.qg_extents.specs.Table.{book_of}
-use Rattle.qg_descent.specs.Tree.{Reaches, Root}
+use Rattle.qg_forest.specs.Tree.{Reaches, Root}
 use Rattle.qg_fs_tree.specs.declared.fs_tree.FsTree.{FsTree}
 use Rattle.qg_fs_tree.specs.Standing.{IsBeside, IsElsewhere, IsReached, IsReachedBy, IsSubvolume, KeepsTree, Stands}
 use Rattle.qg_fs_tree.specs.Standing.{is_full_then, nodes_of, trees_of, ways_in}

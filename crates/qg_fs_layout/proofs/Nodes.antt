@@ -20,8 +20,8 @@ use Rattle.qg_home.proofs.Reaching.{entry_of_value, value_of_entry}
 use Rattle.qg_space.proofs.Members.{one_passes, passes_one}
 use Rattle.qg_refs.specs.Book.{full_in}
 use Rattle.qg_extents.specs.Table.{book_of}
-use Rattle.qg_descent.specs.Tree.{Root}
-use Rattle.qg_tree_edits.proofs.Ways.{ways-some}
+use Rattle.qg_forest.specs.Tree.{Root}
+use Rattle.qg_fs_tree.proofs.Ways.{ways-some}
 use Rattle.qg_fs_tree.specs.declared.fs_tree.FsTree.{FsTree}
 use Rattle.qg_fs_tree.specs.Standing.{IsReachedBy, every_slot, layout_in, nodes_of, placed_at, trees_of, ways_in}
 use Rattle.qg_fs_tree.proofs.Places.{slots_from}

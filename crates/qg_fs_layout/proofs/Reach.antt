@@ -11,7 +11,7 @@ use Rattle.qg_image.specs.State.{Layout, node_at}
 use Rattle.qg_home.proofs.Reaching.{entry_of_value}
 use Rattle.qg_reach.proofs.Members.{contains_map}
 use Rattle.qg_space.proofs.Members.{passes_one}
-use Rattle.qg_descent.specs.Tree.{Reaches}
+use Rattle.qg_forest.specs.Tree.{Reaches}
 use Rattle.qg_forest.proofs.Below.{met-reached, reached-met}
 
 -- what is reached stays so, where all that is reached is told as before

@@ -9,7 +9,7 @@ use Rattle.qg_image.proofs.Contained.{contains_cases, contains_here, contains_la
 use Rattle.qg_home.proofs.Reaching.{entry_of_value, value_of_entry}
 use Rattle.qg_files.proofs.Ascending.{Ascends-increasing, ascends-with_value, increasing-Ascends}
 use Rattle.qg_reach.proofs.Layouts.{value_at-with_other, value_at-with_same}
-use Rattle.qg_descent.specs.Tree.{Root}
+use Rattle.qg_forest.specs.Tree.{Root}
 use Rattle.qg_fs_tree.specs.declared.fs_tree.FsTree.{FsTree}
 use Rattle.qg_fs_tree.specs.Standing.{roots_of, trees_of}
 use Rattle.qg_fs_tree.proofs.Lists.{from-mapped, has-mapped}

@@ -28,12 +28,12 @@ use Rattle.qg_space.proofs.Marks.{SlotsFit-is_served}
 use Rattle.qg_ground.specs.Land.{IsDrafted}
 use Rattle.qg_refs.specs.Book.{full_in}
 use Rattle.qg_extents.specs.Table.{book_of}
-use Rattle.qg_descent.specs.Branch.{IsBranch}
-use Rattle.qg_descent.specs.Tree.{IsTree, Root, TellsTree, super_of}
-use Rattle.qg_descent.proofs.BranchFrames.{reach-top}
-use Rattle.qg_descent.proofs.BranchWalk.{branch-under}
-use Rattle.qg_descent.proofs.Branches.{branch-top}
-use Rattle.qg_descent.proofs.Frames.{IsTree-same}
+use Rattle.qg_forest.specs.Branch.{IsBranch}
+use Rattle.qg_forest.specs.Tree.{IsTree, Root, TellsTree, super_of}
+use Rattle.qg_forest.proofs.BranchFrames.{reach-top}
+use Rattle.qg_forest.proofs.BranchWalk.{branch-under}
+use Rattle.qg_forest.proofs.Branches.{branch-top}
+use Rattle.qg_forest.proofs.Frames.{IsTree-same}
 use Rattle.qg_forest.proofs.Meeting.{root-valued}
 use Rattle.qg_forest.proofs.Snapshotted.{root_entry}
 use Rattle.qg_fs_tree.specs.declared.fs_tree.FsTree.{FsTree}

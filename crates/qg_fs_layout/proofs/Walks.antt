@@ -26,9 +26,9 @@ use Rattle.qg_image.specs.Walk.{begins_at, deepest, ends_before, found_failure, 
 use Rattle.qg_image.specs.Walk.{node_failure, pointers_failure, root_expected, shape_failure, walk_failure, way_failure}
 use Rattle.qg_walk.specs.Standing.{expected_below, form_failure}
 use Rattle.qg_walk.proofs.Failures.{neither, none_of_two, pointers-passed, walk-inner, walk-leaf}
-use Rattle.qg_descent.specs.Tree.{IsTree, found_in}
-use Rattle.qg_descent.proofs.Frames.{items-same}
-use Rattle.qg_descent.proofs.Under.{AreUnder, IsUnder, both-under, under-inner, under-leaf}
+use Rattle.qg_forest.specs.Tree.{IsTree, found_in}
+use Rattle.qg_forest.proofs.Frames.{items-same}
+use Rattle.qg_forest.proofs.Under.{AreUnder, IsUnder, both-under, under-inner, under-leaf}
 
 -- ---- a walk by fewer rules
 

@@ -23,15 +23,15 @@ use Rattle.qg_image.proofs.Contained.{contains_cases}
 use Rattle.qg_home.proofs.Reaching.{value_of_entry}
 use Rattle.qg_image.specs.declared.tree.Tree.TheVariants.{Files}
 use Rattle.qg_ground.specs.Land.{IsDrafted}
-use Rattle.qg_descent.specs.Tree.{Reaches, Root, super_of}
-use Rattle.qg_descent.proofs.BranchFrames.{reach-same}
+use Rattle.qg_forest.specs.Tree.{Reaches, Root, super_of}
+use Rattle.qg_forest.proofs.BranchFrames.{reach-same}
 use Rattle.qg_forest.proofs.Extents.{among-one}
 use Rattle.qg_fs_tree.specs.declared.fs_tree.FsTree.{FsTree}
 use Rattle.qg_fs_tree.specs.Standing.{IsAtHome, IsReachedBy, IsSubvolume, Stands, items_in, name_of, name_told}
 use Rattle.qg_fs_tree.specs.Standing.{names_elsewhere, nodes_of, trees_of}
 use Rattle.qg_fs_tree.proofs.Before.{name_apart, names_there}
 use Rattle.qg_fs_tree.proofs.Fixed.{elsewhere_name}
-use Rattle.qg_descent.proofs.BranchItems.{from-leaf}
+use Rattle.qg_forest.proofs.BranchItems.{from-leaf}
 use Rattle.qg_fs_tree.proofs.Lists.{all-contained, made-some}
 use Rattle.qg_fs_tree.proofs.Lying.{told-at}
 use Rattle.qg_fs_tree.proofs.Nodes.{names-some, times-many}

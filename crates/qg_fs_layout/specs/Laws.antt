@@ -14,7 +14,7 @@ use Rattle.qg_image.specs.State.{State}
 use Rattle.qg_refs.specs.Book.{full_in}
 use Rattle.qg_extents.specs.Table.{book_of}
 use Rattle.qg_image.specs.Walk.{deepest}
-use Rattle.qg_descent.specs.Tree.{Root}
+use Rattle.qg_forest.specs.Tree.{Root}
 use Rattle.qg_fs_tree.specs.declared.fs_tree.FsTree.{FsTree}
 use Rattle.qg_fs_tree.specs.Standing.{IsSubvolume, KeepsTree, Stands, items_in, trees_of}
 use Rattle.qg_fs_layout.specs.Laying.{AreFit, AreThoseReached, CopiesNodes, HaveFiles, HoldsSlots, IsCounted, IsLaidOut}

@@ -1,6 +1,6 @@
 -- The trees of subvolumes, as they stand between two edits, and the layout of a state of the machine (this project's
 -- own). Addresses are in bytes.
-use Rattle.std.specs.Prelude.{◌≡◌, ◌↔◌, ℕ, ◌<◌, List, Some, None, Contains, IsTrue}
+use Rattle.std.specs.Prelude.{◌≡◌, ◌↔◌, ℕ, ◌<◌, List, Some, Contains, IsTrue}
 use Rattle.std.specs.List.{filter_map, list_all, AllByRecursion}
 use Rattle.std.specs.List.Sorted.{IsStrictlyIncreasing}
 use Rattle.qg_device.specs.History.{History}
@@ -11,8 +11,6 @@ use Rattle.qg_node.specs.Fits.{NodeFits}
 use Rattle.qg_node.specs.Nodes.{header_of}
 use Rattle.qg_node.specs.NodeText.{IsNode}
 use Rattle.qg_items.specs.declared.extent.Reference.{Reference}
-use Rattle.qg_super.specs.declared.sizes.Sizes.{Sizes}
-use Rattle.qg_super.specs.Places.{is_run}
 use Rattle.qg_image.specs.FilesOf.{files_of}
 use Rattle.qg_image.specs.Table.{keys_of, value_at}
 use Rattle.qg_machine.specs.Layout.{KeepsNode, is_made_node, made_nodes}
@@ -20,10 +18,11 @@ use Rattle.qg_image.specs.declared.element.Element.{Element}
 use Rattle.qg_image.specs.Owed.{layout_extents, owed_count}
 use Rattle.qg_image.specs.Space.{present_extents}
 use Rattle.qg_image.specs.State.{Placed, State, Subvolume, layout_of, next_generation, node_at}
-use Rattle.qg_refs.specs.Book.{AgreesWithOwed, Book, full_in, what_in}
+use Rattle.qg_refs.specs.Book.{AgreesWithOwed, full_in, what_in}
 use Rattle.qg_extents.specs.Table.{book_of}
-use Rattle.qg_descent.specs.Tree.{Root}
-use Rattle.qg_tree_refs.specs.Settled.{what_of}
+use Rattle.qg_forest.specs.Standing.{IsKnownRun}
+use Rattle.qg_forest.specs.Tree.{Root}
+use Rattle.qg_forest.specs.Settled.{what_of}
 use Rattle.qg_fs_tree.specs.declared.fs_tree.FsTree.{FsTree}
 use Rattle.qg_fs_tree.specs.Standing.{IsReachedBy, Moves, items_in, layout_in, name_told, nodes_of, trees_of, ways_in}
 
@@ -107,13 +106,6 @@ pub record CopiesNodes (old new : State) (sub : ℕ) : Type 0 where
 -- the pieces that items tell, each with the number of its file
 abbrev pub names_in : List Item → List (ℕ × Piece)
 names_in items = filter_map name_told items
-
--- a run lies in the data area, and its length is known
-pub record IsKnownRun (sizes : Sizes) (book : Book) (run : Element) : Type 0 where
-  pub lies : IsTrue (is_run sizes run.address run.bytes)
-  pub generation : ℕ
-  pub known : what_in (book run.address)
-      ≡ Some (record { bytes = run.bytes; level = None; generation = generation })
 
 -- What a state's layout owes is what the tree owes, and exactly that is counted. Of each node level, generation and
 -- mark are known; the extents that leaves name are those of the present files, and their lengths are known

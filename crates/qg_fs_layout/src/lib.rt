@@ -6,5 +6,5 @@ mod laws;
 pub use laws::{
     commands_copy, nodes_are_those_reached, owed_is_counted, state_is_whole, trees_are_walked,
 };
+pub use qg_forest::tree_refs;
 pub use qg_fs_tree as fs_tree;
-pub use qg_tree_refs as tree_refs;

@@ -27,12 +27,12 @@ use Rattle.qg_walk.specs.Standing.{form_failure}
 use Rattle.qg_blocks.specs.Told.{fresh_at, told, told_or}
 use Rattle.qg_space.specs.Holding.{has_slot, is_free_slot}
 use Rattle.qg_space.proofs.Members.{one_passes, passes_one}
-use Rattle.qg_ground.specs.Land.{IsDrafted, Rests}
+use Rattle.qg_tree_edits.specs.Land.{IsDrafted, Rests}
 use Rattle.qg_refs.specs.Book.{count_at, what_in}
 use Rattle.qg_extents.specs.Table.{IsTable, book_of}
-use Rattle.qg_descent.specs.Tree.{Root, found_in, super_for, super_of}
-use Rattle.qg_descent.proofs.BranchFrames.{reach-same}
-use Rattle.qg_descent.proofs.Frames.{items-same, walk-same}
+use Rattle.qg_tree_edits.specs.Tree.{Root, found_in, super_for, super_of}
+use Rattle.qg_tree_edits.proofs.BranchFrames.{reach-same}
+use Rattle.qg_tree_edits.proofs.Frames.{items-same, walk-same}
 use Rattle.qg_tree_edits.specs.Rooting.{IsReplaced}
 use Rattle.qg_tree_edits.proofs.Ways.{ways-some}
 use Rattle.qg_tree_refs.specs.Exchange.{times}

@@ -11,7 +11,7 @@ use Rattle.qg_image.specs.Owed.{Owing}
 use Rattle.qg_cow.specs.Children.{way_to}
 use Rattle.qg_refs.specs.Book.{full_in}
 use Rattle.qg_extents.specs.Table.{book_of}
-use Rattle.qg_descent.specs.Tree.{Root}
+use Rattle.qg_tree_edits.specs.Tree.{Root}
 use Rattle.qg_tree_edits.specs.Counting.{committed_at}
 use Rattle.qg_fs_tree.specs.declared.fs_tree.FsTree.{FsTree}
 use Rattle.qg_fs_tree.specs.Standing.{every_slot, nodes_of, ways_in}

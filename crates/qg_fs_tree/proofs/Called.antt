@@ -12,10 +12,10 @@ use Rattle.qg_super.specs.Places.{second_place}
 use Rattle.qg_image.specs.declared.tree.Tree.TheVariants.{Files}
 use Rattle.qg_image.specs.Walk.{is_owner}
 use Rattle.qg_blocks.specs.Told.{BreaksNone}
-use Rattle.qg_ground.specs.Land.{IsDrafted, Rests}
-use Rattle.qg_ground.specs.Tellings.{Telling}
-use Rattle.qg_ground.proofs.Lands.{Rests-draft}
-use Rattle.qg_ground.specs.Calls.{LeavesBe}
+use Rattle.qg_tree_edits.specs.Land.{IsDrafted, Rests}
+use Rattle.qg_tree_edits.specs.Tellings.{Telling}
+use Rattle.qg_tree_edits.proofs.Lands.{Rests-draft}
+use Rattle.qg_tree_edits.specs.GroundCalls.{LeavesBe}
 use Rattle.qg_extents.specs.Table.{IsTable}
 use Rattle.qg_items.specs.declared.extent.Reference.{Reference}
 use Rattle.qg_tree_edits.specs.Counting.{IsTreeTold}

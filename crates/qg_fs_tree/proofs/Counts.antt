@@ -15,13 +15,13 @@ use Rattle.qg_image.specs.Owed.{owed_count}
 use Rattle.qg_image.specs.declared.tree.Tree.TheVariants.{Files}
 use Rattle.qg_image.specs.Walk.{root_expected}
 use Rattle.qg_space.proofs.Marks.{SlotsFit-is_served}
-use Rattle.qg_ground.specs.Land.{IsDrafted}
-use Rattle.qg_descent.specs.Branch.{IsBranch}
-use Rattle.qg_descent.specs.Tree.{Root, super_of}
-use Rattle.qg_descent.proofs.BranchOrder.{ascends-under, keys_of}
-use Rattle.qg_descent.proofs.BranchWalk.{branch-under}
-use Rattle.qg_descent.proofs.Branches.{branch-level}
-use Rattle.qg_descent.proofs.Under.{IsUnder}
+use Rattle.qg_tree_edits.specs.Land.{IsDrafted}
+use Rattle.qg_tree_edits.specs.Branch.{IsBranch}
+use Rattle.qg_tree_edits.specs.Tree.{Root, super_of}
+use Rattle.qg_tree_edits.proofs.BranchOrder.{ascends-under, keys_of}
+use Rattle.qg_tree_edits.proofs.BranchWalk.{branch-under}
+use Rattle.qg_tree_edits.proofs.Branches.{branch-level}
+use Rattle.qg_tree_edits.proofs.Under.{IsUnder}
 use Rattle.qg_tree_edits.specs.Rooting.{IsRooted}
 use Rattle.qg_tree_edits.proofs.PartBelow.{told-ascends}
 use Rattle.qg_tree_edits.proofs.Ways.{ways-some}

@@ -14,8 +14,8 @@ use Rattle.qg_image.specs.declared.tree.Tree.TheVariants.{Files}
 use Rattle.qg_space.specs.Holding.{has_slot, is_free_slot}
 use Rattle.qg_space.proofs.Free.{free_is_slot}
 use Rattle.qg_space.proofs.Marks.{SlotsFit-is_served}
-use Rattle.qg_ground.specs.Land.{IsDrafted, Rests}
-use Rattle.qg_ground.specs.Tellings.{Telling}
+use Rattle.qg_tree_edits.specs.Land.{IsDrafted, Rests}
+use Rattle.qg_tree_edits.specs.Tellings.{Telling}
 use Rattle.qg_extents.specs.Table.{IsTable}
 use Rattle.qg_tree_edits.specs.Counting.{IsAsWas, IsBare, Turns, clean_at, copied_in, gains, made_in}
 use Rattle.qg_tree_edits.specs.Rooting.{IsReplaced}

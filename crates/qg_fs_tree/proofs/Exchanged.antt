@@ -15,8 +15,8 @@ use Rattle.qg_node.specs.Nodes.{header_of}
 use Rattle.qg_image.specs.State.{Placed}
 use Rattle.qg_image.specs.Owed.{Owing, owed_by_node}
 use Rattle.qg_cow.proofs.CopyLaws.{owed-shared}
-use Rattle.qg_ground.specs.Tellings.{Telling}
-use Rattle.qg_ground.specs.Tellings.Telling.{Copied, Made, Left}
+use Rattle.qg_tree_edits.specs.Tellings.{Telling}
+use Rattle.qg_tree_edits.specs.Tellings.Telling.{Copied, Made, Left}
 use Rattle.qg_refs.specs.Book.{count_at, full_in, references_at, references_in, what_in}
 use Rattle.qg_refs.specs.Counts.{greatest_count}
 use Rattle.qg_extents.specs.Table.{book_of}

@@ -14,12 +14,12 @@ use Rattle.qg_items.specs.declared.extent.Reference.TheVariants.{KeyedData}
 use Rattle.qg_super.specs.Places.{is_slot}
 use Rattle.qg_image.specs.State.{Placed}
 use Rattle.qg_image.specs.Owed.{owed_by_node}
-use Rattle.qg_ground.specs.Land.{IsDrafted}
+use Rattle.qg_tree_edits.specs.Land.{IsDrafted}
 use Rattle.qg_refs.specs.Book.{count_at, references_at}
 use Rattle.qg_extents.specs.Table.{book_of}
 use Rattle.qg_image.specs.declared.tree.Tree.TheVariants.{Files}
-use Rattle.qg_descent.specs.Tree.{Root, super_of}
-use Rattle.qg_descent.proofs.BranchFrames.{reach-top}
+use Rattle.qg_tree_edits.specs.Tree.{Root, super_of}
+use Rattle.qg_tree_edits.proofs.BranchFrames.{reach-top}
 use Rattle.qg_tree_refs.proofs.Counted.{many, total}
 use Rattle.qg_fs_tree.specs.declared.fs_tree.FsTree.{FsTree}
 use Rattle.qg_fs_tree.specs.Standing.{IsReachedBy, Stands, items_in, name_of, name_told, names_elsewhere, names_times}
@@ -28,7 +28,7 @@ use Rattle.qg_fs_tree.proofs.Before.{beside-there, beside_parts, counted, later_
 use Rattle.qg_fs_tree.proofs.Beside.{around_of, beside_in, foreign_in, own_ways, roots_owed, slots_of}
 use Rattle.qg_fs_tree.proofs.Counts.{branch}
 use Rattle.qg_fs_tree.proofs.Fixed.{elsewhere-told, fixed, tree_below}
-use Rattle.qg_descent.proofs.BranchItems.{in-leaf}
+use Rattle.qg_tree_edits.proofs.BranchItems.{in-leaf}
 use Rattle.qg_fs_tree.proofs.Lists.{from-flat, from-some, made-some}
 use Rattle.qg_fs_tree.proofs.Nodes.{IsNamed, many-owed, owed-some, roots-some, times-many}
 use Rattle.qg_fs_tree.proofs.Owes.{owed_in}

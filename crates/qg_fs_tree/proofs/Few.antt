@@ -5,8 +5,8 @@ use Rattle.std.specs.List.{sum_by}
 use Rattle.std.proofs.lemmas.List.Sums.{sum_by-cons}
 use Rattle.qg_device.specs.History.{History}
 use Rattle.qg_node.specs.Nodes.{header_of}
-use Rattle.qg_ground.specs.Tellings.{Telling}
-use Rattle.qg_ground.specs.Tellings.Telling.{Copied, Made, Left}
+use Rattle.qg_tree_edits.specs.Tellings.{Telling}
+use Rattle.qg_tree_edits.specs.Tellings.Telling.{Copied, Made, Left}
 use Rattle.qg_tree_edits.specs.Counting.{IsTimely, Turns, gains, losses, made_in, one}
 use Rattle.qg_tree_edits.proofs.Ways.{one-here}
 use Rattle.qg_fs_tree.specs.declared.fs_tree.FsTree.{FsTree}

@@ -21,8 +21,8 @@ use Rattle.qg_super.specs.Places.{is_served, slot_at}
 use Rattle.qg_super.proofs.Served.{SizesFit-is_served}
 use Rattle.qg_image.specs.Record.{same_reference}
 use Rattle.qg_image.specs.declared.tree.Tree.{Tree}
-use Rattle.qg_descent.specs.Branch.{AreBranches, IsBranch}
-use Rattle.qg_descent.specs.Tree.{Reaches}
+use Rattle.qg_tree_edits.specs.Branch.{AreBranches, IsBranch}
+use Rattle.qg_tree_edits.specs.Tree.{Reaches}
 use Rattle.qg_tree_edits.specs.Counting.{pointers_there, ways}
 use Rattle.qg_tree_refs.proofs.Owings.{times-cons, times-few}
 use Rattle.qg_tree_refs.proofs.Times.{one_of, times-nil}

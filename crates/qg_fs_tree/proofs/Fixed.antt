@@ -18,12 +18,12 @@ use Rattle.qg_image.specs.Owed.{owed_by_node}
 use Rattle.qg_cow.specs.Children.{owner_of}
 use Rattle.qg_image.specs.declared.tree.Tree.TheVariants.{Files}
 use Rattle.qg_space.specs.Holding.{has_slot}
-use Rattle.qg_ground.specs.Land.{IsDrafted}
+use Rattle.qg_tree_edits.specs.Land.{IsDrafted}
 use Rattle.qg_refs.specs.Book.{references_at}
 use Rattle.qg_refs.specs.Counts.{greatest_count}
 use Rattle.qg_extents.specs.Table.{IsTable, book_of}
-use Rattle.qg_descent.specs.Tree.{Root, super_of}
-use Rattle.qg_descent.proofs.BranchFrames.{reach-top}
+use Rattle.qg_tree_edits.specs.Tree.{Root, super_of}
+use Rattle.qg_tree_edits.proofs.BranchFrames.{reach-top}
 use Rattle.qg_tree_edits.specs.Counting.{committed_at}
 use Rattle.qg_tree_edits.specs.Rooting.{IsRooted}
 use Rattle.qg_tree_edits.proofs.Committed.{committed-are}
@@ -42,7 +42,7 @@ use Rattle.qg_fs_tree.proofs.Before.{numbers, once, other-tree, placed, reached,
 use Rattle.qg_fs_tree.proofs.Beside.{around_of, beside_in, foreign_in, foreign_of, mark_of, own_ways, roots_owed}
 use Rattle.qg_fs_tree.proofs.Counts.{branch, node-there, single-way}
 use Rattle.qg_fs_tree.proofs.Exchanged.{lasting, reached_first}
-use Rattle.qg_descent.proofs.BranchItems.{from-leaf}
+use Rattle.qg_tree_edits.proofs.BranchItems.{from-leaf}
 use Rattle.qg_fs_tree.proofs.Lists.{from-some, has-flat, made-some}
 use Rattle.qg_fs_tree.proofs.Lying.{told-at}
 use Rattle.qg_fs_tree.proofs.Nodes.{last-step, owed-few, owed-some, pointing-few, roots-own, roots-shared, roots-some}

@@ -15,15 +15,15 @@ use Rattle.qg_node.specs.Nodes.{header_of, items_bytes, used_bytes}
 use Rattle.qg_items.specs.declared.extent.Reference.{Reference}
 use Rattle.qg_super.specs.Places.{capacity}
 use Rattle.qg_blocks.specs.Told.{fresh_at, told}
-use Rattle.qg_ground.specs.declared.ground.Ground.{Ground}
-use Rattle.qg_ground.specs.Land.{IsDrafted}
-use Rattle.qg_ground.specs.Tellings.{Telling}
-use Rattle.qg_ground.specs.Tellings.Telling.{Copied, Made, Left}
+use Rattle.qg_tree_edits.specs.Types.{Ground}
+use Rattle.qg_tree_edits.specs.Land.{IsDrafted}
+use Rattle.qg_tree_edits.specs.Tellings.{Telling}
+use Rattle.qg_tree_edits.specs.Tellings.Telling.{Copied, Made, Left}
 use Rattle.qg_refs.specs.declared.kept.What.{What}
 use Rattle.qg_refs.specs.declared.kept.Kept.{Kept}
 use Rattle.qg_refs.specs.Book.{Adds, Drops, references_in}
 use Rattle.qg_extents.specs.Table.{IsTable, book_of}
-use Rattle.qg_weighed.specs.Weight.{extent_record_bytes, reference_bytes}
+use Rattle.qg_tree_refs.specs.Weight.{extent_record_bytes, reference_bytes}
 use Rattle.qg_tree_edits.specs.Counting.{IsAsWas, IsBare, clean_at, copied_in, made_in}
 use Rattle.qg_tree_refs.specs.declared.tree_refs.TreeRefs.{TreeRefs}
 use Rattle.qg_tree_refs.specs.Heavier.{BookGetsHeavier, GetsHeavier, name_bytes, name_new_bytes, node_bytes}

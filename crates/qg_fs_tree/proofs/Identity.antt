@@ -19,12 +19,12 @@ use Rattle.qg_super.specs.declared.superblock.Super.{Super}
 use Rattle.qg_image.specs.declared.tree.Tree.{Tree}
 use Rattle.qg_image.specs.Owed.{Owing}
 use Rattle.qg_cow.specs.Children.{keyed_children}
-use Rattle.qg_descent.specs.Branch.{AreBranches, IsBranch, IsPointed}
-use Rattle.qg_descent.specs.Tree.{Reaches}
-use Rattle.qg_descent.proofs.BranchApart.{branches-apart}
-use Rattle.qg_descent.proofs.BranchOrder.{keys_of}
-use Rattle.qg_descent.proofs.BranchRanges.{ascending-first, ascending-others}
-use Rattle.qg_descent.proofs.Branches.{branch-level, each-get}
+use Rattle.qg_tree_edits.specs.Branch.{AreBranches, IsBranch, IsPointed}
+use Rattle.qg_tree_edits.specs.Tree.{Reaches}
+use Rattle.qg_tree_edits.proofs.BranchApart.{branches-apart}
+use Rattle.qg_tree_edits.proofs.BranchOrder.{keys_of}
+use Rattle.qg_tree_edits.proofs.BranchRanges.{ascending-first, ascending-others}
+use Rattle.qg_tree_edits.proofs.Branches.{branch-level, each-get}
 use Rattle.qg_tree_edits.specs.Counting.{one, pointers_there, ways, ways_each}
 use Rattle.qg_tree_edits.proofs.Ways.{one-here, one-other, sum-same, ways-inner, ways-leaf, ways-none, ways_each-cons}
 use Rattle.qg_tree_edits.proofs.Ways.{ways_each-none}

@@ -18,7 +18,7 @@ use Rattle.qg_image.specs.State.{Layout, Placed}
 use Rattle.qg_image.specs.Owed.{Owing, owed, owed_by_node, owed_count}
 use Rattle.qg_cow.specs.Children.{keyed_children, way_to}
 use Rattle.qg_cow.proofs.CopyLaws.{owed-keyed}
-use Rattle.qg_descent.specs.Tree.{Root}
+use Rattle.qg_tree_edits.specs.Tree.{Root}
 use Rattle.qg_tree_edits.specs.Counting.{one}
 use Rattle.qg_tree_refs.specs.Exchange.{times}
 use Rattle.qg_tree_refs.proofs.Times.{times-append, times-nil}

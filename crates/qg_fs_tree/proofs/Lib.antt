@@ -1,3 +1,8 @@
+pub use Rattle.qg_tree_edits.proofs.Downward
+pub use Rattle.qg_tree_edits.proofs.Heights
+pub use Rattle.qg_tree_edits.proofs.Ways
+pub use Rattle.qg_tree_refs.proofs.Owings as TreeRefsOwings
+pub use Rattle.qg_tree_refs.proofs.Times
 pub mod SlotSums
 pub mod Keyed
 pub mod Owings

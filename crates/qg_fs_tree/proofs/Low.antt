@@ -20,13 +20,13 @@ use Rattle.qg_image.specs.declared.tree.Tree.{Tree}
 use Rattle.qg_image.specs.declared.tree.Tree.TheVariants.{Files}
 use Rattle.qg_image.specs.Walk.{root_expected}
 use Rattle.qg_blocks.specs.Told.{told}
-use Rattle.qg_ground.specs.declared.ground.Ground.{Ground}
-use Rattle.qg_ground.specs.Land.{IsDrafted}
-use Rattle.qg_descent.specs.Branch.{AreBranches, IsBranch, IsPointed}
-use Rattle.qg_descent.specs.Tree.{Root, super_of}
-use Rattle.qg_descent.proofs.Under.{IsUnder, under-inner}
-use Rattle.qg_descent.proofs.BranchForms.{form-expected}
-use Rattle.qg_descent.proofs.BranchWalk.{branches-under}
+use Rattle.qg_tree_edits.specs.Types.{Ground}
+use Rattle.qg_tree_edits.specs.Land.{IsDrafted}
+use Rattle.qg_tree_edits.specs.Branch.{AreBranches, IsBranch, IsPointed}
+use Rattle.qg_tree_edits.specs.Tree.{Root, super_of}
+use Rattle.qg_tree_edits.proofs.Under.{IsUnder, under-inner}
+use Rattle.qg_tree_edits.proofs.BranchForms.{form-expected}
+use Rattle.qg_tree_edits.proofs.BranchWalk.{branches-under}
 use Rattle.qg_tree_edits.proofs.Served.{size-blocks}
 use Rattle.qg_fs_tree.specs.declared.fs_tree.FsTree.{FsTree}
 use Rattle.qg_fs_tree.specs.Standing.{Stands}

@@ -19,8 +19,8 @@ use Rattle.qg_node.specs.Reading.{leaf_at, node_read, pointers_at}
 use Rattle.qg_super.specs.declared.sizes.Sizes.{Sizes}
 use Rattle.qg_blocks.specs.Standing.{standing}
 use Rattle.qg_blocks.specs.Told.{fresh_at, told, told_or}
-use Rattle.qg_ground.specs.declared.ground.Ground.{Ground}
-use Rattle.qg_ground.specs.Land.{IsDrafted}
+use Rattle.qg_tree_edits.specs.Types.{Ground}
+use Rattle.qg_tree_edits.specs.Land.{IsDrafted}
 use Rattle.qg_fs_tree.proofs.Formed.{check-ok}
 use Rattle.qg_fs_tree.proofs.Sound.{ok-there, standing-read}
 

@@ -11,9 +11,9 @@ use Rattle.qg_super.specs.declared.sizes.Sizes.{Sizes}
 use Rattle.qg_super.specs.Places.{is_slot, slot_at}
 use Rattle.qg_super.proofs.Slots.{is_slot-slot_at}
 use Rattle.qg_space.specs.Holding.{Holding, free_slots, has_slot, is_free_slot}
-use Rattle.qg_ground.specs.declared.ground.Ground.{Ground}
-use Rattle.qg_ground.specs.Tellings.{Telling}
-use Rattle.qg_ground.specs.Tellings.Telling.{Copied, Made, Left}
+use Rattle.qg_tree_edits.specs.Types.{Ground}
+use Rattle.qg_tree_edits.specs.Tellings.{Telling}
+use Rattle.qg_tree_edits.specs.Tellings.Telling.{Copied, Made, Left}
 use Rattle.qg_tree_edits.specs.Counting.{Turns, copied_in, gains, made_in}
 use Rattle.qg_tree_edits.proofs.Ways.{one-here}
 use Rattle.qg_fs_tree.specs.declared.fs_tree.FsTree.{FsTree}

@@ -23,7 +23,7 @@ use Rattle.qg_image.proofs.Contained.{contains_cases, contains_here, contains_la
 use Rattle.qg_reach.proofs.SlotRule.{slot_below}
 use Rattle.qg_space.specs.Holding.{Holding, has_run, is_clear, is_free_run, with_run, without_run}
 use Rattle.qg_space.proofs.Members.{Contains-has_run, Contains-with_run, Contains-without_run, passes_one}
-use Rattle.qg_ground.specs.Land.{IsDrafted}
+use Rattle.qg_tree_edits.specs.Land.{IsDrafted}
 use Rattle.qg_refs.specs.declared.counted.Counted.{Counted}
 use Rattle.qg_refs.specs.declared.kept.What.{What}
 use Rattle.qg_refs.specs.declared.kept.Kept.{Kept}

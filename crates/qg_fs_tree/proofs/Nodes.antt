@@ -22,9 +22,9 @@ use Rattle.qg_image.specs.Record.{same_reference}
 use Rattle.qg_image.specs.Owed.{Owing, owed_by_node, owed_by_part, owed_to_child, reference_offset}
 use Rattle.qg_image.proofs.Contained.{contains_cases, contains_here, contains_later, none_contained}
 use Rattle.qg_cow.specs.Children.{keyed_children, way_to}
-use Rattle.qg_descent.specs.Branch.{IsBranch}
-use Rattle.qg_descent.specs.Tree.{Reaches, Root}
-use Rattle.qg_descent.proofs.Branches.{branch-below}
+use Rattle.qg_tree_edits.specs.Branch.{IsBranch}
+use Rattle.qg_tree_edits.specs.Tree.{Reaches, Root}
+use Rattle.qg_tree_edits.proofs.Branches.{branch-below}
 use Rattle.qg_refs.specs.Counts.{greatest_count}
 use Rattle.qg_super.specs.declared.superblock.Super.{Super}
 use Rattle.qg_image.specs.declared.tree.Tree.{Tree}

@@ -9,11 +9,11 @@ use Rattle.qg_super.specs.declared.sizes.Sizes.{Sizes}
 use Rattle.qg_blocks.specs.Told.{told}
 use Rattle.qg_space.specs.Holding.{Holding, has_slot}
 use Rattle.qg_space.proofs.Marks.{SlotsFit-is_served}
-use Rattle.qg_ground.specs.declared.ground.Ground.{Ground}
-use Rattle.qg_ground.specs.Land.{IsDrafted}
+use Rattle.qg_tree_edits.specs.Types.{Ground}
+use Rattle.qg_tree_edits.specs.Land.{IsDrafted}
 use Rattle.qg_extents.specs.Table.{IsTable}
-use Rattle.qg_descent.specs.Tree.{Reaches, Root}
-use Rattle.qg_descent.proofs.BranchFrames.{reach-same}
+use Rattle.qg_tree_edits.specs.Tree.{Reaches, Root}
+use Rattle.qg_tree_edits.proofs.BranchFrames.{reach-same}
 use Rattle.qg_tree_edits.specs.Counting.{one, ways}
 use Rattle.qg_tree_edits.proofs.Ways.{one-here}
 use Rattle.qg_fs_tree.specs.declared.fs_tree.FsTree.{FsTree}

@@ -11,7 +11,7 @@ use Rattle.qg_node.specs.Nodes.{header_of}
 use Rattle.qg_items.specs.declared.extent.Reference.{Reference}
 use Rattle.qg_image.specs.declared.tree.Tree.TheVariants.{Files}
 use Rattle.qg_blocks.specs.Told.{fresh_at}
-use Rattle.qg_ground.specs.Land.{IsDrafted}
+use Rattle.qg_tree_edits.specs.Land.{IsDrafted}
 use Rattle.qg_tree_edits.specs.Rooting.{IsReplaced}
 use Rattle.qg_fs_tree.specs.declared.fs_tree.FsTree.{FsTree}
 use Rattle.qg_fs_tree.specs.Standing.{Stands, name_of, name_told, names_times}

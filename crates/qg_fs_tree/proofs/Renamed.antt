@@ -24,13 +24,13 @@ use Rattle.qg_blocks.specs.Standing.{has_slot, standing}
 use Rattle.qg_blocks.specs.Told.{fresh_at, told, told_or}
 use Rattle.qg_space.specs.Holding.{Holding, is_free_slot}
 use Rattle.qg_space.specs.Holding.{has_slot as has_taken}
-use Rattle.qg_ground.specs.declared.ground.Ground.{Ground}
-use Rattle.qg_ground.specs.Land.{IsDrafted}
+use Rattle.qg_tree_edits.specs.Types.{Ground}
+use Rattle.qg_tree_edits.specs.Land.{IsDrafted}
 use Rattle.qg_refs.specs.declared.kept.What.{What}
 use Rattle.qg_refs.specs.declared.kept.Kept.{Kept}
 use Rattle.qg_refs.specs.Book.{count_at, full_in, references_in, what_in}
 use Rattle.qg_extents.specs.Table.{book_of}
-use Rattle.qg_descent.specs.Tree.{Reaches, Root}
+use Rattle.qg_tree_edits.specs.Tree.{Reaches, Root}
 use Rattle.qg_tree_edits.specs.Counting.{one, ways}
 use Rattle.qg_tree_edits.specs.Rooting.{IsRooted}
 use Rattle.qg_tree_refs.specs.declared.tree_refs.TreeRefs.{TreeRefs}

@@ -9,7 +9,7 @@ use Rattle.qg_node.specs.declared.item.Item.{Item}
 use Rattle.qg_super.specs.Places.{is_slot}
 use Rattle.qg_image.specs.State.{Placed}
 use Rattle.qg_space.specs.Holding.{has_slot}
-use Rattle.qg_ground.specs.Land.{IsDrafted}
+use Rattle.qg_tree_edits.specs.Land.{IsDrafted}
 use Rattle.qg_refs.specs.Book.{references_at}
 use Rattle.qg_extents.specs.Table.{IsTable, book_of}
 use Rattle.qg_tree_refs.specs.declared.tree_refs.TreeRefs.{TreeRefs}

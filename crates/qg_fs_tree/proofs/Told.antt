@@ -15,9 +15,9 @@ use Rattle.qg_blocks.specs.Told.{fresh_at}
 use Rattle.qg_super.specs.Places.{is_slot}
 use Rattle.qg_space.specs.Holding.{Holding, has_slot, is_free_slot}
 use Rattle.qg_space.proofs.Members.{one_passes, passes_one}
-use Rattle.qg_ground.specs.Land.{IsDrafted}
-use Rattle.qg_ground.specs.Tellings.{Telling}
-use Rattle.qg_ground.specs.Tellings.Telling.{Copied, Made, Left}
+use Rattle.qg_tree_edits.specs.Land.{IsDrafted}
+use Rattle.qg_tree_edits.specs.Tellings.{Telling}
+use Rattle.qg_tree_edits.specs.Tellings.Telling.{Copied, Made, Left}
 use Rattle.qg_extents.specs.Table.{IsTable}
 use Rattle.qg_tree_edits.specs.Counting.{Downward, IsAsWas, IsDownward, IsUnheld, clean_at, committed_at, gains}
 use Rattle.qg_tree_edits.proofs.Committed.{committed-are}

@@ -21,8 +21,8 @@ use Rattle.qg_cow.specs.Children.{keyed_children, owner_of, shared_children, way
 use Rattle.qg_cow.specs.Copying.{children_gain, copy_case, copy_losses}
 use Rattle.qg_cow.specs.Left.{leaving_gains, leaving_losses, left_case}
 use Rattle.qg_cow.proofs.CopyLaws.{owed-shared}
-use Rattle.qg_ground.specs.Tellings.{Telling}
-use Rattle.qg_ground.specs.Tellings.Telling.{Copied, Made, Left}
+use Rattle.qg_tree_edits.specs.Tellings.{Telling}
+use Rattle.qg_tree_edits.specs.Tellings.Telling.{Copied, Made, Left}
 use Rattle.qg_refs.specs.declared.kept.What.{What}
 use Rattle.qg_refs.specs.declared.kept.Kept.{Kept}
 use Rattle.qg_refs.specs.Book.{Book, IsBook, count_at, full_in, references_at, references_in, what_in}

@@ -7,7 +7,7 @@ use Rattle.qg_node.specs.declared.item.Item.{Item}
 use Rattle.qg_node.specs.Nodes.{items_bytes}
 use Rattle.qg_super.specs.Places.{capacity}
 use Rattle.qg_space.specs.Holding.{Holding}
-use Rattle.qg_ground.specs.Land.{IsDrafted}
+use Rattle.qg_tree_edits.specs.Land.{IsDrafted}
 use Rattle.qg_fs_tree.specs.declared.fs_tree.FsTree.{FsTree}
 use Rattle.qg_fs_tree.specs.Standing.{KeepsTree, Stands, made_slots}
 

@@ -32,7 +32,7 @@ use Rattle.qg_blocks.specs.Told.{fresh_at, told}
 use Rattle.qg_space.specs.Holding.{Holding, has_slot, is_free_slot}
 use Rattle.qg_refs.specs.Book.{Book, count_at, full_in, what_in}
 use Rattle.qg_extents.specs.Table.{book_of}
-use Rattle.qg_descent.specs.Tree.{Reaches, Root}
+use Rattle.qg_tree_edits.specs.Tree.{Reaches, Root}
 use Rattle.qg_tree_edits.specs.Counting.{ways}
 use Rattle.qg_tree_edits.specs.Editing.{CanMake, IsEditable}
 use Rattle.qg_tree_edits.specs.Rooting.{IsRooted}

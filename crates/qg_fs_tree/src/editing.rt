@@ -6,8 +6,8 @@ ghost use Rattle.qg_num.specs.declared.piece.Piece.{Piece as PieceValue};
 ghost use Rattle.qg_node.specs.declared.item.Item.{Item as ItemValue};
 ghost use Rattle.qg_blocks.specs.Told.{BreaksNone};
 ghost use Rattle.qg_space.specs.Holding.{free_slots};
-ghost use Rattle.qg_edit.specs.Edits.{has_key, with_item, without_key};
-ghost use Rattle.qg_ground.specs.Calls.{LeavesBe};
+ghost use Rattle.qg_tree_edits.specs.Edits.{has_key, with_item, without_key};
+ghost use Rattle.qg_tree_edits.specs.GroundCalls.{LeavesBe};
 ghost use Rattle.qg_tree_edits.specs.Rooting.{Grows};
 ghost use Rattle.qg_fs_tree.specs.Standing.{AreNamed, IsEditedTo, IsSubvolume, Stands};
 

@@ -4,9 +4,9 @@ ghost use Rattle.qg_num.specs.declared.fault.BlockFault.TheVariants.{Image};
 ghost use Rattle.qg_num.specs.declared.rule.Rule.TheVariants.{Refs};
 ghost use Rattle.qg_space.specs.Holding.{free_slots};
 
-use qg_descent::Tree;
-use qg_ground::Ground;
 use qg_num::{BlockFault, Rule};
+use qg_tree_edits::descent::Tree;
+use qg_tree_edits::ground::Ground;
 use qg_tree_refs::TreeRefs;
 
 /// The trees of an image's subvolumes, one of them at hand, with all that edits of it change (on-disk format, "B-tree"

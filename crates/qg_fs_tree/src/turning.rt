@@ -5,13 +5,13 @@ ghost use Rattle.std.specs.List.{All, Contains, HoldsAt, filter_map};
 ghost use Rattle.std.specs.List.Sorted.{IsNonDecreasingBy, IsPermutation};
 ghost use Rattle.qg_device.specs.History.{History};
 ghost use Rattle.qg_node.specs.declared.item.Item.{Item as ItemValue};
-ghost use Rattle.qg_descent.specs.Tree.{Root};
+ghost use Rattle.qg_tree_edits.specs.Tree.{Root};
 ghost use Rattle.qg_fs_tree.specs.Standing.{AreNumbered, CanTurn, IsSubvolume, IsTurned, Stands, items_in, layout_in};
 ghost use Rattle.qg_fs_tree.specs.Standing.{name_told, trees_of};
 
 use crate::FsTree;
-use qg_descent::Tree;
 use qg_num::RootId;
+use qg_tree_edits::descent::Tree;
 use std::mem;
 
 /// The place of the tree of a number; none exactly where there is none.

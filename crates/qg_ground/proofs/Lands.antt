@@ -17,7 +17,7 @@ use Rattle.qg_node.specs.Nodes.{header_of}
 use Rattle.qg_node.specs.NodeText.{IsNode}
 use Rattle.qg_super.specs.declared.sizes.Sizes.{Sizes}
 use Rattle.qg_super.specs.Places.{is_served, is_slot}
-use Rattle.qg_image.specs.Table.{with_number}
+use Rattle.qg_blocks.specs.Table.{with_number}
 use Rattle.qg_blocks.specs.Held.{Draft, Held}
 use Rattle.qg_blocks.specs.Told.{Answers, BreaksNone, IsBacked, IsNodeAt, first_of, fresh_at, held_at, told, told_or}
 use Rattle.qg_space.specs.Holding.{Holding, is_free_slot, without_slot}

@@ -1,3 +1,4 @@
+pub use Rattle.qg_blocks.proofs.Telling
 pub mod Slots
 pub mod Lands
 pub mod Calls

@@ -3,7 +3,7 @@ use Rattle.std.proofs.Common.{◌≡◌, ℕ, true, List, refl, sym, ap, ◌∙�
 use Rattle.std.specs.Prelude.{Option, Some, None}
 use Rattle.qg_device.specs.History.{Unrecorded}
 use Rattle.qg_node.specs.declared.node.Node.{Node}
-use Rattle.qg_image.specs.Table.{with_number}
+use Rattle.qg_blocks.specs.Table.{with_number}
 use Rattle.qg_blocks.specs.Held.{Draft}
 use Rattle.qg_blocks.specs.Told.{fresh_at}
 use Rattle.qg_space.specs.Holding.{is_free_slot}

@@ -8,8 +8,8 @@ use Rattle.std.proofs.lemmas.Bool.{true≢false}
 use Rattle.std.proofs.lemmas.List.Elements.{Contains-append_left, Contains-append_right, Contains-append_cases}
 use Rattle.qg_super.specs.declared.sizes.Sizes.{Sizes}
 use Rattle.qg_super.specs.Places.{is_served, is_slot}
-use Rattle.qg_image.proofs.Contained.{contains_here, contains_later}
-use Rattle.qg_image.specs.Table.{with_number}
+use Rattle.qg_blocks.proofs.Contained.{contains_here, contains_later}
+use Rattle.qg_blocks.specs.Table.{with_number}
 use Rattle.qg_space.specs.Holding.{Holding, first_slot, free_slots, has_slot, is_free_slot, without_slot}
 use Rattle.qg_space.proofs.Counted.{free_slots-given, free_slots-none, free_slots-taken}
 use Rattle.qg_space.proofs.Firsts.{is_free_slot-clear}

@@ -3,7 +3,7 @@ use Rattle.std.specs.Prelude.{◌≡◌, ◌≢◌, ◌⊎◌, ℕ, ◌+◌, ◌
 use Rattle.qg_device.specs.History.{History}
 use Rattle.qg_node.specs.declared.node.Node.{Node}
 use Rattle.qg_node.specs.Nodes.{header_of}
-use Rattle.qg_image.specs.Table.{with_number}
+use Rattle.qg_blocks.specs.Table.{with_number}
 use Rattle.qg_cow.specs.Children.{with_header}
 use Rattle.qg_blocks.specs.Told.{fresh_at, held_at, told}
 use Rattle.qg_space.specs.Holding.{free_slots, has_slot, is_free_slot}

@@ -1,3 +1,5 @@
+pub use Rattle.qg_blocks.specs.Held
+pub use Rattle.qg_blocks.specs.Told
 pub mod Land
 pub mod Tellings
 pub mod Changes

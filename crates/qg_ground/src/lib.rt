@@ -12,4 +12,5 @@ pub use book::Book;
 pub use ground::Ground;
 pub use making::{leave_node, make_node};
 pub use owning::own_node;
+pub use qg_blocks as blocks;
 pub use slot_book::SlotBook;

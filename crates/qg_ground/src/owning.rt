@@ -3,7 +3,7 @@ ghost use Rattle.std.specs.Prelude.{◌≡◌, ◌+◌, ◌≤◌, false, ℕ, L
 ghost use Rattle.std.specs.Prelude.{IsSome, is_some, if◌then◌else◌};
 ghost use Rattle.qg_node.specs.declared.node.Node.{Node as NodeValue};
 ghost use Rattle.qg_node.specs.Nodes.{header_of};
-ghost use Rattle.qg_image.specs.Table.{with_number};
+ghost use Rattle.qg_blocks.specs.Table.{with_number};
 ghost use Rattle.qg_blocks.specs.Told.{fresh_at, told};
 ghost use Rattle.qg_space.specs.Holding.{is_free_slot};
 ghost use Rattle.qg_ground.specs.Calls.{CanTakeSlot, FailsToRead, KeepsBook, LeavesBe};

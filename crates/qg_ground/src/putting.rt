@@ -1,7 +1,7 @@
 // New nodes in free slots.
 ghost use Rattle.std.specs.Prelude.{◌≡◌, ◌<◌, List, IfOk, OnErr, IsTrue};
 ghost use Rattle.qg_device.specs.History.{History};
-ghost use Rattle.qg_image.specs.Table.{with_number};
+ghost use Rattle.qg_blocks.specs.Table.{with_number};
 ghost use Rattle.qg_blocks.specs.Told.{IsBacked};
 ghost use Rattle.qg_space.specs.Holding.{free_slots, is_free_slot};
 ghost use Rattle.qg_ground.specs.Changes.{Makes, node_at};

@@ -4,10 +4,10 @@ use Rattle.std.specs.Prelude.{◌&&◌, ◌==◌, not}
 use Rattle.std.specs.List.{filter}
 use Rattle.std.specs.List.Sorted.{IsStrictlySortedBy}
 use Rattle.std.specs.Ordering.{nat_cmp}
-use Rattle.qg_image.specs.Table.{keys_of, with_number, with_value}
-use Rattle.qg_image.specs.Members.{Hierarchy, hierarchy_of, is_below, is_member, level_of_group, members}
-use Rattle.qg_image.specs.declared.quota.Group.{Group}
-use Rattle.qg_image.specs.declared.quota.Quota.{Quota}
+use Rattle.qg_machine.specs.Table.{keys_of, with_number, with_value}
+use Rattle.qg_machine.specs.Members.{Hierarchy, hierarchy_of, is_below, is_member, level_of_group, members}
+use Rattle.qg_machine.specs.Types.{Group}
+use Rattle.qg_machine.specs.Types.{Quota}
 use Rattle.qg_machine.specs.GroupChange as machine
 use Rattle.qg_hier.specs.Groups.{IsSound, assigned, created, destroyed, groups_above, is_kept, unassigned}
 use Rattle.qg_hier.proofs.Lists.{filter_same}

@@ -6,7 +6,7 @@ use Rattle.std.specs.List.{count_by, list_any}
 use Rattle.std.proofs.lemmas.Bool.{cases_Bool, cond-true, cond-false, true≢false}
 use Rattle.std.proofs.lemmas.Bool.Decides.{nat_tests}
 use Rattle.std.proofs.lemmas.List.Sums.{count_by-le-length, sum_by-cons}
-use Rattle.qg_image.specs.Members.{is_below, leads}
+use Rattle.qg_machine.specs.Members.{is_below, leads}
 use Rattle.qg_machine.specs.GroupChange.{has_pair, same_pair}
 use Rattle.qg_hier.proofs.Lists.{both_true}
 use Rattle.qg_hier.proofs.Sets.{number_is, pair_is}

@@ -10,8 +10,8 @@ use Rattle.std.proofs.lemmas.Bool.{cases_Bool, true≢false}
 use Rattle.std.proofs.lemmas.Bool.Decides.{nat_tests}
 use Rattle.std.proofs.lemmas.Map.Keys.{ge_from_not_lt}
 use Rattle.std.proofs.Math.Nat.{div-mul-le_self, le-div_iff_mul-le}
-use Rattle.qg_image.specs.ItemMeaning.{first_some}
-use Rattle.qg_image.specs.Members.{Hierarchy, level_of_group}
+use Rattle.qg_machine.specs.ItemMeaning.{first_some}
+use Rattle.qg_machine.specs.Members.{Hierarchy, level_of_group}
 use Rattle.qg_machine.specs.GroupChange.{has_pair, same_pair}
 use Rattle.qg_hier.specs.Groups.{has_members, has_number, is_kept, pair_cmp}
 use Rattle.qg_hier.specs.Faults.{destroy_fault}

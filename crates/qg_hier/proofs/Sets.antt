@@ -17,7 +17,7 @@ use Rattle.std.proofs.lemmas.Bool.Decides.{nat_tests}
 use Rattle.std.proofs.lemmas.Cmp.{nat_cmp_total, on_total, then_total}
 use Rattle.std.proofs.lemmas.Map.Keys.{IsDistinct-from_sorted}
 use Rattle.std.proofs.lemmas.List.Elements.{All-head, All-tail}
-use Rattle.qg_image.specs.Table.{with_number}
+use Rattle.qg_machine.specs.Table.{with_number}
 use Rattle.qg_machine.specs.GroupChange.{has_pair, same_pair, with_pair}
 use Rattle.qg_hier.specs.Groups.{has_number, pair_cmp}
 use Rattle.qg_hier.proofs.Lists.{any_filtered, any_same, both_true, filter_same, removed}

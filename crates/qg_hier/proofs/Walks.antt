@@ -8,7 +8,7 @@ use Rattle.std.specs.BTreeSet.{BTreeSet}
 use Rattle.std.specs.Ordering.{nat_cmp}
 use Rattle.std.proofs.lemmas.Bool.{cases_Bool, true≢false}
 use Rattle.std.proofs.lemmas.Bool.Decides.{nat_tests}
-use Rattle.qg_image.specs.Members.{Hierarchy, is_below, level_of_group, members}
+use Rattle.qg_machine.specs.Members.{Hierarchy, is_below, level_of_group, members}
 use Rattle.qg_machine.specs.GroupChange.{has_pair}
 use Rattle.qg_hier.specs.Groups.{IsSound, groups_above, has_number, is_kept}
 use Rattle.qg_hier.specs.Kept.{AreKept, AreSubvolumes, IsLastAbove, seen}

@@ -1,8 +1,8 @@
 -- Why a change of quota groups or relations is refused (btrfs-qgroup(8); the order is this project's own).
 use Rattle.std.specs.Prelude.{◌≡◌, ◌⊎◌, ℕ, not, [], ◌∷◌, Option, Some, nat_lt}
 use Rattle.std.specs.Bool.{then_some}
-use Rattle.qg_image.specs.ItemMeaning.{first_some}
-use Rattle.qg_image.specs.Members.{Hierarchy, level_of_group}
+use Rattle.qg_machine.specs.ItemMeaning.{first_some}
+use Rattle.qg_machine.specs.Members.{Hierarchy, level_of_group}
 use Rattle.qg_machine.specs.GroupChange.{has_pair}
 use Rattle.qg_hier.specs.declared.fault.HierFault.{HierFault}
 use Rattle.qg_hier.specs.declared.fault.HierFault.TheVariants as why

@@ -4,8 +4,8 @@ use Rattle.std.specs.List.{filter, list_any}
 use Rattle.std.specs.List.Sorted.{IsStrictlySortedBy}
 use Rattle.std.specs.Ordering.{nat_cmp, ordering_then}
 use Rattle.std.specs.declared.cmp.Ordering.{Ordering}
-use Rattle.qg_image.specs.Table.{with_number}
-use Rattle.qg_image.specs.Members.{Hierarchy, is_below, level_of_group}
+use Rattle.qg_machine.specs.Table.{with_number}
+use Rattle.qg_machine.specs.Members.{Hierarchy, is_below, level_of_group}
 use Rattle.qg_machine.specs.GroupChange.{has_pair, same_pair, with_pair}
 
 -- there is no group, and no relation

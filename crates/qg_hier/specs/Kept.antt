@@ -2,7 +2,7 @@
 use Rattle.std.specs.Prelude.{◌≡◌, ℕ, ◌^◌, ◌<◌, ◌≤◌, List, IsTrue}
 use Rattle.std.specs.BTreeSet.{BTreeSet, IsOrdered}
 use Rattle.std.specs.List.{All}
-use Rattle.qg_image.specs.Members.{Hierarchy, level_of_group}
+use Rattle.qg_machine.specs.Members.{Hierarchy, level_of_group}
 use Rattle.qg_machine.specs.GroupChange.{has_pair}
 use Rattle.qg_hier.specs.Groups.{IsSound, has_number, pair_cmp}
 

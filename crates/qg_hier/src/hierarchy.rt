@@ -1,6 +1,6 @@
 // Quota groups and their relations.
 ghost use Rattle.std.specs.Prelude.{◌≡◌, None, Some, MatchOption, IfOk, IfErr, OnOk, OnErr};
-ghost use Rattle.qg_image.specs.Members.{members};
+ghost use Rattle.qg_machine.specs.Members.{members};
 ghost use Rattle.qg_hier.specs.Groups.{assigned, created, destroyed, groups_above, no_groups, unassigned, IsSound};
 ghost use Rattle.qg_hier.specs.Faults.{assign_fault, create_fault, destroy_fault, no_group, remove_fault, IsCause};
 ghost use Rattle.qg_hier.specs.declared.fault.HierFault.TheVariants as why;
@@ -32,7 +32,7 @@ pub struct Hierarchy {
 }
 
 impl Model for Hierarchy {
-    ghost use Rattle.qg_image.specs.Members.{Hierarchy};
+    ghost use Rattle.qg_machine.specs.Members.{Hierarchy};
     ghost use Rattle.qg_hier.specs.Kept.{seen, AreKept};
 
     ghost Value = { Hierarchy };

@@ -3,7 +3,7 @@ ghost use Rattle.std.specs.Prelude.{◌≡◌, ◌==◌, ◌&&◌, ◌||◌, ℕ
 ghost use Rattle.std.specs.List.{filter};
 ghost use Rattle.std.specs.Ordering.{nat_cmp};
 ghost use Rattle.std.specs.BTreeSet.{IsOrdered};
-ghost use Rattle.qg_image.specs.Table.{with_number};
+ghost use Rattle.qg_machine.specs.Table.{with_number};
 ghost use Rattle.qg_hier.specs.Groups.{has_number};
 
 use crate::RootList;

@@ -1,3 +1,5 @@
+pub use Rattle.qg_items.specs.ItemReading
+pub use Rattle.qg_node.specs.Nodes
 pub mod Table
 pub mod Below
 pub mod IsShaped
@@ -5,7 +7,6 @@ pub mod ItemMeaning
 pub mod FilesOf
 pub mod ExamplesOfItems
 pub mod ExamplesOfShape
-pub mod Stage
 pub mod Record
 pub mod State
 pub mod Reach
@@ -29,3 +30,4 @@ pub mod OtherTrees
 pub mod IsFresh
 pub mod ExamplesOfVerdicts
 pub mod ExamplesOfWalks
+pub mod Types

@@ -22,9 +22,9 @@ use Rattle.qg_image.specs.FilesOf.{file_parts, are_files}
 use Rattle.qg_image.specs.declared.quota.Quota.{Quota}
 use Rattle.qg_image.specs.declared.quota.Group.{Group}
 use Rattle.qg_image.specs.declared.element.Element.{Element}
-use Rattle.qg_image.specs.State.{State, Layout, layout_of}
-use Rattle.qg_image.specs.Members.{Hierarchy, hierarchy_of, level_of_group, id_of_group}
-use Rattle.qg_image.specs.Counts.{referenced, exclusive}
+use Rattle.qg_image.specs.State.{Layout, layout_of}
+use Rattle.qg_image.specs.Members.{level_of_group, id_of_group}
+use Rattle.qg_image.specs.Counts.{due_counters}
 use Rattle.qg_image.specs.Space.{present_extents}
 use Rattle.qg_image.specs.Owed.{disagreement, homeless}
 use Rattle.qg_image.specs.declared.failure.Failure.{Failure}
@@ -209,21 +209,21 @@ references_failure super image layout = first_failure
 
 -- ---- counts
 
--- a stored counter is the direct count
+-- a stored counter is the one that is due
 abbrev pub counted : ℕ → Which → ℕ → ℕ → Option Failure
-counted group which stored direct = if stored == direct then None else Some (Differs group which stored direct)
+counted group which stored due = if stored == due then None else Some (Differs group which stored due)
 
 -- the first counter that is not: referenced before exclusive, groups ascending
-abbrev pub group_failure : Layout → Hierarchy → ℕ × Group → Option Failure
-group_failure layout hierarchy entry = first_failure
-    (counted entry.0 Rfer entry.1.counters.rfer (referenced layout hierarchy entry.0)
-    ∷ counted entry.0 Excl entry.1.counters.excl (exclusive layout hierarchy entry.0)
+abbrev pub group_failure : Layout → Quota → ℕ × Group → Option Failure
+group_failure layout quota entry = first_failure
+    (counted entry.0 Rfer entry.1.counters.rfer (due_counters layout quota entry.0).rfer
+    ∷ counted entry.0 Excl entry.1.counters.excl (due_counters layout quota entry.0).excl
     ∷ [])
 
--- the first counter of an image that is not the direct count; there is none while quota is off
+-- the first counter of an image that is not the one that is due; there is none while quota is off
 unfoldable pub counts_failure : Layout → Option Quota → Option Failure
 counts_failure layout None = None
-counts_failure layout (Some quota) = first_failure (map (group_failure layout (hierarchy_of quota)) quota.groups)
+counts_failure layout (Some quota) = first_failure (map (group_failure layout quota) quota.groups)
 
 -- ---- the verdict
 

@@ -16,5 +16,7 @@ pub use expected::Expected;
 pub use failure::Failure;
 pub use file::{File, FileList};
 pub use part::{ExtentPart, FilePart, QuotaPart, RootPart};
+pub use qg_items as items;
+pub use qg_node as node;
 pub use quota::{Group, Quota};
 pub use tree::Tree;

@@ -9,18 +9,18 @@ use Rattle.qg_num.specs.declared.command.Command.TheVariants as command
 use Rattle.qg_node.specs.declared.node.Node.{Node}
 use Rattle.qg_super.specs.declared.superblock.Super.{Super}
 use Rattle.qg_super.specs.SuperText.{is_super, sizes_of}
+use Rattle.qg_image.specs.Counts.{StoresCounts}
 use Rattle.qg_image.specs.State.{Committed, State}
 use Rattle.qg_machine.specs.Step.{Changes, Commits, CommitsPending, Step}
 use Rattle.qg_machine.specs.Written.{new_nodes}
 use Rattle.qg_image.specs.StateOf.{StateOf}
-use Rattle.qg_crashes.specs.Counted.{AreDirect}
 use Rattle.qg_crashes.specs.Slots.{IsInSlot}
 use Rattle.qg_fs_laws.specs.Calls.{Call, MadeFront, commit_calls, unsure_calls, with_commit}
 
--- an image is sound, stands for a committed state, and stores the direct count of each of its groups
+-- an image is sound, and stands for a committed state, each of whose groups stores the counters that are due
 pub record IsCommitted (state : State) (image : List ℕ) : Type 0 where
   pub stands : StateOf image state
-  pub counted : AreDirect state
+  pub counted : StoresCounts state
 
 -- These are the superblock and the nodes of a commit that comes to a state, where so much was held before. The
 -- superblock may be written and is of the state's sizes; each node lies in a slot; and the nodes are those of the state

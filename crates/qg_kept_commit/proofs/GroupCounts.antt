@@ -26,7 +26,7 @@ use Rattle.qg_kept.proofs.Ordered.{contained}
 use Rattle.qg_groups.specs.Changing.{groups_in}
 use Rattle.qg_groups.proofs.Reserved.{level-lowest}
 use Rattle.qg_kept.specs.Editable.{AreGroups, AreGroupsOf}
-use Rattle.qg_kept.specs.FsLawsKeeping.{AreDirectCounts}
+use Rattle.qg_kept.specs.FsLawsKeeping.{AreDueCounters}
 use Rattle.qg_kept.specs.declared.kept.Kept.{Kept}
 use Rattle.qg_kept.specs.Keeping.{IsFitted}
 use Rattle.qg_kept_commit.specs.Planning.{counters_by, root_of_tree}
@@ -95,7 +95,7 @@ counts-direct layout quota counts up direct entry has =
 pub direct-told : (state : State) (generation : ℕ) (subvolumes : List ℕ) (told : Option Quota) (counts : List Counters)
     → state.quota ≡ told → AreGroupsOf generation subvolumes told
     → ((quota : Quota) → told ≡ Some quota → AreGroupCounts (layout_of state) (hierarchy_of quota) counts)
-    → AreDirectCounts state (counters_by (groups_in told) counts)
+    → AreDueCounters state (counters_by (groups_in told) counts)
 direct-told state generation subvolumes told counts same groups direct quota on entry has =
     let is : told ≡ Some quota = sym same ∙ on in
     let own : AreGroups generation subvolumes quota =

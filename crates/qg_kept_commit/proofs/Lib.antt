@@ -14,6 +14,7 @@ pub use Rattle.qg_kept.proofs.Verdicts
 pub use Rattle.qg_kept.proofs.Whole
 pub mod Commits
 pub mod OnDisk
+pub mod Intact
 pub mod Forgotten
 pub mod Planned
 pub mod CanLay

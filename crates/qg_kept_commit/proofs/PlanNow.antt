@@ -16,7 +16,7 @@ use Rattle.qg_survey.specs.Surveying.{trees_of as trees_of_state}
 use Rattle.qg_kept.specs.Holds.{AreFree}
 use Rattle.qg_groups.specs.Changing.{groups_in}
 use Rattle.qg_groups.specs.Tracked.{quota_of}
-use Rattle.qg_kept.specs.FsLawsKeeping.{AreDirectCounts}
+use Rattle.qg_kept.specs.FsLawsKeeping.{AreDueCounters}
 use Rattle.qg_kept.specs.FsLawsCommitting.{IsInOrder}
 use Rattle.qg_kept.specs.declared.kept.Kept.{Kept}
 use Rattle.qg_kept_commit.specs.declared.planning.Plan.{Plan}
@@ -105,7 +105,7 @@ module _ (old new : Kept) (before after : History) (bytes left : ℕ) (trees : L
     quota_same : quota_of new.quota ≡ quota_of old.quota
     quota_same = quota-still old new before after bytes left is.looked
 
-    direct_now : AreDirectCounts state counted
+    direct_now : AreDueCounters state counted
     direct_now =
         direct-told state new.fs.tree.next (keys_of new.snapshots) (quota_of new.quota) counts keeps_now.quota
         is.kept.fitted.groups (λ quota on. direct quota trees_state (sym quota_same ∙ on))

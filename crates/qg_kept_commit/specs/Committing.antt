@@ -1,13 +1,16 @@
 -- What a commit lays out and leaves of what is kept (this project's own). Addresses and lengths are in bytes.
-use Rattle.std.specs.Prelude.{◌≡◌, ℕ, ◌≤◌, List, [], length, map, Some, IfSome}
+use Rattle.std.specs.Prelude.{◌≡◌, ℕ, ◌≤◌, Bool, false, List, [], length, map, Some, IfSome, Result, IsErrOf}
 use Rattle.std.specs.List.{Contains}
 use Rattle.qg_device.specs.History.{Event, History}
 use Rattle.qg_num.specs.declared.counters.Counters.{Counters}
+use Rattle.qg_num.specs.declared.fault.BlockFault.{BlockFault}
+use Rattle.qg_num.specs.declared.fault.BlockFault.TheVariants.{NoMemory}
 use Rattle.qg_node.specs.Nodes.{header_of}
 use Rattle.qg_items.specs.declared.root.RootItem.{RootItem}
 use Rattle.qg_super.specs.SuperText.{sizes_of}
 use Rattle.qg_image.specs.Table.{keys_of, value_at}
 use Rattle.qg_extents.specs.Table.{IsTable}
+use Rattle.qg_blocks.specs.Told.{IfBroken}
 use Rattle.qg_kept.specs.Calls.{MadeFront, unsure_calls}
 use Rattle.qg_descent.specs.Tree.{Root}
 use Rattle.qg_kept.specs.Standing.{trees_of}
@@ -56,6 +59,13 @@ pub record LaysSoFar (kept : Kept) (plan : Plan) (events : List Event) (history 
   pub trees : OtherTrees
   pub laid : IsLaidBy kept plan trees
   pub made : MadeFront (unsure_calls trees.superblock (nodes_written kept.fs.land.blocks.draft trees)) events history
+
+-- A commit that did not end has done nothing to the disk where a rule was found broken, and where memory was refused
+-- though the disk takes none: what a commit itself needs of memory is there before its first call.
+pub record StopsIntact {A : Type 0} (takes_memory : Bool) (result : Result A BlockFault) (before after : History)
+    : Type 0 where
+  pub broken : IfBroken result (after ≡ before)
+  pub refused : takes_memory ≡ false → IsErrOf result NoMemory → after ≡ before
 
 -- ---- what it leaves
 

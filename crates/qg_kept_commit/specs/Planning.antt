@@ -23,7 +23,7 @@ use Rattle.qg_descent.specs.Way.{HasRead}
 use Rattle.qg_direct.specs.declared.surveyed.Surveyed.{Surveyed}
 use Rattle.qg_kept.specs.StandingCommitting.{for_generation}
 use Rattle.qg_groups.specs.Tracked.{SameButCounts, quota_of}
-use Rattle.qg_kept.specs.FsLawsKeeping.{AreDirectCounts}
+use Rattle.qg_kept.specs.FsLawsKeeping.{AreDueCounters}
 use Rattle.qg_kept.specs.FsLawsCommitting.{root_made}
 use Rattle.qg_kept.specs.declared.kept.Kept.{Kept}
 use Rattle.qg_kept_commit.specs.declared.planning.Plan.{Plan}
@@ -106,11 +106,11 @@ pub record IsPlanSo (kept : Kept) (plan : Plan) : Type 0 where
   pub counters : ℕ → Counters
   pub is : IsPlanOf kept counters plan
 
--- and so by the direct counts of a state's groups
+-- and so by the counters that are due to a state's groups
 pub record IsPlanTold (state : State) (kept : Kept) (plan : Plan) : Type 0 where
   pub counters : ℕ → Counters
   pub is : IsPlanOf kept counters plan
-  pub direct : AreDirectCounts state counters
+  pub direct : AreDueCounters state counters
 
 -- ---- what a commit does, and leaves
 

@@ -1,6 +1,6 @@
 // What is pending is committed.
 ghost use Rattle.std.specs.Prelude.{◌≡◌, ◌⊎◌, ◌+◌, ◌≤◌, ◌^◌, ℕ, All, List, None, Some, [], IfOk, IfErr, IfSome};
-ghost use Rattle.std.specs.Prelude.{IsTrue, OnErr, OnOk};
+ghost use Rattle.std.specs.Prelude.{IsErrOf, IsTrue, OnErr, OnOk, false};
 ghost use Rattle.qg_device.specs.Cause.{HasCause};
 ghost use Rattle.qg_device.specs.History.{Event, History, Recorded, history_after};
 ghost use Rattle.qg_num.specs.declared.command.Command.TheVariants.{Commit};
@@ -9,7 +9,7 @@ ghost use Rattle.qg_node.specs.declared.item.Item.{Item};
 ghost use Rattle.qg_super.specs.SuperText.{sizes_of};
 ghost use Rattle.qg_image.specs.Record.{Record};
 ghost use Rattle.qg_image.specs.State.{State};
-ghost use Rattle.qg_blocks.specs.Told.{BreaksNone, IfBroken, IsBacked, fresh_at};
+ghost use Rattle.qg_blocks.specs.Told.{BreaksNone, IsBacked, fresh_at};
 ghost use Rattle.qg_blocks.specs.Writing.{AreWritten};
 ghost use Rattle.qg_kept.specs.Calls.{IsReadBack};
 ghost use Rattle.qg_space.specs.Holding.{free_slots};
@@ -19,7 +19,7 @@ ghost use Rattle.qg_kept.specs.Holds.{AreForgotten, with_tree_commit};
 ghost use Rattle.qg_kept.specs.Writing.{fresh_nodes};
 ghost use Rattle.qg_groups.specs.Tracked.{HoldsAll, IsTracked, SameButCounts, quota_of};
 ghost use Rattle.qg_kept.specs.Answering.{AnswersOn, is_unchanging};
-ghost use Rattle.qg_kept_commit.specs.Committing.{IsLaidBy, KeepsCommit, LaysSoFar};
+ghost use Rattle.qg_kept_commit.specs.Committing.{IsLaidBy, KeepsCommit, LaysSoFar, StopsIntact};
 ghost use Rattle.qg_kept.specs.Editing.{HasLooked};
 ghost use Rattle.qg_kept.specs.Keeping.{IsFitted, IsKept, IsKeptOf, IsKeptWith, commit_need};
 ghost use Rattle.qg_kept.specs.Making.{StartsCommit};
@@ -62,7 +62,7 @@ pub fn commit<D: Disk, L: Ledger>(
         (D.size disk.old) (D.size disk.new) }
     ensures refused { IfOk result (λ answer. IsTrue (is_unchanging answer) → HasLooked kept.old kept.new
         (D.history disk.old) (D.history disk.new) (D.size disk.old) (D.size disk.new)) }
-    ensures intact { IfBroken result (D.history disk.new ≡ D.history disk.old) }
+    ensures intact { StopsIntact D.takes_memory result (D.history disk.old) (D.history disk.new) }
     ensures err { IfErr result
         (λ fault. StaysLast StopsPending kept.old kept.new (D.history disk.old) (D.history disk.new)) }
     ensures sizes { (sizes_of kept.new.superblock ≡ sizes_of kept.old.superblock)
@@ -106,7 +106,7 @@ pub fn commit_now<D: Disk, L: Ledger>(
         → IsKeptWith kept.old state (D.history disk.old) names
         → commit_need kept.old ≤ free_slots kept.old.fs.land.space → D.history disk.old ≡ Recorded events
         → BreaksNone result }
-    ensures intact { IfBroken result (D.history disk.new ≡ D.history disk.old) }
+    ensures intact { StopsIntact D.takes_memory result (D.history disk.old) (D.history disk.new) }
     ensures leaves { OnOk result (LeavesOver kept.old kept.new (D.history disk.old) (D.history disk.new)) }
     ensures err { IfErr result (λ fault. kept.new.superblock ≡ kept.old.superblock) }
     ensures sizes { (sizes_of kept.new.superblock ≡ sizes_of kept.old.superblock)
@@ -146,6 +146,7 @@ fn write_trees<D: Disk>(kept: &Kept, disk: &mut D, plan: &Plan) -> Result<OtherT
     ensures stopped { (events : List Event) → D.history disk.old ≡ Recorded events
         → IfErr result (λ fault. (D.history disk.new ≡ Recorded events)
         ⊎ LaysSoFar kept.now plan.now events (D.history disk.new)) }
+    ensures memory { D.takes_memory ≡ false → IsErrOf result BlockFault.NoMemory → disk.new ≡ disk.old }
     ensures no_less { D.size disk.old ≤ D.size disk.new }
     ensures no_image { IfErr result (λ fault. (fault ≡ BlockFault.Disk) ⊎ (fault ≡ BlockFault.NoMemory)) }
     ensures cause { HasCause BlockFault.Disk (D.faults disk.old) (D.faults disk.new) result }

@@ -1,7 +1,7 @@
 -- What commands do to quota groups, and how a commit counts them (btrfs-qgroup(8), fs/btrfs/qgroup.c).
 use Rattle.std.specs.Prelude.{ℕ, Bool, ◌&&◌, ◌||◌, not, List, [], ◌∷◌, map, Option, Some, None, ◌==◌, nat_lt}
 use Rattle.std.specs.Prelude.{if◌then◌else◌}
-use Rattle.std.specs.List.{filter, fold, list_any}
+use Rattle.std.specs.List.{filter, fold, list_any, count_by}
 use Rattle.qg_num.specs.declared.counters.Counters.{Counters}
 use Rattle.qg_num.specs.declared.counters.Which.{Which}
 use Rattle.qg_num.specs.declared.counters.Which.TheVariants.{Rfer, Excl}
@@ -9,8 +9,7 @@ use Rattle.qg_image.specs.Table.{value_at, with_value, without_key}
 use Rattle.qg_image.specs.declared.quota.Quota.{Quota}
 use Rattle.qg_image.specs.declared.quota.Group.{Group}
 use Rattle.qg_image.specs.State.{Layout}
-use Rattle.qg_image.specs.Members.{Hierarchy, hierarchy_of}
-use Rattle.qg_image.specs.Counts.{direct_count}
+use Rattle.qg_image.specs.Counts.{due_counters}
 
 -- a group that is made in this generation: nothing counted, no limit
 abbrev pub new_group : ℕ → Group
@@ -96,13 +95,19 @@ quota_for generation subvolumes = record { groups = map (λ sub. (sub, new_group
 abbrev pub same_counters : Counters → Counters → Bool
 same_counters a b = (a.rfer == b.rfer) && (a.excl == b.excl)
 
--- the group with its direct count; the stamp is that of the commit where the count differs from the stored one
-abbrev pub recounted_group : Layout → Hierarchy → ℕ → ℕ × Group → ℕ × Group
-recounted_group layout hierarchy generation entry =
-    if same_counters entry.1.counters (direct_count layout hierarchy entry.0) then entry
-    else (entry.0, record entry.1 { counters = direct_count layout hierarchy entry.0; stamp = generation })
+-- the group with the counters that are due; the stamp is that of the commit where they differ from the stored ones
+abbrev pub recounted_group : Layout → Quota → ℕ → ℕ × Group → ℕ × Group
+recounted_group layout quota generation entry =
+    if same_counters entry.1.counters (due_counters layout quota entry.0) then entry
+    else (entry.0, record entry.1 { counters = due_counters layout quota entry.0; stamp = generation })
 
--- each group with its direct count
+-- each group with the counters that are due
 unfoldable pub recounted : Layout → ℕ → Quota → Quota
 recounted layout generation quota =
-    record quota { groups = map (recounted_group layout (hierarchy_of quota) generation) quota.groups }
+    record quota { groups = map (recounted_group layout quota generation) quota.groups }
+
+-- how many groups' counters a commit of this quota changes; none while quota is off
+unfoldable pub groups_changed : Layout → Option Quota → ℕ
+groups_changed layout None = 0
+groups_changed layout (Some quota) = count_by
+    (λ entry. not (same_counters entry.1.counters (due_counters layout quota entry.0))) quota.groups

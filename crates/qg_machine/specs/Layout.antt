@@ -1,7 +1,8 @@
 -- Which layouts of nodes the machine may come to: slots and the cut of trees are its only free choices (this project's
 -- own).
-use Rattle.std.specs.Prelude.{◌≡◌, ℕ, ◌≤◌, Bool, ◌&&◌, ◌||◌, not, List, length, map, Some, None, Result, ◌==◌, IsTrue}
-use Rattle.std.specs.List.{list_all, list_any, filter, AllByRecursion}
+use Rattle.std.specs.Prelude.{◌≡◌, ◌⊎◌, ℕ, ◌≤◌, Bool, false, ◌&&◌, ◌||◌, not, List, length, map, Some, None, Result}
+use Rattle.std.specs.Prelude.{◌==◌, IsTrue}
+use Rattle.std.specs.List.{Contains, list_all, list_any, filter, AllByRecursion}
 use Rattle.std.specs.List.Sorted.{IsStrictlyIncreasing}
 use Rattle.qg_node.specs.declared.item.Item.{Item}
 use Rattle.qg_node.specs.declared.node.Node.{Node}
@@ -12,7 +13,6 @@ use Rattle.qg_super.specs.declared.superblock.Super.{Super}
 use Rattle.qg_super.specs.Places.{is_slot}
 use Rattle.qg_image.specs.Table.{value_at, has_key, keys_of}
 use Rattle.qg_image.specs.FilesOf.{files_of}
-use Rattle.qg_image.specs.Stage.{edits_other_trees}
 use Rattle.qg_image.specs.State.{State, Subvolume, Placed, layout_of, node_at, next_generation}
 use Rattle.qg_image.specs.Reach.{level_of, reaches, is_reached, owners}
 use Rattle.qg_image.specs.Space.{is_free_slot}
@@ -113,10 +113,9 @@ pub record CopiesOnWrite (old new : State) (sub copies : ℕ) : Type 0 where
 
 -- ---- the other trees
 
--- a node of the root, extent or quota tree lies in a slot that the layout leaves: a free one, or once these trees are
--- edited by copy on write one where one of them had a node in the last commit
-abbrev pub is_other_slot : State → State → ℕ → Bool
-is_other_slot old new address =
-    is_slot old.sizes address && not (has_key address new.layout)
-    && (is_free_slot old address
-    || (edits_other_trees && list_any (λ node. (header_of node).address == address) old.held.others))
+-- A node of the root, extent or quota tree lies in a slot that the layout leaves: a free one, or it is itself a node
+-- that one of these trees had in the last commit, and stays where it was
+pub record LiesInOtherSlot (old new : State) (node : Node) : Type 0 where
+  pub slot : IsTrue (is_slot old.sizes (header_of node).address)
+  pub left : has_key (header_of node).address new.layout ≡ false
+  pub free_or_held : IsTrue (is_free_slot old (header_of node).address) ⊎ Contains old.held.others node

@@ -1,9 +1,17 @@
+pub use Rattle.qg_image.specs.ItemMeaning
+pub use Rattle.qg_image.specs.Members
+pub use Rattle.qg_image.specs.Table
 pub mod FileChange
 pub mod GroupChange
 pub mod Refusals
 pub mod Layout
 pub mod Written
+pub mod Near
+pub mod Touched
+pub mod Quick
 pub mod Step
 pub mod Run
 pub mod Examples
 pub mod ExamplesOfCopies
+pub mod ExamplesOfWork
+pub mod Types

@@ -2,7 +2,7 @@
 -- project's own).
 use Rattle.std.specs.Prelude.{◌≡◌, ℕ, false, List, [], ◌∷◌, ◌++◌, map, Option, Some, None, IsTrue, ◌==◌, MatchBool}
 use Rattle.std.specs.Prelude.{MatchOption, if◌then◌else◌}
-use Rattle.std.specs.List.{IsDistinct, filter, list_all}
+use Rattle.std.specs.List.{AllByRecursion, IsDistinct, filter}
 use Rattle.std.specs.Option.{option_map}
 use Rattle.qg_num.specs.declared.answer.Answer.{Answer}
 use Rattle.qg_num.specs.declared.answer.Answer.TheVariants as answer
@@ -24,7 +24,7 @@ use Rattle.qg_machine.specs.FileChange.{FileChange, file_change}
 use Rattle.qg_machine.specs.GroupChange.{new_group, with_group, assigned, unassigned, destroyed, limited, inherited}
 use Rattle.qg_machine.specs.GroupChange.{quota_for, recounted}
 use Rattle.qg_machine.specs.Refusals.{refusal, is_pending, change_copies, change_need, number_to_come}
-use Rattle.qg_machine.specs.Layout.{CopiesOnWrite, is_full_after, is_other_slot}
+use Rattle.qg_machine.specs.Layout.{CopiesOnWrite, LiesInOtherSlot, is_full_after}
 
 -- ---- file commands
 
@@ -65,7 +65,7 @@ file_answer state _ = Some answer.Done
 
 -- ---- commits
 
--- nothing is pending, the generation is one more, and each group's counters are its direct counts
+-- nothing is pending, the generation is one more, and each group's counters are those that are due
 abbrev pub settled : State → State
 settled state = record state {
   generation = next_generation state;
@@ -77,7 +77,7 @@ settled state = record state {
 -- that tell it, whose nodes lie each in a slot of its own
 pub record Commits (old new : State) : Type 0 where
   pub others : List Node
-  pub slots : IsTrue (list_all (is_other_slot old old) (addresses_of others))
+  pub slots : AllByRecursion (LiesInOtherSlot old old) others
   pub apart : IsDistinct (λ a b. a == b) (addresses_of others)
   pub trees : AreOtherTrees new others
   pub committed : new ≡ as_committed others (settled old)

@@ -7,13 +7,13 @@ use Rattle.std.proofs.lemmas.Bool.{and_parts, eqb-true}
 use Rattle.std.proofs.lemmas.Option.{none-some, same_Some, option_and_then_some}
 use Rattle.qg_num.specs.declared.key.Key.{Key}
 use Rattle.qg_num.specs.declared.piece.Piece.{Piece}
-use Rattle.qg_node.specs.declared.item.Item.{Item}
-use Rattle.qg_node.specs.Nodes.{is_ascending}
-use Rattle.qg_items.specs.declared.kind.TheConstants.{INODE_ITEM, EXTENT_DATA, ROOT_ITEM, QGROUP_STATUS, QGROUP_INFO}
-use Rattle.qg_items.specs.declared.kind.TheConstants.{QGROUP_LIMIT, QGROUP_RELATION}
-use Rattle.qg_items.specs.declared.root.RootItem.{RootItem}
-use Rattle.qg_items.specs.ItemReading.{inode_read, extent_data_read, root_read, status_read, info_read, limit_read}
-use Rattle.qg_items.proofs.Trips.{then_some_parts}
+use Rattle.qg_image.specs.Types.{Item}
+use Rattle.qg_image.specs.Nodes.{is_ascending}
+use Rattle.qg_image.specs.Types.{INODE_ITEM, EXTENT_DATA, ROOT_ITEM, QGROUP_STATUS, QGROUP_INFO}
+use Rattle.qg_image.specs.Types.{QGROUP_LIMIT, QGROUP_RELATION}
+use Rattle.qg_image.specs.Types.{RootItem}
+use Rattle.qg_image.specs.ItemReading.{inode_read, extent_data_read, root_read, status_read, info_read, limit_read}
+use Rattle.qg_image.proofs.Trips.{then_some_parts}
 use Rattle.qg_image.specs.declared.part.FilePart.{FilePart}
 use Rattle.qg_image.specs.declared.part.FilePart.TheVariants.{Inode, PieceOf}
 use Rattle.qg_image.specs.declared.part.QuotaPart.{QuotaPart}

@@ -1,2 +1,3 @@
+pub use Rattle.qg_image.proofs.Pieces
 pub mod Parts
 pub mod Keys

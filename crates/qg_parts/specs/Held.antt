@@ -1,6 +1,6 @@
 -- What a tree may hold says something (this project's own).
 use Rattle.std.specs.Prelude.{◌≡◌, ℕ, Bool, true, Option, Some, None, IsTrue, is_some, refl}
-use Rattle.qg_node.specs.declared.item.Item.{Item}
+use Rattle.qg_image.specs.Types.{Item}
 use Rattle.qg_image.specs.ItemMeaning.{some_passes, root_part, extent_part, quota_part, file_part}
 use Rattle.qg_image.specs.FilesOf.{is_file_item}
 use Rattle.qg_image.specs.declared.tree.Tree.TheVariants.{Roots, Extents, Quotas, Files}

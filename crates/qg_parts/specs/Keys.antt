@@ -1,9 +1,9 @@
 -- The key of the item that says something (on-disk format, "item types").
 use Rattle.std.specs.Prelude.{ℕ}
 use Rattle.qg_num.specs.declared.key.Key.{Key}
-use Rattle.qg_items.specs.declared.root.RootItem.{RootItem}
-use Rattle.qg_items.specs.declared.kind.TheConstants.{INODE_ITEM, EXTENT_DATA, ROOT_ITEM, QGROUP_STATUS, QGROUP_INFO}
-use Rattle.qg_items.specs.declared.kind.TheConstants.{QGROUP_LIMIT, QGROUP_RELATION}
+use Rattle.qg_image.specs.Types.{RootItem}
+use Rattle.qg_image.specs.Types.{INODE_ITEM, EXTENT_DATA, ROOT_ITEM, QGROUP_STATUS, QGROUP_INFO}
+use Rattle.qg_image.specs.Types.{QGROUP_LIMIT, QGROUP_RELATION}
 use Rattle.qg_image.specs.declared.part.FilePart.{FilePart}
 use Rattle.qg_image.specs.declared.part.FilePart.TheVariants.{Inode, PieceOf}
 use Rattle.qg_image.specs.declared.part.QuotaPart.{QuotaPart}

@@ -1,3 +1,16 @@
+pub use Rattle.qg_image.specs.ExamplesOfReferences
+pub use Rattle.qg_image.specs.ExamplesOfState
+pub use Rattle.qg_image.specs.FilesOf
+pub use Rattle.qg_image.specs.IsFresh
+pub use Rattle.qg_image.specs.ItemMeaning
+pub use Rattle.qg_image.specs.Owed
+pub use Rattle.qg_image.specs.Reach
+pub use Rattle.qg_image.specs.Record
+pub use Rattle.qg_image.specs.State
+pub use Rattle.qg_image.specs.Table
+pub use Rattle.qg_image.specs.Verdict
+pub use Rattle.qg_image.specs.Walk
 pub mod Keys
 pub mod Said
 pub mod Held
+pub mod Types

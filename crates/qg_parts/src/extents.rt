@@ -2,18 +2,18 @@
 ghost use Rattle.std.specs.Prelude.{◌≡◌, ◌==◌, Some, length};
 ghost use Rattle.std.specs.Option.{option_map};
 ghost use Rattle.qg_image.specs.ItemMeaning.{when, extent_part};
-ghost use Rattle.qg_items.specs.ItemReading.{extent_read, data_ref_read, shared_data_ref_read};
-ghost use Rattle.qg_items.specs.declared.extent.Reference.TheVariants.{KeyedData, SharedData};
+ghost use Rattle.qg_image.specs.ItemReading.{extent_read, data_ref_read, shared_data_ref_read};
+ghost use Rattle.qg_image.specs.Types.{KeyedData, SharedData};
 ghost use Rattle.qg_image.specs.declared.part.ExtentPart.TheVariants.{DataRecord, NodeRecord, Referenced};
 
 use crate::part::TreePart;
 use qg_image::ExtentPart;
-use qg_items::kind::{
+use qg_image::items::kind::{
     EXTENT_DATA_REF, EXTENT_ITEM, METADATA_ITEM, SHARED_BLOCK_REF, SHARED_DATA_REF, TREE_BLOCK_REF,
 };
-use qg_items::tree::EXTENT_TREE;
-use qg_items::{Reference, read_data_ref, read_extent, read_shared_data_ref};
-use qg_node::Item;
+use qg_image::items::tree::EXTENT_TREE;
+use qg_image::items::{Reference, read_data_ref, read_extent, read_shared_data_ref};
+use qg_image::node::Item;
 use qg_num::{Address, Generation, RootId};
 
 impl TreePart for ExtentPart {

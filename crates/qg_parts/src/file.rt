@@ -2,17 +2,17 @@
 ghost use Rattle.std.specs.Prelude.{◌≡◌};
 ghost use Rattle.std.specs.Option.{option_map, option_and_then};
 ghost use Rattle.qg_image.specs.ItemMeaning.{when, is_keyed, piece_told, file_part, file_part_stamps};
-ghost use Rattle.qg_items.specs.ItemReading.{inode_read, extent_data_read};
-ghost use Rattle.qg_items.specs.declared.kind.TheConstants.{INODE_ITEM};
+ghost use Rattle.qg_image.specs.ItemReading.{inode_read, extent_data_read};
+ghost use Rattle.qg_image.specs.Types.{INODE_ITEM};
 ghost use Rattle.qg_image.specs.declared.part.FilePart.TheVariants.{Inode, PieceOf};
 ghost use Rattle.qg_image.specs.Walk.{are_by};
 
 use crate::part::TreePart;
 use crate::root::is_subvolume_number;
 use qg_image::FilePart;
-use qg_items::kind::{EXTENT_DATA, INODE_ITEM};
-use qg_items::{read_extent_data, read_inode};
-use qg_node::Item;
+use qg_image::items::kind::{EXTENT_DATA, INODE_ITEM};
+use qg_image::items::{read_extent_data, read_inode};
+use qg_image::node::Item;
 use qg_num::{Generation, Ino, Piece, RootId};
 
 impl TreePart for FilePart {

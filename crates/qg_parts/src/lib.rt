@@ -10,4 +10,5 @@ mod root;
 
 pub use list::PartList;
 pub use part::TreePart;
+pub use qg_image as image;
 pub use root::is_subvolume_number;

@@ -1,13 +1,13 @@
 // What an item of a tree says.
 ghost use Rattle.std.specs.Prelude.{◌≡◌};
 
-use qg_node::Item;
+use qg_image::node::Item;
 use qg_num::{Generation, RootId};
 
 /// What an item of one of the trees says (on-disk format, "item types").
 pub trait TreePart: Sized + Drop {
     ghost use Rattle.std.specs.Prelude.{◌≡◌, ℕ, Option, IsTrue, is_some};
-    ghost use Rattle.qg_node.specs.declared.item.Item.{Item};
+    ghost use Rattle.qg_image.specs.Types.{Item};
     ghost use Rattle.qg_image.specs.ItemMeaning.{when};
     ghost use Rattle.qg_image.specs.declared.tree.Tree.{Tree};
     ghost use Rattle.qg_image.specs.Walk.{is_owner, is_item_of};

@@ -3,17 +3,17 @@ ghost use Rattle.std.specs.Prelude.{◌≡◌, ◌==◌, ◌&&◌, Some, length,
 ghost use Rattle.std.specs.Option.{option_map, option_and_then};
 ghost use Rattle.std.specs.Bool.{then_some};
 ghost use Rattle.qg_image.specs.ItemMeaning.{when, is_keyed, is_status, quota_part, quota_part_stamps};
-ghost use Rattle.qg_items.specs.ItemReading.{status_read, info_read, limit_read};
-ghost use Rattle.qg_items.specs.declared.kind.TheConstants.{QGROUP_STATUS, QGROUP_INFO, QGROUP_LIMIT};
+ghost use Rattle.qg_image.specs.ItemReading.{status_read, info_read, limit_read};
+ghost use Rattle.qg_image.specs.Types.{QGROUP_STATUS, QGROUP_INFO, QGROUP_LIMIT};
 ghost use Rattle.qg_image.specs.declared.part.QuotaPart.TheVariants.{Status, Info, Limits, Relation};
 ghost use Rattle.qg_image.specs.Walk.{are_by, tells_generation};
 
 use crate::part::TreePart;
 use qg_image::QuotaPart;
-use qg_items::kind::{QGROUP_INFO, QGROUP_LIMIT, QGROUP_RELATION, QGROUP_STATUS};
-use qg_items::tree::QUOTA_TREE;
-use qg_items::{read_info, read_limit, read_status};
-use qg_node::Item;
+use qg_image::items::kind::{QGROUP_INFO, QGROUP_LIMIT, QGROUP_RELATION, QGROUP_STATUS};
+use qg_image::items::tree::QUOTA_TREE;
+use qg_image::items::{read_info, read_limit, read_status};
+use qg_image::node::Item;
 use qg_num::{Generation, GroupId, RootId};
 
 // The flags of a limit: MAX_RFER 1, MAX_EXCL 2.

@@ -5,10 +5,10 @@ ghost use Rattle.qg_image.specs.Walk.{are_by};
 
 use crate::part::TreePart;
 use qg_image::RootPart;
-use qg_items::kind::ROOT_ITEM;
-use qg_items::read_root;
-use qg_items::tree::{EXTENT_TREE, FIRST_FREE, QUOTA_TREE, ROOT_TREE, TOP_LEVEL};
-use qg_node::Item;
+use qg_image::items::kind::ROOT_ITEM;
+use qg_image::items::read_root;
+use qg_image::items::tree::{EXTENT_TREE, FIRST_FREE, QUOTA_TREE, ROOT_TREE, TOP_LEVEL};
+use qg_image::node::Item;
 use qg_num::{Generation, RootId};
 
 // The number past those of subvolumes.

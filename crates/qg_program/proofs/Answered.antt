@@ -5,11 +5,11 @@ use Rattle.std.specs.Prelude.{⊤}
 use Rattle.std.specs.List.{concat}
 use Rattle.std.specs.Io.KnownBytes.{append_known, IsAtEnd}
 use Rattle.std.proofs.Math.Seq.{drop-append_seam, take-append_seam, take-append-add}
-use Rattle.std.proofs.lemmas.List.{append-nil, length-append, take-append-le}
+use Rattle.std.proofs.lemmas.List.{append-nil, length-append, nil_from_length, take-append-le}
 use Rattle.qg_device.specs.History.{Event, History, Recorded}
 use Rattle.qg_edge.specs.Appended.{AppendsFront}
 use Rattle.qg_grammar.specs.ScriptText.{script_lines, longest_script}
-use Rattle.qg_script.specs.Feeding.{Feeding, IsTooLong, IsWithinLimit}
+use Rattle.qg_script.specs.Feeding.{Feeding, HoldsNoNewline, IsTooLong, IsWithinLimit}
 use Rattle.qg_script.specs.Lines.{LosesLine, TakesLine, pending, CountsTaken}
 use Rattle.qg_image.specs.State.{Committed, State}
 use Rattle.qg_machine.specs.Run.{Run}
@@ -19,15 +19,16 @@ use Rattle.qg_store.specs.Stored.{Stored, IsStoreOf}
 use Rattle.qg_store.proofs.Synced.{Makes-append, held_after, synced-Makes}
 use Rattle.qg_program.specs.declared.status.Status.{Status}
 use Rattle.qg_program.specs.declared.status.Status.TheVariants as status
-use Rattle.qg_program.specs.Following.{Follows, FollowsSome, FollowsUntil, MakesAll, StopsBefore}
-use Rattle.qg_program.specs.Running.{IsTaken, ended_lines}
+use Rattle.qg_program.specs.Following.{Follows, FollowsAll, FollowsPart, FollowsTaken, FollowsUntil, MakesAll}
+use Rattle.qg_program.specs.Following.{StopsBefore}
+use Rattle.qg_program.specs.Running.{AreLinesTaken, IsTaken, ended_lines}
 use Rattle.qg_program.specs.Turning.{TurnsPart, IsTurn, FailsToTurn, StopsLine}
 use Rattle.qg_program.proofs.EndedLines.{ended_lines-line, ended_lines-none}
 use Rattle.qg_store.proofs.HeldAfter.{held_after-append, turn-held}
 use Rattle.qg_program.proofs.Steps.{append_known-nil, put-snoc, run-snoc}
 
 -- these lines ended in front of what is left
-pub record IsFront (input : List ℕ) (lines : List (List ℕ)) (left : List ℕ) : Type 0 where
+pub record IsEndedFront (input : List ℕ) (lines : List (List ℕ)) (left : List ℕ) : Type 0 where
   pub front : List ℕ
   pub parted : input ≡ front ++ left
   pub ended : (tail : List ℕ) → ended_lines (front ++ tail) ≡ lines ++ ended_lines tail
@@ -35,7 +36,7 @@ pub record IsFront (input : List ℕ) (lines : List (List ℕ)) (left : List ℕ
 -- these lines are the first of an input of which so much is left
 pub record IsAhead (input : List ℕ) (lines : List (List ℕ)) (left : List ℕ) : Type 0 where
   pub ahead : script_lines input ≡ lines ++ script_lines left
-  pub limit : IsFront input lines left ⊎ (left ≡ [])
+  pub limit : IsEndedFront input lines left ⊎ (left ≡ [])
 
 -- so they are where the input is told, and what is left is told exactly there
 abbrev pub IsScript : Option (List ℕ) → List (List ℕ) → Option (List ℕ) → Type 0
@@ -92,9 +93,9 @@ pending-none None = refl
 pending-none (Some left) = refl
 
 -- a line that ended is one more in front
-front-line : {input line after : List ℕ} {lines : List (List ℕ)} {before : List ℕ} → IsFront input lines before
+front-line : {input line after : List ℕ} {lines : List (List ℕ)} {before : List ℕ} → IsEndedFront input lines before
     → LosesLine before after line
-    → before ≡ line ++ 10 ∷ after → IsFront input (lines ++ line ∷ []) after
+    → before ≡ line ++ 10 ∷ after → IsEndedFront input (lines ++ line ∷ []) after
 front-line {input} {line} {after} {lines} {before} is loses parted =
     let turned : (tail : List ℕ) → (is.front ++ (line ++ 10 ∷ [])) ++ tail ≡ is.front ++ (line ++ 10 ∷ tail) =
     λ tail. append_assoc is.front (line ++ 10 ∷ []) tail
@@ -112,9 +113,9 @@ front-line {input} {line} {after} {lines} {before} is loses parted =
 nothing-lost : {after line : List ℕ} → LosesLine [] after line → ⊥
 nothing-lost {after} {line} loses = absurd cc
 
-limit-line : {input line before after : List ℕ} {lines : List (List ℕ)} → IsFront input lines before ⊎ (before ≡ [])
-    → LosesLine before after line
-    → IsFront input (lines ++ line ∷ []) after ⊎ (after ≡ [])
+limit-line : {input line before after : List ℕ} {lines : List (List ℕ)}
+    → IsEndedFront input lines before ⊎ (before ≡ []) → LosesLine before after line
+    → IsEndedFront input (lines ++ line ∷ []) after ⊎ (after ≡ [])
 limit-line {input} {line} {before} {after} (inl is) loses = elim loses.parted [
   | inl parted ↦ inl (front-line is loses parted)
   | inr all ↦ inr all.1
@@ -252,7 +253,7 @@ pub answered-all : {state : State} {input : Option (List ℕ)} {events opened : 
     → (bytes : List ℕ) (after : Option (List ℕ)) (store : Stored)
     → (so_far : HasAnswered state input opened pend before history old mid) → input ≡ Some bytes
     → IsOpened events (Recorded opened) → IsTurn false so_far.present so_far.events pend after store told mid new
-    → Follows status.Done state bytes events told old new
+    → FollowsAll state (script_lines bytes) events told old new
 answered-all {state} {input} {events} {opened} {pend} {before} {history} {told} {old} {mid} {new} bytes after store
     so_far is opens over =
     let all = all-lines bytes so_far.lines pend (script-told so_far bytes is) over.0 in
@@ -266,26 +267,50 @@ answered-all {state} {input} {events} {opened} {pend} {before} {history} {told} 
       made = made-all opens over.2 so_far.made;
     }
 
--- whole replies up to a fault
-answered-some : {state : State} {input : Option (List ℕ)} {events opened : List Event} {pend : Option (List ℕ)}
+-- where no line is held whole, those that were answered are the lines of what was taken
+taken-lines : (input : List ℕ) (lines : List (List ℕ)) (feeding : Feeding) (left : Option (List ℕ))
+    → IsScript (Some input) lines (pending feeding left) → HoldsNoNewline feeding → AreLinesTaken input left lines
+taken-lines input lines feeding None script none = absurd script
+taken-lines input lines feeding (Some left) script none = elim script.limit [
+  | inl is ↦
+      record {
+        taken = is.front ++ feeding.rest;
+        parted = ap Some (is.parted ∙ sym (append_assoc is.front feeding.rest left));
+        are = inl (sym (is.ended feeding.rest
+            ∙ ap (λ (more : List (List ℕ)). lines ++ more) (ended_lines-none feeding.rest none)
+            ∙ append-nil lines));
+      }
+  | inr nothing ↦
+      let end : left ≡ [] = nil_from_length left
+      (omega (arith, sym (length-append feeding.rest left) ∙ ap length nothing)) in
+      record {
+        taken = input;
+        parted = ap Some (sym (ap (λ (bytes : List ℕ). input ++ bytes) end ∙ append-nil input));
+        are = inr (ap Some end, all-lines input lines (pending feeding (Some left)) script nothing);
+      }
+]
+
+-- whole replies up to a fault of the source
+answered-taken : {state : State} {input : Option (List ℕ)} {events opened : List Event} {pend : Option (List ℕ)}
     {before : Stored} {history told : History} {old mid new : Option (List ℕ)}
-    → (bytes : List ℕ) (so_far : HasAnswered state input opened pend before history old mid) → input ≡ Some bytes
-    → IsOpened events (Recorded opened)
-    → told ≡ Recorded so_far.events → new ≡ mid → FollowsSome state (script_lines bytes) events told old new
-answered-some {state = state} {pend = pend} bytes so_far is opens told same =
-    let front = first-lines bytes so_far.lines pend (script-told so_far bytes is) in
-    record {
-      count = length so_far.lines;
-      follows = record {
-        replies = so_far.replies;
-        commits = so_far.commits;
-        after = so_far.present;
-        run = subst (λ (lines : List (List ℕ)). Run state lines so_far.replies so_far.commits so_far.present) front
-            so_far.run;
-        put = same ∙ so_far.put;
-        made = made-all opens told so_far.made;
-      };
-    }
+    → (bytes : List ℕ) (feeding : Feeding) (left : Option (List ℕ))
+    (so_far : HasAnswered state input opened pend before history old mid) → input ≡ Some bytes
+    → IsOpened events (Recorded opened) → HoldsNoNewline feeding → pending feeding left ≡ pend
+    → told ≡ Recorded so_far.events → new ≡ mid → FollowsTaken state bytes left events told old new
+answered-taken bytes feeding left so_far is opens none pends told same = record {
+  lines = so_far.lines;
+  are = taken-lines bytes so_far.lines feeding left
+      (subst (λ (told : Option (List ℕ)). IsScript (Some bytes) so_far.lines told) (sym pends)
+      (script-told so_far bytes is)) none;
+  follows = record {
+    replies = so_far.replies;
+    commits = so_far.commits;
+    after = so_far.present;
+    run = so_far.run;
+    put = same ∙ so_far.put;
+    made = made-all opens told so_far.made;
+  };
+}
 
 -- and then perhaps calls of the next line's commits
 answered-until : {state : State} {input : Option (List ℕ)} {events opened : List Event} {pend : Option (List ℕ)}
@@ -316,7 +341,7 @@ failed-sink : {state : State} {input : Option (List ℕ)} {events opened : List 
     → (bytes : List ℕ) (so_far : HasAnswered state input opened pend before history old mid) → input ≡ Some bytes
     → IsOpened events (Recorded opened)
     → TurnsPart so_far.present so_far.events pend store told mid new
-    → Follows status.Sink state bytes events told old new
+    → FollowsPart state (script_lines bytes) events told old new
 failed-sink {state} {input} {events} {opened} {pend} {before} {store} {history} {told} {old} {mid} {new} bytes so_far
     told-as opens turns =
     let line = turns.replies.line in
@@ -349,7 +374,7 @@ pub record HasFed (input : List ℕ) (feeding : Feeding) (left : Option (List �
   pub within : IsWithinLimit feeding
 
 pub ended-at_limit : {input rest : List ℕ} (left : List ℕ) {lines : List (List ℕ)} {taken : ℕ}
-    → IsFront input lines (rest ++ left)
+    → IsEndedFront input lines (rest ++ left)
     → length input + 0 ≡ length left + taken → IsTooLong (record { taken = taken; rest = rest })
     → taken ≤ longest_script + length rest
     → ended_lines (take longest_script input) ≡ lines
@@ -402,17 +427,18 @@ pub answered-failed : {state : State} {input : Option (List ℕ)} {events opened
     (told : History) (new : Option (List ℕ))
     → (so_far : HasAnswered state input opened pend before history old mid) → input ≡ Some bytes
     → IsOpened events (Recorded opened) → HasFed bytes feeding left → (end ≡ status.TooLong → IsTooLong feeding)
+    → (end ≡ status.Source → HoldsNoNewline feeding)
     → FailsToTurn end so_far.present so_far.events pend (pending feeding left) store told mid new
-    → Follows end state bytes events told old new
-answered-failed status.Sink bytes feeding left store told new so_far is opens fed too_long fails =
+    → Follows end state bytes left events told old new
+answered-failed status.Sink bytes feeding left store told new so_far is opens fed too_long none fails =
     failed-sink bytes so_far is opens fails
-answered-failed status.Source bytes feeding left store told new so_far is opens fed too_long fails =
-    answered-some bytes so_far is opens fails.0 fails.1
-answered-failed status.NoMemory bytes feeding left store told new so_far is opens fed too_long fails =
+answered-failed status.Source bytes feeding left store told new so_far is opens fed too_long none fails =
+    answered-taken bytes feeding left so_far is opens (none refl) fails.0 fails.1 fails.2
+answered-failed status.NoMemory bytes feeding left store told new so_far is opens fed too_long none fails =
     inr (answered-until bytes so_far is opens fails)
-answered-failed status.Disk bytes feeding left store told new so_far is opens fed too_long fails =
+answered-failed status.Disk bytes feeding left store told new so_far is opens fed too_long none fails =
     inr (answered-until bytes so_far is opens fails)
-answered-failed {state} status.TooLong bytes feeding left store told new so_far is opens fed too_long fails =
+answered-failed {state} status.TooLong bytes feeding left store told new so_far is opens fed too_long none fails =
     let lines = answered-limit bytes feeding left so_far is fails.0 fed (too_long refl) in
     record {
       replies = so_far.replies;
@@ -423,11 +449,11 @@ answered-failed {state} status.TooLong bytes feeding left store told new so_far 
       put = fails.2 ∙ so_far.put;
       made = made-all opens fails.1 so_far.made;
     }
-answered-failed status.Done bytes feeding left store told new so_far is opens fed too_long fails = absurd fails
-answered-failed status.Words bytes feeding left store told new so_far is opens fed too_long fails = absurd fails
-answered-failed status.Image bytes feeding left store told new so_far is opens fed too_long fails = absurd fails
-answered-failed status.Found bytes feeding left store told new so_far is opens fed too_long fails = absurd fails
-answered-failed status.Sizes bytes feeding left store told new so_far is opens fed too_long fails = absurd fails
+answered-failed status.Done bytes feeding left store told new so_far is opens fed too_long none fails = absurd fails
+answered-failed status.Words bytes feeding left store told new so_far is opens fed too_long none fails = absurd fails
+answered-failed status.Image bytes feeding left store told new so_far is opens fed too_long none fails = absurd fails
+answered-failed status.Found bytes feeding left store told new so_far is opens fed too_long none fails = absurd fails
+answered-failed status.Sizes bytes feeding left store told new so_far is opens fed too_long none fails = absurd fails
 
 -- ---- how many bytes were taken
 

@@ -1,13 +1,12 @@
 -- Words ask for one form.
 use Rattle.std.proofs.Common.{◌≡◌, ◌≢◌, ℕ, Bool, List, ap, refl, subst, String, Global, IsTrue}
-use Rattle.std.specs.Prelude.{◌↔◌}
 use Rattle.qg_words.specs.Words.{AskFor, texts}
 use Rattle.qg_words.specs.declared.form.Form.{Form}
 use Rattle.qg_words.specs.declared.form.Form.TheVariants.{Mkfs, Run, Check, Generate}
 use Rattle.qg_words.proofs.OneForm.{one_form}
 use Rattle.qg_program.specs.declared.status.Status.{Status}
 use Rattle.qg_program.specs.declared.status.Status.TheVariants as status
-use Rattle.qg_program.specs.Ends.{is_checkers, is_generators, is_makers, is_refused, is_runners}
+use Rattle.qg_program.specs.Ends.{EndsWhere, is_checkers, is_generators, is_makers, is_refused, is_runners}
 use Rattle.qg_program.specs.Words.{AskUnserved, EndsByForm}
 
 -- the ends of each form
@@ -20,7 +19,7 @@ is_end_of (Generate seed count) end = is_generators end
 -- words that ask for one may end as it does
 pub ends-by : (words : List (String Global)) (form : Form) (end : Status) → AskFor (texts words) form
     → IsTrue (is_end_of form end)
-    → ((end ≡ status.Sizes) ↔ AskUnserved words) → EndsByForm end words
+    → EndsWhere status.Sizes end (AskUnserved words) → EndsByForm end words
 ends-by words form end ask is sizes = record {
   sizes = sizes;
   makers = λ sizes asks. subst (λ (f : Form). IsTrue (is_end_of f end))
@@ -56,6 +55,32 @@ checks-begin status.Disk is refused = absurd cc
 checks-begin status.Found is refused = absurd cc
 checks-begin status.Sizes is refused = absurd cc
 checks-begin status.TooLong is refused = absurd cc
+
+-- nor does a run
+pub runs-begin : (end : Status) → IsTrue (is_runners end) → IsTrue (is_refused end) → ⊥
+runs-begin status.Done is refused = absurd cc
+runs-begin status.NoMemory is refused = absurd cc
+runs-begin status.Words is refused = absurd cc
+runs-begin status.Image is refused = absurd cc
+runs-begin status.Source is refused = absurd cc
+runs-begin status.Sink is refused = absurd cc
+runs-begin status.Disk is refused = absurd cc
+runs-begin status.Found is refused = absurd cc
+runs-begin status.Sizes is refused = absurd cc
+runs-begin status.TooLong is refused = absurd cc
+
+-- an image's making by its sizes alone
+pub makes-begin : (end : Status) → IsTrue (is_makers end) → IsTrue (is_refused end) → end ≡ status.Sizes
+makes-begin status.Sizes is refused = refl
+makes-begin status.Done is refused = absurd cc
+makes-begin status.NoMemory is refused = absurd cc
+makes-begin status.Words is refused = absurd cc
+makes-begin status.Image is refused = absurd cc
+makes-begin status.Source is refused = absurd cc
+makes-begin status.Sink is refused = absurd cc
+makes-begin status.Disk is refused = absurd cc
+makes-begin status.Found is refused = absurd cc
+makes-begin status.TooLong is refused = absurd cc
 
 -- and the generator's lines by their number alone
 pub generates-begin : (end : Status) → IsTrue (is_generators end) → IsTrue (is_refused end) → end ≡ status.Sizes

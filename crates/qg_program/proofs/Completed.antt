@@ -13,8 +13,8 @@ use Rattle.qg_store.specs.Types.{Sound, Broken, Differs}
 use Rattle.qg_program.specs.declared.status.Status.{Status}
 use Rattle.qg_program.specs.declared.status.Status.TheVariants as status
 use Rattle.qg_program.specs.Checking.{Checks, report_end}
-use Rattle.qg_program.specs.Complete.{EndsForCause, EndsIn, IsComplete, NothingFails}
-use Rattle.qg_program.specs.Ends.{HasCauses, is_makers}
+use Rattle.qg_program.specs.Complete.{EndsForCause, IsComplete, NothingFails}
+use Rattle.qg_program.specs.Ends.{EndsIn, HasCauses, is_makers}
 use Rattle.qg_program.specs.Following.{Follows}
 use Rattle.qg_program.specs.Generating.{Generates}
 use Rattle.qg_program.specs.Putting.{Refuses}
@@ -80,7 +80,7 @@ module _ {source_before source_now sink_before sink_now disk_before disk_now : �
   -- a run over a sound image
   pub follows-ends : (end : Status) (state : State) (input : List ℕ) (events : List Event)
       (history : History) (old new after : Option (List ℕ))
-      → Caused end → Follows end state input events history old new → IsTaken end (Some input) after
+      → Caused end → Follows end state input after events history old new → IsTaken end (Some input) after
       → length input ≤ longest_script → EndsIn status.Done end
   follows-ends status.Done state input events history old new after causes follows taken within = inl refl
   follows-ends status.NoMemory state input events history old new after causes follows taken within = inr refl

@@ -11,10 +11,10 @@ use Rattle.qg_node.specs.Nodes.{header_of}
 use Rattle.qg_node.specs.NodeText.{node_text}
 use Rattle.qg_super.specs.declared.superblock.Super.{Super}
 use Rattle.qg_image.specs.State.{State}
-use Rattle.qg_crashes.specs.Committing.{FailsAfter, IsFront}
+use Rattle.qg_crashes.specs.Committing.{FailsAfter, IsFrontOfEvents}
 use Rattle.qg_crashes.specs.Outcomes.{Chain, Commit, behind}
 use Rattle.qg_crashes.specs.Slots.{events_of_commit}
-use Rattle.qg_store.specs.Calls.{Call, WriteAt, Sync, IsFront as IsFrontOfCalls, commit_calls, node_calls}
+use Rattle.qg_store.specs.Calls.{Call, CutTo, WriteAt, Sync, IsFrontOfCalls, commit_calls, node_calls}
 use Rattle.qg_store.specs.Calls.{superblock_calls, with_calls, with_commit, with_nodes}
 
 -- these events came behind those
@@ -45,7 +45,7 @@ fails-grown (Cut len) before after fails = absurd fails
 fails-grown (CutShort len left) before after fails = absurd fails
 fails-grown Synced before after fails = grown-none before after fails
 
-front-grown : (steps before after : List Event) → IsFront steps before after → Grown before after
+front-grown : (steps before after : List Event) → IsFrontOfEvents steps before after → Grown before after
 front-grown [] before after is = grown-none before after is
 front-grown (step ∷ steps) before after (inl is) = grown-none before after is
 front-grown (step ∷ steps) before after (inr (inl fails)) = fails-grown step before after fails
@@ -68,6 +68,8 @@ chain-grown old (first ∷ next ∷ later) before after chain =
 
 pub calls-grown : (calls : List Call) (events : List Event) → Grown events (with_calls calls events)
 calls-grown [] events = grown-none events events refl
+calls-grown (CutTo len ∷ calls) events =
+    grown-more (Cut len) events (with_calls calls (Cut len ∷ events)) (calls-grown calls (Cut len ∷ events))
 calls-grown (WriteAt at bytes ∷ calls) events =
     grown-more (Wrote at bytes) events (with_calls calls (Wrote at bytes ∷ events))
     (calls-grown calls (Wrote at bytes ∷ events))
@@ -85,6 +87,10 @@ pub front-of-calls-grown : (calls : List Call) (events after : List Event) → I
     → Grown events after
 front-of-calls-grown [] events after is = grown-none events after is
 front-of-calls-grown (call ∷ calls) events after (inl is) = grown-none events after is
+front-of-calls-grown (CutTo len ∷ calls) events after (inr (inl fails)) =
+    record { newer = CutShort len fails.0 ∷ []; is = fails.2 }
+front-of-calls-grown (CutTo len ∷ calls) events after (inr (inr front)) =
+    grown-more (Cut len) events after (front-of-calls-grown calls (Cut len ∷ events) after front)
 front-of-calls-grown (WriteAt at bytes ∷ calls) events after (inr (inl fails)) =
     record { newer = Tore at bytes fails.0 ∷ []; is = fails.2 }
 front-of-calls-grown (WriteAt at bytes ∷ calls) events after (inr (inr front)) =
@@ -97,6 +103,12 @@ front-of-calls-grown (Sync ∷ calls) events after (inr (inr front)) =
 length-with_calls : (calls : List Call) (events : List Event)
     → length (with_calls calls events) ≡ length events + length calls
 length-with_calls [] events = let none : length events ≡ length events + 0 = omega arith in none
+length-with_calls (CutTo len ∷ calls) events =
+    let others : length (with_calls calls (Cut len ∷ events)) ≡ suc (length events) + length calls =
+    length-with_calls calls (Cut len ∷ events) in
+    let all : length (with_calls calls (Cut len ∷ events)) ≡ length events + suc (length calls) =
+    omega (arith, others) in
+    all
 length-with_calls (WriteAt at bytes ∷ calls) events =
     let others : length (with_calls calls (Wrote at bytes ∷ events)) ≡ suc (length events) + length calls =
     length-with_calls calls (Wrote at bytes ∷ events) in
@@ -126,6 +138,9 @@ pub front-of-calls-short : (calls : List Call) (events after : List Event) → I
     → length after ≤ length events + length calls
 front-of-calls-short [] events after is = omega (arith, ap length is)
 front-of-calls-short (call ∷ calls) events after (inl is) = omega (arith, ap length is)
+front-of-calls-short (CutTo len ∷ calls) events after (inr (inl fails)) = omega (arith, ap length fails.2)
+front-of-calls-short (CutTo len ∷ calls) events after (inr (inr front)) =
+    omega (arith, front-of-calls-short calls (Cut len ∷ events) after front)
 front-of-calls-short (WriteAt at bytes ∷ calls) events after (inr (inl fails)) = omega (arith, ap length fails.2)
 front-of-calls-short (WriteAt at bytes ∷ calls) events after (inr (inr front)) =
     omega (arith, front-of-calls-short calls (Wrote at bytes ∷ events) after front)

@@ -1,5 +1,5 @@
 -- An image that was opened, and one that was not.
-use Rattle.std.proofs.Common.{◌≡◌, ◌⊎◌, ℕ, List, [], Option, Some, None, inl, inr, refl, sym, ◌∙◌, subst}
+use Rattle.std.proofs.Common.{◌≡◌, ◌⊎◌, ℕ, List, Option, Some, None, inl, inr, refl, sym, subst}
 use Rattle.qg_device.specs.History.{Event, History, Recorded, content}
 use Rattle.qg_super.specs.declared.superblock.Super.{Super}
 use Rattle.qg_image.specs.State.{State}
@@ -43,14 +43,14 @@ looked-unsound events failure history unsound (inl looked) = looked
 looked-unsound events failure history unsound (inr repairing) = let sound : verdict (content events) ≡ None =
     repairing.sound in absurd cc
 
--- a sound image that was not opened: no line was answered, and nothing was committed
-pub follows-unopened : (end : Status) (state : State) (input : List ℕ) {events : List Event}
+-- a sound image that was not opened: no line was answered, nothing was committed, and nothing was taken
+pub follows-unopened : (end : Status) (state : State) (input : List ℕ) {left : Option (List ℕ)} {events : List Event}
     {history : History} {old new : Option (List ℕ)}
-    → (end ≡ status.Disk) ⊎ (end ≡ status.NoMemory) → IsOpening events history → new ≡ old
-    → Follows end state input events history old new
-follows-unopened end state input {events} {history} {old} {new} (inl is) touched same =
-    subst (λ (end : Status). Follows end state input events history old new) (sym is)
-    (inl (record { touched = touched; silent = same }))
-follows-unopened end state input {events} {history} {old} {new} (inr is) touched same =
-    subst (λ (end : Status). Follows end state input events history old new) (sym is)
-    (inl (record { touched = touched; silent = same }))
+    → (end ≡ status.Disk) ⊎ (end ≡ status.NoMemory) → IsOpening events history → new ≡ old → left ≡ Some input
+    → Follows end state input left events history old new
+follows-unopened end state input {left} {events} {history} {old} {new} (inl is) touched same untaken =
+    subst (λ (end : Status). Follows end state input left events history old new) (sym is)
+    (inl (record { unopened = record { touched = touched; silent = same }; untaken = untaken }))
+follows-unopened end state input {left} {events} {history} {old} {new} (inr is) touched same untaken =
+    subst (λ (end : Status). Follows end state input left events history old new) (sym is)
+    (inl (record { unopened = record { touched = touched; silent = same }; untaken = untaken }))

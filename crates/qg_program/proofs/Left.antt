@@ -235,7 +235,7 @@ module _ (state : State) (input : Option (List ℕ)) (opened : List Event) (pend
       → HasEnded end state (Input input) opened after old new
   ended-failed status.Sink feeding left next new counted within too_long fails = ended-sink next new fails
   ended-failed status.Source feeding left next new counted within too_long fails =
-      ended-there status.Source new (same_Recorded after so_far.events fails.0) first-answered (fails.1
+      ended-there status.Source new (same_Recorded after so_far.events fails.1) first-answered (fails.2
       ∙ so_far.put) refl
   ended-failed status.NoMemory feeding left next new counted within too_long fails =
       ended-before status.NoMemory new fails.0 first-answered (fails.1 ∙ so_far.put) (λ begun begins. begins)

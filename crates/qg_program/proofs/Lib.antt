@@ -7,6 +7,7 @@ pub mod Outlived
 pub mod Acknowledged
 pub mod Left
 pub mod Turned
+pub mod Unread
 pub mod Judged
 pub mod Replied
 pub mod Said

@@ -10,7 +10,7 @@ use Rattle.qg_super.specs.SuperText.{super_text}
 use Rattle.qg_image.specs.State.{Committed, State}
 use Rattle.qg_image.specs.StateOf.{StateOf}
 use Rattle.qg_machine.specs.Run.{Run}
-use Rattle.qg_crashes.specs.Committing.{IsFront, begin_of}
+use Rattle.qg_crashes.specs.Committing.{IsFrontOfEvents, begin_of}
 use Rattle.qg_crashes.specs.Outcomes.{Chain, Dated, IsOneOf, Rests, dated_by, with_write}
 use Rattle.qg_crashes.specs.Repairing.{Repairing}
 use Rattle.qg_crashes.specs.States.{with_place}
@@ -167,7 +167,7 @@ behind-event event a b events first second = cc
 -- a repair of one of the places that was whole is one of this place
 whole-repair : (place : ℕ) (super : Super) (at : ℕ) (other : Super) (events opened : List Event)
     → opened ≡ Synced ∷ Wrote at (super_text at other) ∷ Synced ∷ events
-    → IsFront (Wrote place (super_text place super) ∷ Synced ∷ []) (Synced ∷ events) opened
+    → IsFrontOfEvents (Wrote place (super_text place super) ∷ Synced ∷ []) (Synced ∷ events) opened
     → opened ≡ with_place place super events
 whole-repair place super at other events opened shape (inl is) = absurd (omega (arith, ap length is, ap length shape))
 whole-repair place super at other events opened shape (inr (inl fails)) =

@@ -1,5 +1,5 @@
 -- Behind the generator's lines come a commit and `show`: what follows where both are answered, or one is broken off.
-use Rattle.std.proofs.Common.{◌≡◌, ℕ, List, ◌++◌, None, Some, refl}
+use Rattle.std.proofs.Common.{◌≡◌, ℕ, List, ◌++◌, None, refl}
 use Rattle.std.specs.Prelude.{codes}
 use Rattle.qg_device.specs.History.{Event, History, Recorded}
 use Rattle.qg_num.specs.declared.answer.Answer.{Answer}

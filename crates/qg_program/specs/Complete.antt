@@ -1,13 +1,13 @@
 -- How what was asked ends where nothing fails (this project's own).
-use Rattle.std.specs.Prelude.{◌≡◌, ◌⊎◌, ℕ, ◌≤◌, List, length, Option, Some, String}
+use Rattle.std.specs.Prelude.{◌≡◌, ℕ, ◌≤◌, List, length, Option, Some, String}
 use Rattle.std.specs.declared.alloc.Global.{Global}
 use Rattle.qg_super.specs.declared.sizes.Sizes.{Sizes}
 use Rattle.qg_device.specs.History.{Event, History, Recorded, content, one_more}
 use Rattle.qg_grammar.specs.ScriptText.{longest_script}
 use Rattle.qg_image.specs.Verdict.{IsSound}
-use Rattle.qg_program.specs.Ends.{HasCauses}
+use Rattle.qg_program.specs.Ends.{EndsIn, HasCauses}
 use Rattle.qg_program.specs.declared.status.Status.{Status}
-use Rattle.qg_program.specs.declared.status.Status.TheVariants.{Done, NoMemory, Image, Found}
+use Rattle.qg_program.specs.declared.status.Status.TheVariants.{Done, Image, Found}
 use Rattle.qg_program.specs.Words.{AskServed, AskToCheck, AskToGenerate, AskToOpen, AskToRun}
 
 -- no count of faults rose by one, or stands at its last value
@@ -15,10 +15,6 @@ pub record NothingFails (source_before source_now sink_before sink_now disk_befo
   pub source : source_now ≡ one_more source_before → ⊥
   pub sink : sink_now ≡ one_more sink_before → ⊥
   pub disk : disk_now ≡ one_more disk_before → ⊥
-
--- it ended so, or memory was refused
-abbrev pub EndsIn : Status → Status → Type 0
-EndsIn wanted end = (end ≡ wanted) ⊎ (end ≡ NoMemory)
 
 -- a source tells an input that is no longer than a script may be
 pub record HasScript (left : Option (List ℕ)) : Type 0 where

@@ -1,11 +1,20 @@
 -- How a call of the program may end (this project's own).
-use Rattle.std.specs.Prelude.{ℕ, Bool, true, false}
+use Rattle.std.specs.Prelude.{◌≡◌, ◌⊎◌, ℕ, Bool, true, false}
 use Rattle.qg_device.specs.Cause.{HasEndCause}
 use Rattle.qg_script.specs.declared.fault.LineFault.{LineFault}
 use Rattle.qg_script.specs.declared.fault.LineFault.TheVariants as fault
 use Rattle.qg_program.specs.declared.status.Status.{Status}
 use Rattle.qg_program.specs.declared.status.Status.TheVariants.{Done, NoMemory, Words, Image, Source, Sink, Disk, Found}
 use Rattle.qg_program.specs.declared.status.Status.TheVariants.{Sizes, TooLong}
+
+-- it ended so, or memory was refused
+abbrev pub EndsIn : Status → Status → Type 0
+EndsIn wanted end = (end ≡ wanted) ⊎ (end ≡ NoMemory)
+
+-- it ended so exactly where this holds; and where this holds, memory may have been refused instead
+pub record EndsWhere (wanted end : Status) (Holds : Type 0) : Type 0 where
+  pub only : end ≡ wanted → Holds
+  pub always : Holds → EndsIn wanted end
 
 -- the image was made: all that can still fail is to say so
 abbrev pub is_made : Status → Bool

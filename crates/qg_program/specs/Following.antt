@@ -1,6 +1,6 @@
 -- What a run does to the disk and to the sink, side by side (this project's own): the commits and the replies of a run
 -- of the machine over the script's lines.
-use Rattle.std.specs.Prelude.{◌≡◌, ◌⊎◌, ℕ, List, [], ◌∷◌, ◌++◌, take, drop, Option}
+use Rattle.std.specs.Prelude.{◌≡◌, ◌⊎◌, ℕ, List, [], ◌∷◌, ◌++◌, take, drop, Option, Some}
 use Rattle.std.specs.List.{concat}
 use Rattle.std.specs.Io.KnownBytes.{append_known}
 use Rattle.qg_device.specs.History.{Event, History, Recorded, synced}
@@ -14,7 +14,7 @@ use Rattle.qg_store.specs.Answering.{StartsCommits}
 use Rattle.qg_store.specs.Making.{AreSynced, MadeCommits}
 use Rattle.qg_program.specs.declared.status.Status.{Status}
 use Rattle.qg_program.specs.declared.status.Status.TheVariants.{Disk, Done, NoMemory, Sink, Source, TooLong}
-use Rattle.qg_program.specs.Running.{ended_lines}
+use Rattle.qg_program.specs.Running.{AreLinesTaken, ended_lines}
 
 -- ---- the disk
 
@@ -58,11 +58,12 @@ pub record FollowsAll (state : State) (lines : List (List ℕ)) (events : List E
   pub put : new ≡ append_known old (concat replies)
   pub made : MakesAll state.held commits events history
 
--- so are some of these lines, from the first on
-pub record FollowsSome (state : State) (lines : List (List ℕ)) (events : List Event) (history : History)
-    (old new : Option (List ℕ)) : Type 0 where
-  pub count : ℕ
-  pub follows : FollowsAll state (take count lines) events history old new
+-- so are the lines of what was taken of an input, where so much of it is left
+pub record FollowsTaken (state : State) (input : List ℕ) (left : Option (List ℕ)) (events : List Event)
+    (history : History) (old new : Option (List ℕ)) : Type 0 where
+  pub lines : List (List ℕ)
+  pub are : AreLinesTaken input left lines
+  pub follows : FollowsAll state lines events history old new
 
 -- some of these lines are answered, from the first on; all replies but the last were put, and a front of that one
 pub record FollowsPart (state : State) (lines : List (List ℕ)) (events : List Event) (history : History)
@@ -97,20 +98,26 @@ pub record StaysUnopened (events : List Event) (history : History) (old new : Op
 
 -- ---- the run
 
--- A run follows the machine from this state on over this input, by how it ended: over all lines where the input was
--- read to its end; over those that end within the most bytes that a script may have, where it has more; over some lines
--- up to a fault of the source; where the sink failed, with a front of the last reply. Where memory was refused or the
--- disk failed, the image was not opened, or the run stops before some line. No run over a sound image ends in another
--- way.
-abbrev pub Follows : Status → State → List ℕ → List Event → History → Option (List ℕ) → Option (List ℕ)
-    → Type 0
-Follows Done state input events history old new = FollowsAll state (script_lines input) events history old new
-Follows TooLong state input events history old new =
+-- it was not, and nothing of the input was taken
+pub record TakesNothing (input : List ℕ) (left : Option (List ℕ)) (events : List Event) (history : History)
+    (old new : Option (List ℕ)) : Type 0 where
+  pub unopened : StaysUnopened events history old new
+  pub untaken : left ≡ Some input
+
+-- A run follows the machine from this state on over this input, of which so much is left, by how it ended: over all
+-- lines where the input was read to its end; over those that end within the most bytes that a script may have, where it
+-- has more; over the lines of what was taken up to a fault of the source; where the sink failed, with a front of the
+-- last reply. Where memory was refused or the disk failed, the image was not opened, and nothing was taken; or the run
+-- stops before some line. No run over a sound image ends in another way.
+abbrev pub Follows : Status → State → List ℕ → Option (List ℕ) → List Event → History → Option (List ℕ)
+    → Option (List ℕ) → Type 0
+Follows Done state input left events history old new = FollowsAll state (script_lines input) events history old new
+Follows TooLong state input left events history old new =
     FollowsAll state (ended_lines (take longest_script input)) events history old new
-Follows Source state input events history old new = FollowsSome state (script_lines input) events history old new
-Follows Sink state input events history old new = FollowsPart state (script_lines input) events history old new
-Follows NoMemory state input events history old new = StaysUnopened events history old new
+Follows Source state input left events history old new = FollowsTaken state input left events history old new
+Follows Sink state input left events history old new = FollowsPart state (script_lines input) events history old new
+Follows NoMemory state input left events history old new = TakesNothing input left events history old new
     ⊎ FollowsUntil state (script_lines input) events history old new
-Follows Disk state input events history old new = StaysUnopened events history old new
+Follows Disk state input left events history old new = TakesNothing input left events history old new
     ⊎ FollowsUntil state (script_lines input) events history old new
-Follows _ state input events history old new = ⊥
+Follows _ state input left events history old new = ⊥

@@ -100,7 +100,8 @@ Generates _ state seed count events history old new = ⊥
 
 -- the lines of the input are answered where a run was asked for, where the source tells them; and the generator's where
 -- those were
-pub record FollowsAsAsked (words : List (String Global)) (end : Status) (state : State) (left : Option (List ℕ))
+pub record FollowsAsAsked (words : List (String Global)) (end : Status) (state : State) (before left : Option (List ℕ))
     (events : List Event) (history : History) (old new : Option (List ℕ)) : Type 0 where
-  pub run : AskToRun words → (input : List ℕ) → left ≡ Some input → Follows end state input events history old new
+  pub run : AskToRun words → (input : List ℕ) → before ≡ Some input
+      → Follows end state input left events history old new
   pub lines : (seed count : ℕ) → AskToGenerate words seed count → Generates end state seed count events history old new

@@ -1,6 +1,6 @@
 -- What a call puts (this project's own): what is put where a line could not be put whole, and what one says that puts
 -- one line alone.
-use Rattle.std.specs.Prelude.{◌≡◌, ◌⊎◌, ℕ, All, List, ◌∷◌, Option, Some, IsTrue, String, codes}
+use Rattle.std.specs.Prelude.{◌≡◌, ◌⊎◌, ℕ, Bool, false, All, List, ◌∷◌, Option, Some, IsTrue, String, codes}
 use Rattle.std.specs.List.{concat}
 use Rattle.std.specs.declared.alloc.Global.{Global}
 use Rattle.std.specs.Io.KnownBytes.{append_known}
@@ -21,7 +21,7 @@ use Rattle.qg_super.specs.declared.sizes.Sizes.{Sizes}
 use Rattle.qg_super.specs.Places.{slot_at}
 use Rattle.qg_store.specs.Calls.{with_image}
 use Rattle.qg_store.specs.Fresh.{fresh_nodes, fresh_super}
-use Rattle.qg_store.specs.Mkfs.{HoldsFreshImage}
+use Rattle.qg_store.specs.Mkfs.{HoldsFreshImage, StopsMaking}
 use Rattle.qg_store.specs.CommitOpening.{IsLookedAt}
 use Rattle.qg_program.specs.Ends.{is_judged, is_made}
 use Rattle.qg_program.specs.Words.{AskToGenerate, AskToOpen, AskToRun}
@@ -131,11 +131,20 @@ pub record RefusesAsAsked (words : List (String Global)) (end : Status) (before 
   pub told : end ≡ Image → EndsByFailure words old new
   pub unsound : (events : List Event) → end ≡ Image → before ≡ Recorded events → IsSound (content events) → ⊥
 
+-- Memory was refused where an image of these sizes was asked for: it was made, and the line that says so was not put;
+-- or it was not made, and over a disk that takes no memory no call was.
+abbrev pub WantsMemory : Bool → Sizes → History → History → Type 0
+WantsMemory takes_memory sizes before after =
+    (after ≡ history_after (with_image (fresh_super sizes (slot_at sizes 0)) (fresh_nodes sizes)) before)
+    ⊎ (StopsMaking sizes before after × (takes_memory ≡ false → after ≡ before))
+
 -- An image of these sizes was asked for, and they are served: the calls where it was made; what the disk holds then,
--- where it tells it; and what was put.
-pub record MakesImage (status : Status) (sizes : Sizes) (before after : History)
+-- where it tells it; how far the calls came where the disk failed, or memory was refused; and what was put.
+pub record MakesImage (status : Status) (sizes : Sizes) (takes_memory : Bool) (before after : History)
     (old new : Option (List ℕ)) : Type 0 where
   pub calls : IsTrue (is_made status)
       → after ≡ history_after (with_image (fresh_super sizes (slot_at sizes 0)) (fresh_nodes sizes)) before
   pub fresh : (events : List Event) → before ≡ Recorded events → IsTrue (is_made status) → HoldsFreshImage sizes after
+  pub stops : status ≡ Disk → StopsMaking sizes before after
+  pub wants : status ≡ NoMemory → WantsMemory takes_memory sizes before after
   pub said : SaysMade status old new

@@ -4,7 +4,7 @@ use Rattle.std.specs.Io.KnownBytes.{IsAtEnd, append_known}
 use Rattle.qg_device.specs.Cause.{HasCause}
 use Rattle.qg_device.specs.History.{Event, History, Recorded}
 use Rattle.qg_edge.specs.Appended.{AppendsFront}
-use Rattle.qg_script.specs.Feeding.{Feeding, IsTooLong, IsWithinLimit}
+use Rattle.qg_script.specs.Feeding.{Feeding, HoldsLine, HoldsNoNewline, IsTooLong, IsWithinLimit}
 use Rattle.qg_script.specs.Lines.{CountsTaken, TakesLine}
 use Rattle.qg_image.specs.State.{State}
 use Rattle.qg_machine.specs.Run.{Turn}
@@ -88,7 +88,8 @@ StopsLine old before events history = (history ≡ Recorded events) ⊎ BreaksLi
 abbrev pub FailsToTurn : Status → State → List Event → Option (List ℕ) → Option (List ℕ) → Stored → History
     → Option (List ℕ) → Option (List ℕ) → Type 0
 FailsToTurn Sink old events before after store history held now = TurnsPart old events before store history held now
-FailsToTurn Source old events before after store history held now = (history ≡ Recorded events) × (now ≡ held)
+FailsToTurn Source old events before after store history held now = (after ≡ before) × (history ≡ Recorded events)
+    × (now ≡ held)
 FailsToTurn TooLong old events before after store history held now = (after ≡ before) × (history ≡ Recorded events)
     × (now ≡ held)
 FailsToTurn NoMemory old events before after store history held now = StopsLine old before events history × (now ≡ held)
@@ -103,10 +104,14 @@ pub record PutsLine (result : Result Bool Status) (held now : Option (List ℕ))
   pub told : result ≡ Err Image → PutsFailure held now
 
 -- How many bytes a turn takes, and hands out: those that it takes are counted, and are no more than a script may have,
--- and one. Where there was no line nothing is left, and where the input is too long the feed is so
-pub record TakesTurn (result : Result Bool Status) (old new : Feeding) (before after : Option (List ℕ)) : Type 0 where
+-- and one. Where a line was held whole the source stays as it is. Where there was no line nothing is left, where the
+-- input is too long the feed is so, and where the source failed no byte held is a newline
+pub record TakesTurn (result : Result Bool Status) (old new : Feeding) (before after : Option (List ℕ))
+    (SourceStays : Type 0) : Type 0 where
+  pub not_asked : HoldsLine old → SourceStays
   pub over : result ≡ Ok false → (new.rest ≡ []) × IsAtEnd after
   pub too_long : result ≡ Err TooLong → IsTooLong new
+  pub no_newline : result ≡ Err Source → HoldsNoNewline new
   pub counted : CountsTaken before after old.taken new.taken
   pub within : IsWithinLimit new
 

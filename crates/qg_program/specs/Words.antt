@@ -1,12 +1,12 @@
 -- What the words of a command line ask for (this project's own).
-use Rattle.std.specs.Prelude.{◌≡◌, ◌⊎◌, ◌↔◌, ℕ, ◌<◌, ◌≤◌, false, true, List, String, IsTrue}
+use Rattle.std.specs.Prelude.{◌≡◌, ◌⊎◌, ℕ, ◌<◌, ◌≤◌, false, true, List, String, IsTrue}
 use Rattle.std.specs.declared.alloc.Global.{Global}
 use Rattle.qg_super.specs.declared.sizes.Sizes.{Sizes}
 use Rattle.qg_super.specs.Places.{is_served}
-use Rattle.qg_words.specs.Words.{texts, AskForImage, AskForLines, check_words, run_words}
+use Rattle.qg_words.specs.Words.{texts, AskForImage, AskForLines, HaveForm, check_words, run_words}
 use Rattle.qg_program.specs.declared.status.Status.{Status}
 use Rattle.qg_program.specs.declared.status.Status.TheVariants as status
-use Rattle.qg_program.specs.Ends.{is_checkers, is_generators, is_makers, is_runners}
+use Rattle.qg_program.specs.Ends.{EndsWhere, is_checkers, is_generators, is_makers, is_runners}
 
 -- the words ask for an image of these sizes
 abbrev pub AskToMake : List (String Global) → Sizes → Type 0
@@ -33,6 +33,10 @@ pub record AskForTooMany (words : List (String Global)) : Type 0 where
 abbrev pub AskUnserved : List (String Global) → Type 0
 AskUnserved words = AskForUnserved words ⊎ AskForTooMany words
 
+-- the words ask for nothing: they have no form, or sizes or a count are out of their range
+abbrev pub AskForNothing : List (String Global) → Type 0
+AskForNothing words = (HaveForm (texts words) → ⊥) ⊎ AskUnserved words
+
 -- the words ask for an image of these sizes, and they are served
 pub record AskServed (words : List (String Global)) (sizes : Sizes) : Type 0 where
   pub ask : AskToMake words sizes
@@ -55,10 +59,10 @@ pub record AskToGenerate (words : List (String Global)) (seed count : ℕ) : Typ
 abbrev pub AskToOpen : List (String Global) → Type 0
 AskToOpen words = AskToRun words ⊎ ((seed : ℕ) × (count : ℕ) × AskToGenerate words seed count)
 
--- a size, or a count of lines, is refused exactly where it is out of its range, and a call has the ends of the form
--- that was asked for
+-- a size, or a count of lines, is refused exactly where it is out of its range, or memory for the words is; and a call
+-- has the ends of the form that was asked for
 pub record EndsByForm (end : Status) (words : List (String Global)) : Type 0 where
-  pub sizes : (end ≡ status.Sizes) ↔ AskUnserved words
+  pub sizes : EndsWhere status.Sizes end (AskUnserved words)
   pub makers : (sizes : Sizes) → AskToMake words sizes → IsTrue (is_makers end)
   pub runners : AskToRun words → IsTrue (is_runners end)
   pub checkers : AskToCheck words → IsTrue (is_checkers end)

@@ -30,7 +30,8 @@ pub(crate) fn run<D: Disk, S: Source, K: Sink>(
 ) -> Status
     ensures follows { (events : List Event) (input : List ℕ) (state : State) → D.history disk.old ≡ Recorded events
         → S.bytes_left source.old ≡ Some input → StateOf (content events) state
-        → Follows result state input events (D.history disk.new) (K.bytes_held sink.old) (K.bytes_held sink.new) }
+        → Follows result state input (S.bytes_left source.new) events (D.history disk.new)
+        (K.bytes_held sink.old) (K.bytes_held sink.new) }
     ensures crashes { (events after : List Event) (state : State) → D.history disk.old ≡ Recorded events
         → D.history disk.new ≡ Recorded after → StateOf (content events) state
         → LeavesBehind result state (Input (S.bytes_left source.old)) events after (K.bytes_held sink.old)

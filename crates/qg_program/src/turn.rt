@@ -60,7 +60,8 @@ fn turn<L: Ledger, M: Ledger, D: Disk, S: Source, K: Sink>(
 
     // Over any disk.
     ensures puts { PutsLine result (K.bytes_held sink.old) (K.bytes_held sink.new) }
-    ensures takes { TakesTurn result feed.old feed.new (S.bytes_left source.old) (S.bytes_left source.new) }
+    ensures takes { TakesTurn result feed.old feed.new (S.bytes_left source.old) (S.bytes_left source.new)
+        (source.new ≡ source.old) }
     ensures shrinks { result ≡ Ok true → most_to_come feed.new < most_to_come feed.old }
     ensures causes { HaveCauses result (S.faults source.old) (S.faults source.new) (K.faults sink.old)
         (K.faults sink.new) (D.faults disk.old) (D.faults disk.new) }
@@ -77,7 +78,7 @@ fn turn<L: Ledger, M: Ledger, D: Disk, S: Source, K: Sink>(
     }
 }
 
-/// Answers the lines of a source over a store that was just opened, by one put each; counts steps by two new ledgers.
+/// Answers the lines of a source over a store that was just opened; counts steps by two new ledgers.
 pub(crate) fn answer_lines<L: Ledger, M: Ledger, D: Disk, S: Source, K: Sink>(
     alloc: Global,
     store: Store,
@@ -94,7 +95,8 @@ pub(crate) fn answer_lines<L: Ledger, M: Ledger, D: Disk, S: Source, K: Sink>(
         → IsStoreOf store state (D.history disk.old)
         → IsOpened events (Recorded opened) → D.history disk.old ≡ Recorded opened
         → S.bytes_left source.old ≡ Some input
-        → Follows result state input events (D.history disk.new) (K.bytes_held sink.old) (K.bytes_held sink.new) }
+        → Follows result state input (S.bytes_left source.new) events (D.history disk.new)
+        (K.bytes_held sink.old) (K.bytes_held sink.new) }
     ensures crashes { (state : State) (events opened after : List Event) → IsStoreOf store state (D.history disk.old)
         → IsOpened events (Recorded opened) → D.history disk.old ≡ Recorded opened → D.history disk.new ≡ Recorded after
         → StateOf (content events) state → Rests state opened

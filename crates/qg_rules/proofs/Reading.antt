@@ -102,14 +102,14 @@ others_files ino parts those (Inode other inode ∷ others) same are =
 -- ---- one file in front of others
 
 -- an INODE_ITEM, the pieces of its file, and the items of greater files
-pub record IsFront (ino : ℕ) (own others : List FilePart) : Type 0 where
+pub record IsFirstFile (ino : ℕ) (own others : List FilePart) : Type 0 where
   pub pieces : AllByRecursion (IsPieceOf ino) own
   pub greater : AreGreater ino others
 
 abbrev pub file_of : ℕ → InodeItem → List FilePart → File
 file_of ino inode own = file_in (Inode ino inode ∷ own) (ino, inode)
 
-front_files : (ino : ℕ) (inode : InodeItem) (own others : List FilePart) → IsFront ino own others
+front_files : (ino : ℕ) (inode : InodeItem) (own others : List FilePart) → IsFirstFile ino own others
     → files_in (Inode ino inode ∷ (own ++ others)) ≡ (ino, file_of ino inode own) ∷ files_in others
 front_files ino inode own others is =
     let same = λ (n : ℕ) (less : ino < n). others_alone ino n own others less is.pieces in
@@ -125,7 +125,7 @@ swap_and true f b = refl
 swap_and false true b = refl
 swap_and false false b = refl
 
-front_sound : (ino : ℕ) (inode : InodeItem) (own others : List FilePart) → IsFront ino own others
+front_sound : (ino : ℕ) (inode : InodeItem) (own others : List FilePart) → IsFirstFile ino own others
     → are_files (Inode ino inode ∷ (own ++ others)) ≡ (is_file_of ino inode (file_of ino inode own) && are_files others)
 unfolding are_files
 front_sound ino inode own others is =
@@ -218,7 +218,7 @@ pub record IsNext (left : List FilePart) (one : FileItems) (others : List FilePa
 
 next_front : (left : List FilePart) (one : FileItems) (others : List FilePart) → is_ascending (map file_key left) ≡ true
     → IsNext left one others
-    → IsFront one.ino (map (PieceOf one.ino) one.pieces) others
+    → IsFirstFile one.ino (map (PieceOf one.ino) one.pieces) others
 unfolding is_ascending
 next_front left one others ascending next =
     let own : List FilePart = map (PieceOf one.ino) one.pieces in

@@ -36,6 +36,10 @@ within_limit feeding = take (longest_script - (feeding.taken - length feeding.re
 abbrev pub HoldsLine : Feeding → Type 0
 HoldsLine feeding = Contains (within_limit feeding) 10
 
+-- no line is held whole: no byte held is a newline
+abbrev pub HoldsNoNewline : Feeding → Type 0
+HoldsNoNewline feeding = All (λ byte. byte ≢ 10) feeding.rest
+
 -- the first line held was handed out, and no more was taken
 pub record HandsOutHeld (old new : Feeding) (line : List ℕ) : Type 0 where
   pub parted : old.rest ≡ line ++ 10 ∷ new.rest

@@ -1,13 +1,18 @@
 -- What a call that reads a line does (this project's own).
-use Rattle.std.specs.Prelude.{◌≡◌, ℕ, ◌≤◌, ◌<◌, List, length, Option, Result, Err, IfOk, IfSome, IfNone, IsOkAnd}
-use Rattle.std.specs.Prelude.{IsSomeAnd, OnErr, OnSome}
+use Rattle.std.specs.Prelude.{◌≡◌, ◌≢◌, ℕ, ◌≤◌, ◌<◌, List, length, Option, Result, Err, IfOk, IfErr, IfSome, IfNone}
+use Rattle.std.specs.Prelude.{IsOkAnd, IsSomeAnd, OnErr, OnSome}
 use Rattle.qg_script.specs.declared.fault.LineFault.{LineFault}
 use Rattle.qg_script.specs.declared.fault.LineFault.TheVariants.{TooLong}
 use Rattle.qg_script.specs.declared.line.Line.{Line}
-use Rattle.qg_script.specs.Feeding.{Feeding, IsWithinLimit, IsTooLong, HoldsLine, HandsOutHeld, handed_out}
-use Rattle.qg_script.specs.Feeding.{most_to_come}
+use Rattle.qg_script.specs.Feeding.{Feeding, IsWithinLimit, IsTooLong, HoldsLine, HoldsNoNewline, HandsOutHeld}
+use Rattle.qg_script.specs.Feeding.{handed_out, most_to_come}
 use Rattle.qg_script.specs.LineBytes.{line_bytes}
 use Rattle.qg_script.specs.Lines.{pending, TakesLine, IsOver, CountsTaken}
+
+-- where no line was read, none is held whole: what is held is too long, or no byte of it is a newline
+pub record HoldsNoLine {A : Type 0} (result : Result A LineFault) (feeding : Feeding) : Type 0 where
+  pub too_long : result ≡ Err TooLong → IsTooLong feeding
+  pub no_newline : IfErr result (λ fault. fault ≢ TooLong → HoldsNoNewline feeding)
 
 -- the result of a call, by the feed and what its source has left: before the call, and once the line is let go
 pub record ReadsLine (result : Result (Option Line) LineFault) (old new : Feeding)
@@ -18,7 +23,7 @@ pub record ReadsLine (result : Result (Option Line) LineFault) (old new : Feedin
   pub over : IfOk result (λ found. IfNone found (IsOver (pending old before) (pending new after) new.rest))
   -- no byte is lost where there is no line
   pub err : OnErr result (pending new after ≡ pending old before)
-  pub too_long : result ≡ Err TooLong → IsTooLong new
+  pub none_held : HoldsNoLine result new
   pub past : IsTooLong old → (result ≡ Err TooLong) × (new ≡ old)
   -- a line that is held whole is handed out
   pub held : HoldsLine old → IsOkAnd result (λ found. IsSomeAnd found (λ line. HandsOutHeld old new (line_bytes line)))

@@ -6,7 +6,7 @@ ghost use Rattle.std.specs.List.{AllWithin};
 ghost use Rattle.qg_device.specs.Cause.{HasCause};
 ghost use Rattle.qg_script.specs.Feeding.{handed_out, IsTooLong, IsFirstNewline, HoldsLine, HandsOutHeld};
 ghost use Rattle.qg_script.specs.Lines.{pending, TakesLine, IsOver};
-ghost use Rattle.qg_script.specs.ReadLine.{EndsWithin, ReadsLine, TakesWithin};
+ghost use Rattle.qg_script.specs.ReadLine.{EndsWithin, HoldsNoLine, ReadsLine, TakesWithin};
 ghost use Rattle.qg_script.specs.contracts.feed.Feed.{the_row};
 
 use crate::{Feed, Line, LineFault};
@@ -36,7 +36,7 @@ fn line_end<S: Source>(feed: &mut Feed, source: &mut S) -> Result<Option<usize>,
         (pending feed.old (S.bytes_left source.old)) (pending feed.new (S.bytes_left source.new)) feed.new.rest)) }
     ensures err { OnErr result
         (pending feed.new (S.bytes_left source.new) ≡ pending feed.old (S.bytes_left source.old)) }
-    ensures too_long { result ≡ Err LineFault.TooLong → IsTooLong feed.new }
+    ensures none_held { HoldsNoLine result feed.new }
     ensures past { IsTooLong feed.old → (result ≡ Err LineFault.TooLong) × (feed.new ≡ feed.old) }
     ensures cause { HasCause LineFault.Source (S.faults source.old) (S.faults source.new) result }
     ensures held { HoldsLine feed.old → IsOkAnd result (λ found. IsSomeAnd found (λ end.

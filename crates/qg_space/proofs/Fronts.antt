@@ -10,7 +10,7 @@ use Rattle.qg_super.specs.Places.{data_begin}
 use Rattle.qg_super.proofs.Runs.{WholeRun, WholeRun-is_run}
 use Rattle.qg_image.specs.declared.element.Element.{Element}
 use Rattle.qg_space.specs.Run.{Run}
-use Rattle.qg_space.specs.Lying.{extents_of, end_of, end_of_last, ArePacked, IsFront, SameBefore, LieApart}
+use Rattle.qg_space.specs.Lying.{extents_of, end_of, end_of_last, ArePacked, IsPackedFront, SameBefore, LieApart}
 
 pub whole_at : (sizes : Sizes) (from : ℕ) (runs : List Run) (k : ℕ) (d : Run) → LieApart sizes from runs
     → k < length runs
@@ -34,7 +34,7 @@ packed_part from (suc count) (extent ∷ extents) packed = (packed.0, packed_par
 
 -- fewer runs are packed too, also after an edit behind them
 pub front_kept : (old new : List Run) (packed place count : ℕ) → count ≤ packed → count ≤ place
-    → SameBefore place old new → IsFront old packed → IsFront new count
+    → SameBefore place old new → IsPackedFront old packed → IsPackedFront new count
 front_kept old new packed place count few before same front = record {
   within = omega (arith, before, same.within);
   packed =
@@ -44,7 +44,7 @@ front_kept old new packed place count few before same front = record {
       (packed_part data_begin count (take packed (extents_of old)) front.packed);
 }
 
-pub no_front : (runs : List Run) → IsFront runs 0
+pub no_front : (runs : List Run) → IsPackedFront runs 0
 no_front runs = record { within = omega arith; packed = tt }
 
 pub one_more_packed : (from : ℕ) (extents : List Element) (extent : Element) → ArePacked from extents
@@ -55,8 +55,8 @@ one_more_packed from (first ∷ later) extent packed is =
 
 -- one run more is packed, where it begins at the end of the others
 pub front_more : (runs : List Run) (count : ℕ) (run : Run) → count < length runs → run ≡ get_or runs count run
-    → IsFront runs count
-    → run.extent.address ≡ end_of_last data_begin (take count (extents_of runs)) → IsFront runs (count + 1)
+    → IsPackedFront runs count
+    → run.extent.address ≡ end_of_last data_begin (take count (extents_of runs)) → IsPackedFront runs (count + 1)
 front_more runs count run short is front next =
     let extents = extents_of runs in
     let here : get_or extents count run.extent ≡ run.extent =

@@ -13,7 +13,7 @@ use Rattle.qg_image.specs.declared.element.Element.{Element}
 use Rattle.qg_image.specs.Space.{overlaps}
 use Rattle.qg_space.specs.Run.{Run}
 use Rattle.qg_space.specs.Holding.{is_clear, first_clear}
-use Rattle.qg_space.specs.Lying.{extents_of, end_of, end_of_last, ArePacked, IsFront, LieApart}
+use Rattle.qg_space.specs.Lying.{extents_of, end_of, end_of_last, ArePacked, IsPackedFront, LieApart}
 use Rattle.qg_space.proofs.Places.{end_aligned, apart_after, apart_before, overlaps_both}
 use Rattle.qg_space.proofs.Least.{least_none, least_some, least_alike}
 
@@ -241,7 +241,7 @@ packed_passed sizes runs (run ∷ rest) (suc count) bytes from some passed packe
     (one_more_passed sizes runs run rest bytes from passed (omega (arith, some, packed.0))) packed.1
 
 pub front_passed : (sizes : Sizes) (runs : List Run) (packed bytes : ℕ) → 0 < bytes → LieApart sizes data_begin runs
-    → IsFront runs packed
+    → IsPackedFront runs packed
     → ArePassed sizes runs (drop packed runs) bytes (end_of_last data_begin (take packed (extents_of runs)))
 front_passed sizes runs packed bytes some apart front = packed_passed sizes runs runs packed bytes data_begin some
     (none_passed sizes runs bytes apart) front.packed

@@ -6,7 +6,7 @@ use Rattle.std.proofs.lemmas.Bool.{cases_lt}
 use Rattle.qg_super.specs.Places.{data_begin}
 use Rattle.qg_image.specs.declared.element.Element.{Element}
 use Rattle.qg_space.specs.Run.{Run}
-use Rattle.qg_space.specs.Lying.{extents_of, run_of_both, end_of, end_of_last, ArePacked, IsFront}
+use Rattle.qg_space.specs.Lying.{extents_of, run_of_both, end_of, end_of_last, ArePacked, IsPackedFront}
 use Rattle.qg_space.proofs.Fronts.{one_more_packed}
 
 -- so many extents were walked over. The first ones, so many, are packed and end here, and the next one of those begins
@@ -87,7 +87,7 @@ extents_of_both (extent ∷ extents) = ap (λ (later : List Element). extent ∷
 
 -- so as many runs are packed as extents
 pub walk_front : (extents : List Element) (runs : List Run) (walked count here : ℕ) → walked ≤ length extents
-    → runs ≡ map run_of_both extents → PackedWalk extents walked count here → IsFront runs count
+    → runs ≡ map run_of_both extents → PackedWalk extents walked count here → IsPackedFront runs count
 walk_front extents runs walked count here few is walk = record {
   within = omega (arith, walk.within, ap length is, length-map extents run_of_both);
   packed = subst (λ (e : List Element). ArePacked data_begin (take count e))

@@ -62,7 +62,7 @@ end_of_last from [] = from
 end_of_last from (extent ∷ extents) = end_of_last (end_of extent) extents
 
 -- the first runs, so many, follow one another from the begin of the data area on
-pub record IsFront (runs : List Run) (count : ℕ) : Type 0 where
+pub record IsPackedFront (runs : List Run) (count : ℕ) : Type 0 where
   pub within : count ≤ length runs
   pub packed : ArePacked data_begin (take count (extents_of runs))
 
@@ -104,7 +104,7 @@ holding_of sizes runs slots = record {
 pub record IsSound (sizes : Sizes) (runs : List Run) (packed : ℕ) (slots : List Slot) (unused first : ℕ) : Type 0 where
   pub served : IsTrue (is_served sizes)
   pub apart : LieApart sizes data_begin runs
-  pub front : IsFront runs packed
+  pub front : IsPackedFront runs packed
   pub all : length slots ≡ sizes.slots
   pub counted : unused ≡ count_by is_unused slots
   pub used : AllWithin (λ slot. is_unused slot ≡ false) slots 0 first

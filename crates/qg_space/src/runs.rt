@@ -11,7 +11,7 @@ ghost use Rattle.qg_space.specs.Run.{Run};
 ghost use Rattle.qg_space.specs.Holding.{AscendApart, is_clear, first_clear, is_that_run, with_run, without_run};
 ghost use Rattle.qg_space.specs.Holding.{without_runs};
 ghost use Rattle.qg_space.specs.Lying.{LieApart, extents_of, present_of, held_of, given_back, is_used, with_held};
-ghost use Rattle.qg_space.specs.Lying.{run_of_both, end_of_last, IsFront, SameBefore};
+ghost use Rattle.qg_space.specs.Lying.{run_of_both, end_of_last, IsPackedFront, SameBefore};
 
 use crate::run::Run;
 use qg_image::Element;
@@ -29,7 +29,7 @@ pub(crate) fn runs_of_both(
     requires served { IsTrue (is_served sizes.now) }
     requires apart { AscendApart sizes.now data_begin extents.now }
     ensures runs { IfOk result (λ made. made.0.items ≡ map run_of_both extents.now) }
-    ensures front { IfOk result (λ made. IsFront made.0.items made.1) }
+    ensures front { IfOk result (λ made. IsPackedFront made.0.items made.1) }
     ensures most { (extent : Element) → IfOk result (λ made. made.1 < length extents.now
         → (slice_index_or extents.now made.1 extent).address ≢ end_of_last data_begin (take made.1 extents.now)) }
 {
@@ -60,7 +60,7 @@ pub(crate) fn runs_before(runs: &[Run], at: Address) -> usize
 pub(crate) fn first_gap(sizes: &Sizes, runs: &[Run], packed: usize, bytes: u64) -> Option<Address>
     requires served { IsTrue (is_served sizes.now) }
     requires apart { LieApart sizes.now data_begin runs.now }
-    requires front { IsFront runs.now packed }
+    requires front { IsPackedFront runs.now packed }
     requires some { 0 < bytes }
     requires whole { bytes % sector ≡ 0 }
     requires few { bytes ≤ sizes.now.sectors * sector }
@@ -100,8 +100,8 @@ fn end_of_first(sizes: &Sizes, runs: &[Run], count: usize) -> u64
 pub(crate) fn packed_runs(sizes: &Sizes, runs: &[Run], known: usize) -> usize
     requires served { IsTrue (is_served sizes.now) }
     requires apart { LieApart sizes.now data_begin runs.now }
-    requires known { IsFront runs.now known }
-    ensures front { IsFront runs.now result }
+    requires known { IsPackedFront runs.now known }
+    ensures front { IsPackedFront runs.now result }
     ensures most { (run : Run) → result < length runs.now
         → (slice_index_or runs.now result run).extent.address ≢ end_of_last data_begin
         (take result (extents_of runs.now)) }
@@ -167,12 +167,12 @@ pub(crate) fn take_out_runs(
 ) -> usize
     requires served { IsTrue (is_served sizes.now) }
     requires apart { LieApart sizes.now data_begin runs.old.items }
-    requires front { IsFront runs.old.items packed }
+    requires front { IsPackedFront runs.old.items packed }
     requires there { All (Contains (present_of runs.old.items)) extents.now }
     ensures apart { LieApart sizes.now data_begin runs.new.items }
     ensures present { present_of runs.new.items ≡ without_runs extents.now (present_of runs.old.items) }
     ensures held { held_of runs.new.items ≡ held_of runs.old.items }
-    ensures front { IsFront runs.new.items result }
+    ensures front { IsPackedFront runs.new.items result }
 {
     match extents {
         [] => packed,

@@ -24,7 +24,7 @@ use Rattle.qg_crashes.proofs.Outcomes.{chain_survives}
 use Rattle.qg_crashes.proofs.SameStates.{sound_places}
 use Rattle.qg_crashes.proofs.Slots.{with_events-append}
 use Rattle.qg_crashes.proofs.States.{mirrors_the_new_state}
-use Rattle.qg_kept_commit.specs.Calls.{IsFront, commit_calls, with_commit}
+use Rattle.qg_kept_commit.specs.Calls.{IsFrontOfCalls, commit_calls, with_commit}
 use Rattle.qg_kept_commit.proofs.CallEvents.{calls_are_whole, calls_write}
 use Rattle.qg_store.specs.Crashes.{LeavesOneOf, last_commit}
 use Rattle.qg_kept_commit.specs.Making.{BringsTo, Makes}
@@ -40,16 +40,16 @@ abbrev pub MakesSoFar : Committed → List State → List Event → List Event �
 MakesSoFar held [] before after = after ≡ before
 MakesSoFar held (state ∷ []) before after =
     (super : Super) × (nodes : List Node) × BringsTo held state before super nodes
-    × IsFront (commit_calls super nodes) before after
+    × IsFrontOfCalls (commit_calls super nodes) before after
 MakesSoFar held (state ∷ next ∷ states) before after =
     (super : Super) × (nodes : List Node) × BringsTo held state before super nodes
     × MakesSoFar state.held (next ∷ states) (with_commit super nodes before) after
 
 whole-front : (super : Super) (nodes : List Node) (events : List Event)
-    → IsFront (commit_calls super nodes) events (with_commit super nodes events)
+    → IsFrontOfCalls (commit_calls super nodes) events (with_commit super nodes events)
 whole-front super nodes events =
     let made = all-made super nodes events in
-    subst (λ (after : List Event). IsFront (commit_calls super nodes) events after)
+    subst (λ (after : List Event). IsFrontOfCalls (commit_calls super nodes) events after)
     (sym (same_Recorded (with_commit super nodes events) made.after made.told)) made.front
 
 -- a commit was made, and then others came so far
@@ -58,7 +58,7 @@ one-then : (held : Committed) (state : State) (states : List State) (super : Sup
     → MakesSoFar state.held states (with_commit super nodes before) after
     → MakesSoFar held (state ∷ states) before after
 one-then held state [] super nodes before after brings rest =
-    let front = subst (λ (events : List Event). IsFront (commit_calls super nodes) before events) (sym rest)
+    let front = subst (λ (events : List Event). IsFrontOfCalls (commit_calls super nodes) before events) (sym rest)
     (whole-front super nodes before) in
     (super, nodes, brings, front)
 one-then held state (next ∷ states) super nodes before after brings rest = (super, nodes, brings, rest)
@@ -107,7 +107,7 @@ sizes-told state image stands = ap (λ (s : State). s.sizes) stands.stands ∙ s
 module _ (old new : State) (before : List Event) (super : Super) (nodes : List Node) (after : List Event)
     (was : IsMirrored old (content before)) (later : old.generation < new.generation) (sizes : new.sizes ≡ old.sizes)
     (brings : BringsTo old.held new (Synced ∷ before) super nodes)
-    (front : IsFront (commit_calls super nodes) (Synced ∷ before) after) where
+    (front : IsFrontOfCalls (commit_calls super nodes) (Synced ∷ before) after) where
   same-sizes : sizes_of was.stands.super ≡ sizes_of super
   same-sizes = sym (sizes-told old (content before) was.stands) ∙ sym sizes ∙ sym brings.sizes
 
@@ -167,7 +167,7 @@ module _ (old : State) (first : Commit) (before : List Event) (was : IsMirrored 
   replaces =
       let front = whole-front first.super first.nodes (Synced ∷ before) in
       replacing old first.state before first.super first.nodes (Synced ∷ behind first before) was later sizes brings
-      (subst (λ (events : List Event). IsFront (commit_calls first.super first.nodes) (Synced ∷ before) events)
+      (subst (λ (events : List Event). IsFrontOfCalls (commit_calls first.super first.nodes) (Synced ∷ before) events)
       (whole-calls before first) front)
 
   mirrored : IsMirrored first.state (content (behind first before))

@@ -20,10 +20,10 @@ use Rattle.qg_refs.specs.declared.kept.Kept.{Kept}
 use Rattle.qg_extents.specs.Table.{book_of}
 use Rattle.qg_descent.specs.Tree.{Reaches, Root}
 use Rattle.qg_tree_refs.specs.declared.tree_refs.TreeRefs.{TreeRefs}
-use Rattle.qg_forest.specs.Standing.{HoldsState, root_of, tree_of}
-use Rattle.qg_forest.proofs.Extents.{apart-held, node-met}
-use Rattle.qg_forest.proofs.Meeting.{each-there, root-low}
-use Rattle.qg_forest.proofs.Roots.{root_of-value, root_level-value}
+use Rattle.qg_drop.specs.Standing.{HoldsState, root_of, tree_of}
+use Rattle.qg_drop.proofs.Extents.{apart-held, node-met}
+use Rattle.qg_drop.proofs.Meeting.{each-there, root-low}
+use Rattle.qg_drop.proofs.Roots.{root_of-value, root_level-value}
 use Rattle.qg_drop.proofs.Whole.{root-leads}
 use Rattle.qg_survey.specs.Surveying.{AreRead, EndTrees, GoesOn, HasBelow, LeadsOn, MarksNodes, link_at, trees_of}
 use Rattle.qg_survey.proofs.Ordered.{few-read, key-has, key-of}

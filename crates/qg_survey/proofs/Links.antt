@@ -34,9 +34,9 @@ use Rattle.qg_descent.specs.Branch.{IsBranch}
 use Rattle.qg_descent.specs.Tree.{Reaches}
 use Rattle.qg_descent.proofs.Branches.{branch-below, branch-top}
 use Rattle.qg_tree_refs.specs.declared.tree_refs.TreeRefs.{TreeRefs}
-use Rattle.qg_forest.specs.Standing.{HoldsState}
-use Rattle.qg_forest.proofs.Extents.{AreApart, among-one, apart-held, branch-whole, extents-held, node-met}
-use Rattle.qg_forest.proofs.Meeting.{each-there, met-child, met-there, placed-there, root-met}
+use Rattle.qg_drop.specs.Standing.{HoldsState}
+use Rattle.qg_drop.proofs.Extents.{AreApart, among-one, apart-held, branch-whole, extents-held, node-met}
+use Rattle.qg_drop.proofs.Meeting.{each-there, met-child, met-there, placed-there, root-met}
 
 -- what is reached from a branch is the top of a branch, of its own level
 branch-reached : (super : Super) (nodes : ℕ → Option Node) (level from : ℕ) (items : List Item)

@@ -31,7 +31,7 @@ use Rattle.qg_descent.specs.Way.{IsVisited}
 use Rattle.qg_descent.specs.declared.way.Way.{Way}
 use Rattle.qg_descent.proofs.BranchWalk.{top-under}
 use Rattle.qg_descent.proofs.Under.{IsUnder, level-told}
-use Rattle.qg_forest.proofs.Meeting.{placed-there}
+use Rattle.qg_drop.proofs.Meeting.{placed-there}
 use Rattle.qg_drop.specs.Counting.{LeadsToBranch, TellsNodes, ways_told}
 use Rattle.qg_survey.specs.Surveying.{Adds, AreRead, EndBelow, EndsBelow, GoesOn, HasBelow, MarksNodes, link_at}
 use Rattle.qg_survey.proofs.Reading.{adds-higher, adds-none, adds-on, below-read, no-children, put-adds, put-below}

@@ -11,7 +11,7 @@ use Rattle.qg_direct.specs.Surveyed.{surveyed_of}
 use Rattle.qg_direct.specs.declared.surveyed.Surveyed.{Surveyed}
 use Rattle.qg_descent.specs.Tree.{Reaches, Root}
 use Rattle.qg_descent.specs.declared.way.Way.{Way}
-use Rattle.qg_forest.specs.Standing.{tree_of}
+use Rattle.qg_drop.specs.Standing.{tree_of}
 use Rattle.qg_drop.specs.Counting.{LeadsToBranch}
 
 -- what was read of the node at an address

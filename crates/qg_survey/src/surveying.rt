@@ -10,7 +10,7 @@ ghost use Rattle.qg_extents.specs.Table.{book_of};
 ghost use Rattle.qg_direct.specs.Surveyed.{surveyed_of};
 ghost use Rattle.qg_descent.specs.Way.{HasRead, IsReadable};
 ghost use Rattle.qg_tree_edits.specs.Editing.{IsEditable};
-ghost use Rattle.qg_forest.specs.Standing.{HoldsState};
+ghost use Rattle.qg_drop.specs.Standing.{HoldsState};
 ghost use Rattle.qg_drop.specs.Counting.{LeadsToBranch, TellsNodes};
 ghost use Rattle.qg_survey.specs.Surveying.{
   AreRead,

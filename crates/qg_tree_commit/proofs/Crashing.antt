@@ -34,7 +34,7 @@ use Rattle.qg_crashes.proofs.Slots.{other_slots_stay, slots_are_settled, stays_a
 use Rattle.qg_refs.specs.declared.kept.Kept.{Kept}
 use Rattle.qg_blocks.specs.Held.{Draft}
 use Rattle.qg_tree.specs.Row.{address_of}
-use Rattle.qg_commit.specs.Calls.{IsFront, MadeFront, commit_calls}
+use Rattle.qg_commit.specs.Calls.{IsFrontOfCalls, MadeFront, commit_calls}
 use Rattle.qg_commit.specs.CallEvents.{MakingCalls}
 use Rattle.qg_commit.proofs.CallEvents.{calls_are_whole, calls_write}
 use Rattle.qg_commit.specs.Types.{OtherTrees}
@@ -79,7 +79,7 @@ module _ (sizes : Sizes) (generation : ℕ) (roots : List (ℕ × RootItem)) (bo
     (are_slots : (slot : ℕ) → Contains slots slot → IsTrue (is_slot sizes slot)) (old : State)
     (before after : List Event)
     (found : IsFound old sizes generation slots draft (content before))
-    (so_far : IsFront (commit_calls trees.superblock (nodes_written draft trees)) (Synced ∷ before) after) where
+    (so_far : IsFrontOfCalls (commit_calls trees.superblock (nodes_written draft trees)) (Synced ∷ before) after) where
   abbrev super : Super
   super = trees.superblock
 
@@ -235,7 +235,7 @@ leaves_trees sizes generation told slots draft trees laying writable are_slots o
     let both : Recorded made.after ≡ Recorded after = sym made.told ∙ now in
     let same : made.after ≡ after = cc in
     let calls = commit_calls trees.superblock (nodes_written draft trees) in
-    let front = subst (λ (events : List Event). IsFront calls (Synced ∷ before) events) same made.front in
+    let front = subst (λ (events : List Event). IsFrontOfCalls calls (Synced ∷ before) events) same made.front in
     record {
       trees = trees;
       is = laying;

@@ -1,5 +1,5 @@
 // A commit.
-ghost use Rattle.std.specs.Prelude.{◌≡◌, ◌⊎◌, ◌≤◌, ◌∷◌, List, All, IfOk, IfErr, IsTrue};
+ghost use Rattle.std.specs.Prelude.{◌≡◌, ◌⊎◌, ◌≤◌, ◌∷◌, false, List, All, IfOk, IfErr, IsErrOf, IsTrue};
 ghost use Rattle.qg_device.specs.Cause.{HasCause};
 ghost use Rattle.qg_device.specs.History.{Event, Recorded, Synced, history_after, content};
 ghost use Rattle.qg_super.specs.Places.{is_slot, total_bytes};
@@ -55,7 +55,9 @@ pub fn commit<D: Disk>(
         → (after ≡ Synced ∷ before)
         ⊎ LeavesTrees state sizes next told.now slots.now blocks.now.draft before after }
 
-    // Over any disk.
+    // Over any disk. What it needs of memory is there before its first call: where memory is refused though the disk
+    // takes none, that is as it was.
+    ensures memory { D.takes_memory ≡ false → IsErrOf result BlockFault.NoMemory → disk.new ≡ disk.old }
     ensures no_less { D.size disk.old ≤ D.size disk.new }
     ensures no_image { IfErr result (λ fault. (fault ≡ BlockFault.Disk) ⊎ (fault ≡ BlockFault.NoMemory)) }
     ensures cause { HasCause BlockFault.Disk (D.faults disk.old) (D.faults disk.new) result }

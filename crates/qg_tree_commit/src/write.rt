@@ -1,5 +1,5 @@
 // The device calls of a commit.
-ghost use Rattle.std.specs.Prelude.{◌≡◌, ◌≤◌, List, length, All, IfErr, OnOk, IsTrue};
+ghost use Rattle.std.specs.Prelude.{◌≡◌, ◌≤◌, List, length, All, IfErr, IsErrOf, OnOk, IsTrue};
 ghost use Rattle.std.specs.List.{AllByRecursion};
 ghost use Rattle.std.specs.List.Sorted.{IsStrictlySortedBy};
 ghost use Rattle.std.specs.Map.{keys_of};
@@ -43,6 +43,7 @@ fn write_fresh<D: Disk>(
         → MadeFront (node_calls (length buffer.old) (fresh_nodes blocks.now.draft)) events (D.history disk.new) }
     ensures read { OnOk result (All (IsReadBack (length buffer.old)) (fresh_nodes blocks.now.draft)) }
     ensures no_less { D.size disk.old ≤ D.size disk.new }
+    ensures memory { IsErrOf result DiskFault.NoMemory → IsTrue D.takes_memory }
     ensures cause { HasCause DiskFault.Failed (D.faults disk.old) (D.faults disk.new) result }
 {
     for address in addresses {
@@ -78,6 +79,7 @@ pub(crate) fn write_all<D: Disk>(
         (D.history disk.new)) }
     ensures read { OnOk result (All (IsReadBack (length buffer.old)) (fresh_nodes blocks.now.draft)) }
     ensures no_less { D.size disk.old ≤ D.size disk.new }
+    ensures memory { IsErrOf result DiskFault.NoMemory → IsTrue D.takes_memory }
     ensures cause { HasCause DiskFault.Failed (D.faults disk.old) (D.faults disk.new) result }
 {
     write_fresh(disk, blocks, addresses, buffer)?;

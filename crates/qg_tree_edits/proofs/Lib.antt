@@ -1,3 +1,15 @@
+pub use Rattle.qg_descent.proofs.BranchApart
+pub use Rattle.qg_descent.proofs.BranchForms
+pub use Rattle.qg_descent.proofs.BranchFrames
+pub use Rattle.qg_descent.proofs.BranchItems
+pub use Rattle.qg_descent.proofs.BranchOrder
+pub use Rattle.qg_descent.proofs.BranchRanges
+pub use Rattle.qg_descent.proofs.BranchWalk
+pub use Rattle.qg_descent.proofs.Branches
+pub use Rattle.qg_descent.proofs.Frames
+pub use Rattle.qg_descent.proofs.Under
+pub use Rattle.qg_edit.proofs.Leaves
+pub use Rattle.qg_ground.proofs.Lands
 pub mod Leading
 pub mod Spliced
 pub mod Settled

@@ -6,7 +6,7 @@ use Rattle.std.proofs.lemmas.Bool.{or_left}
 use Rattle.std.proofs.lemmas.List.Folds.{list_any-append}
 use Rattle.qg_image.specs.Record.{Record, record_bytes, records_bytes, same_record}
 use Rattle.qg_refs.specs.Book.{Book}
-use Rattle.qg_extents.specs.Table.{IsTable, book_of}
+use Rattle.qg_weighed.specs.Table.{IsTable, book_of}
 use Rattle.qg_weighed.specs.Laws.{is_among}
 use Rattle.qg_weighed.specs.Weight.{records_in, weight_of}
 use Rattle.qg_weighed.proofs.Recorded.{Table, recorded, records-say}

@@ -6,8 +6,8 @@ use Rattle.std.specs.BTreeMap.{is_at}
 use Rattle.std.specs.Map.{lookup, remove_entry}
 use Rattle.qg_device.specs.History.{History, Unrecorded}
 use Rattle.qg_node.specs.declared.node.Node.{Node}
-use Rattle.qg_blocks.specs.Held.{Draft}
-use Rattle.qg_blocks.specs.Told.{IsBacked, fresh_at, held_at, told}
+use Rattle.qg_ground.specs.Held.{Draft}
+use Rattle.qg_ground.specs.Told.{IsBacked, fresh_at, held_at, told}
 use Rattle.qg_space.specs.Holding.{Holding, without_slot}
 use Rattle.qg_ground.specs.declared.ground.Ground.{Ground}
 use Rattle.qg_ground.specs.Land.{IsDrafted, Rests}

@@ -23,12 +23,12 @@ use Rattle.qg_cow.specs.declared.cases.Leaving.TheVariants.{Goes, TurnsFull, Sta
 use Rattle.qg_cow.specs.Children.{keyed_children, owner_of, shared_children, way_to}
 use Rattle.qg_cow.specs.Copying.{children_gain, copy_losses}
 use Rattle.qg_cow.specs.Left.{leaving_losses}
-use Rattle.qg_blocks.specs.Told.{fresh_at}
+use Rattle.qg_ground.specs.Told.{fresh_at}
 use Rattle.qg_space.specs.Holding.{Holding, has_slot}
 use Rattle.qg_ground.specs.declared.ground.Ground.{Ground}
 use Rattle.qg_refs.specs.declared.kept.What.{What}
 use Rattle.qg_refs.specs.Book.{IsBook, references_at, what_in}
-use Rattle.qg_extents.specs.Table.{book_of}
+use Rattle.qg_weighed.specs.Table.{book_of}
 use Rattle.qg_tree_refs.specs.declared.tree_refs.TreeRefs.{TreeRefs}
 use Rattle.qg_tree_refs.specs.Exchange.{Exchange, Exchanges, times, what_comes}
 use Rattle.qg_tree_refs.specs.Following.{comes, copying_in, exchange_by_copy, exchange_by_leaving, leaving_in}

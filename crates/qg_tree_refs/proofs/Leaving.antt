@@ -20,7 +20,7 @@ use Rattle.qg_refs.specs.declared.kept.What.{What}
 use Rattle.qg_refs.specs.Book.{Book, count_at, references_at, what_in}
 use Rattle.qg_refs.specs.Counts.{count_of, counted}
 use Rattle.qg_refs.proofs.Counting.{count-cons, count-nil}
-use Rattle.qg_extents.specs.Table.{IsTable, book_of}
+use Rattle.qg_weighed.specs.Table.{IsTable, book_of}
 use Rattle.qg_tree_refs.specs.declared.tree_refs.TreeRefs.{TreeRefs}
 use Rattle.qg_tree_refs.specs.Exchange.{Exchange, Exchanges, times}
 use Rattle.qg_tree_refs.specs.Following.{exchange_by_leaving, is_of_level, leaving_in, other_level, placed_by}

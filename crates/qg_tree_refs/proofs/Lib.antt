@@ -1,3 +1,4 @@
+pub use Rattle.qg_owed.proofs.Filters
 pub mod Times
 pub mod Gains
 pub mod Losses

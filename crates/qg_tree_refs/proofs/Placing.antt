@@ -17,7 +17,7 @@ use Rattle.qg_cow.specs.declared.cases.Edits.{Edits}
 use Rattle.qg_cow.specs.declared.cases.Edits.TheVariants.{ShareOld, AddKeyed, TurnKeyed, TakeOver}
 use Rattle.qg_cow.specs.Children.{keyed_children, shared_children, way_to}
 use Rattle.qg_cow.specs.Copying.{children_gain, children_lose, copy_losses}
-use Rattle.qg_blocks.specs.Told.{fresh_at, held_at, told}
+use Rattle.qg_ground.specs.Told.{fresh_at, held_at, told}
 use Rattle.qg_space.specs.Holding.{Holding, has_slot, without_slot}
 use Rattle.qg_space.proofs.Members.{Contains-has_slot, Contains-with_number, Contains-without_slot}
 use Rattle.qg_ground.specs.declared.ground.Ground.{Ground}
@@ -27,7 +27,7 @@ use Rattle.qg_refs.specs.declared.counted.Counted.{Counted}
 use Rattle.qg_refs.specs.declared.kept.What.{What}
 use Rattle.qg_refs.specs.declared.kept.Kept.{Kept}
 use Rattle.qg_refs.specs.Book.{Book, IsBook, count_at, references_at, references_in, what_in}
-use Rattle.qg_extents.specs.Table.{book_of}
+use Rattle.qg_weighed.specs.Table.{book_of}
 use Rattle.qg_tree_refs.specs.declared.coming.Coming.{Coming}
 use Rattle.qg_tree_refs.specs.declared.tree_refs.TreeRefs.{TreeRefs}
 use Rattle.qg_tree_refs.specs.Exchange.{Exchange, Exchanges, IsNew, times, what_comes, ways_to}

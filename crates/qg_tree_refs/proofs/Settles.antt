@@ -8,8 +8,8 @@ use Rattle.qg_node.specs.declared.node.Node.{Node}
 use Rattle.qg_node.specs.declared.node.Node.TheVariants.{Leaf, Inner}
 use Rattle.qg_node.specs.Nodes.{header_of, own_items, own_pointers}
 use Rattle.qg_image.specs.Table.{with_number}
-use Rattle.qg_blocks.specs.Held.{Draft, Held}
-use Rattle.qg_blocks.specs.Told.{clean_at, first_of, fresh_at, held_at}
+use Rattle.qg_ground.specs.Held.{Draft, Held}
+use Rattle.qg_ground.specs.Told.{clean_at, first_of, fresh_at, held_at}
 use Rattle.qg_space.specs.Holding.{Holding}
 use Rattle.qg_ground.specs.declared.ground.Ground.{Ground}
 use Rattle.qg_ground.specs.Changes.{PutsFresh}
@@ -17,7 +17,7 @@ use Rattle.qg_ground.specs.Tellings.{Empties, HoldsNothing, IsCopyAt, Telling, n
 use Rattle.qg_ground.specs.Tellings.Telling.{Copied, Made, Left}
 use Rattle.qg_refs.specs.declared.kept.What.{What}
 use Rattle.qg_refs.specs.Book.{what_in}
-use Rattle.qg_extents.specs.Table.{IsTable, book_of}
+use Rattle.qg_weighed.specs.Table.{IsTable, book_of}
 use Rattle.qg_tree_refs.specs.declared.tree_refs.TreeRefs.{TreeRefs}
 use Rattle.qg_tree_refs.specs.Exchange.{Exchanges}
 use Rattle.qg_tree_refs.specs.Following.{Step, coming_of, exchange_of, other_level, references_to}

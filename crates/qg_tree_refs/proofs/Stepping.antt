@@ -6,7 +6,7 @@ use Rattle.qg_image.specs.Owed.{Owing}
 use Rattle.qg_ground.specs.Tellings.{Telling}
 use Rattle.qg_ground.specs.Tellings.Telling.{Copied, Made, Left}
 use Rattle.qg_refs.specs.declared.kept.Kept.{Kept}
-use Rattle.qg_extents.specs.Table.{book_of}
+use Rattle.qg_weighed.specs.Table.{book_of}
 use Rattle.qg_owed.specs.declared.owing.Owing.{Owing as Listed}
 use Rattle.qg_owed.specs.Told.{owings_told}
 use Rattle.qg_tree_refs.specs.declared.coming.Coming.{Coming}

@@ -15,7 +15,7 @@ use Rattle.qg_cow.specs.Left.{leaving_gains}
 use Rattle.qg_ground.specs.Tellings.{Telling}
 use Rattle.qg_ground.specs.Tellings.Telling.{Copied, Made, Left}
 use Rattle.qg_refs.specs.declared.kept.What.{What}
-use Rattle.qg_extents.specs.Table.{IsTable, book_of}
+use Rattle.qg_weighed.specs.Table.{IsTable, book_of}
 use Rattle.qg_tree_refs.specs.declared.tree_refs.TreeRefs.{TreeRefs}
 use Rattle.qg_tree_refs.specs.Exchange.{Exchanges, ways_to}
 use Rattle.qg_tree_refs.specs.Following.{Follows, Step, coming_of, copying_in, exchange_of, leaving_in, placed_by}

@@ -10,7 +10,7 @@ use Rattle.qg_refs.specs.Book.{Adds, Book, Drops, references_in, what_in}
 use Rattle.qg_refs.specs.Counts.{count_of}
 use Rattle.qg_refs.proofs.Counting.{count-nil}
 use Rattle.qg_refs.proofs.RankOrder.{same_itself}
-use Rattle.qg_extents.specs.Table.{IsTable, book_of}
+use Rattle.qg_weighed.specs.Table.{IsTable, book_of}
 use Rattle.qg_weighed.specs.Weight.{extent_record_bytes, reference_bytes}
 use Rattle.qg_weighed.proofs.Recorded.{Table, adds-grows, drops-grows}
 use Rattle.qg_tree_refs.specs.Exchange.{Exchange, Exchanges}

@@ -6,7 +6,7 @@ use Rattle.qg_ground.specs.Tellings.{Telling}
 use Rattle.qg_refs.specs.declared.kept.What.{What}
 use Rattle.qg_refs.specs.declared.kept.Kept.{Kept}
 use Rattle.qg_refs.specs.Book.{Adds, Drops}
-use Rattle.qg_extents.specs.Table.{IsTable, book_of}
+use Rattle.qg_weighed.specs.Table.{IsTable, book_of}
 use Rattle.qg_weighed.specs.Weight.{extent_record_bytes, reference_bytes, weight_of}
 use Rattle.qg_tree_refs.specs.declared.tree_refs.TreeRefs.{TreeRefs}
 use Rattle.qg_tree_refs.specs.Exchange.{Exchange, Exchanges}

@@ -1,3 +1,4 @@
+pub use Rattle.qg_weighed.specs.Weight
 pub mod TreeBook
 pub mod Exchange
 pub mod Following
@@ -6,3 +7,4 @@ pub mod Lasting
 pub mod Heavier
 pub mod Laws
 pub mod Need
+pub mod Types

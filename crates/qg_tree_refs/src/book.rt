@@ -4,20 +4,20 @@ ghost use Rattle.qg_device.specs.Cause.{HasCause};
 ghost use Rattle.qg_device.specs.History.{History};
 ghost use Rattle.qg_node.specs.declared.node.Node.{Node as NodeValue};
 ghost use Rattle.qg_node.specs.Nodes.{header_of};
-ghost use Rattle.qg_blocks.specs.Told.{BreaksNone, IsBacked, fresh_at, held_at, told};
+ghost use Rattle.qg_ground.specs.Told.{BreaksNone, IsBacked, fresh_at, held_at, told};
 ghost use Rattle.qg_space.specs.Holding.{without_slot};
 ghost use Rattle.qg_ground.specs.Land.{IsDrafted, Rests};
 ghost use Rattle.qg_ground.specs.Tellings.{GivesBack, LetsGo};
 ghost use Rattle.qg_refs.specs.Book.{references_at};
-ghost use Rattle.qg_extents.specs.Table.{book_of};
+ghost use Rattle.qg_weighed.specs.Table.{book_of};
 
 use crate::TreeRefs;
-use qg_blocks::Blocks;
 use qg_disk::Disk;
-use qg_extents::Extents;
+use qg_ground::blocks::Blocks;
 use qg_ground::{Book, Ground};
 use qg_num::{Address, BlockFault, Steps};
 use qg_space::Space;
+use qg_weighed::extents::Extents;
 use std::sync::ledger::Ledger;
 
 /// Reads the node at an address, and whether it is in memory then. One that breaks a rule is not.
@@ -94,7 +94,7 @@ impl<D: Disk, L: Ledger> Book<D, L> for TreeRefs {
     ghost use Rattle.std.specs.Prelude.{◌≡◌, ⊤, None, length, nat_lt};
     ghost use Rattle.std.proofs.Common.{subst, sym};
     ghost use Rattle.qg_refs.specs.Book.{references_at};
-    ghost use Rattle.qg_extents.specs.Table.{book_of};
+    ghost use Rattle.qg_weighed.specs.Table.{book_of};
     ghost use Rattle.qg_tree_refs.specs.Following.{Follows};
     ghost use Rattle.qg_tree_refs.specs.Settled.{IsSettled};
     ghost use Rattle.qg_tree_refs.specs.Lasting.{settled_still};

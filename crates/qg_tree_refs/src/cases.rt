@@ -2,18 +2,18 @@
 ghost use Rattle.std.specs.Prelude.{◌≡◌, ◌<◌, ◌∷◌, ◌++◌, [], IfOk, IfSome, None, OnOk, length};
 ghost use Rattle.qg_cow.specs.Children.{keyed_children, way_to};
 ghost use Rattle.qg_refs.specs.Book.{references_at};
-ghost use Rattle.qg_extents.specs.Table.{book_of};
+ghost use Rattle.qg_weighed.specs.Table.{book_of};
 ghost use Rattle.qg_owed.specs.Told.{owings_told};
 ghost use Rattle.qg_tree_refs.specs.Exchange.{exchange_told};
 ghost use Rattle.qg_tree_refs.specs.Following.{exchange_by_copy, exchange_by_leaving, exchange_by_parting, parting_in};
 
 use crate::lists::Lists;
 use qg_cow::{Edits, Leaving, edits, leaving};
-use qg_extents::Extents;
 use qg_node::{Header, Node};
 use qg_num::{Address, NoMemory, RootId};
 use qg_owed::{Owing, owings_of_node, owings_under};
 use qg_refs::Reference;
+use qg_weighed::extents::Extents;
 use std::alloc::Global;
 
 /// The lists of a tree that no more has its reference to an address; nothing else changes.

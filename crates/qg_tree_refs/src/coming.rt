@@ -1,6 +1,6 @@
 // A node that comes.
 ghost use Rattle.std.specs.Prelude.{◌≡◌, IfOk, None};
-ghost use Rattle.qg_extents.specs.Table.{book_of};
+ghost use Rattle.qg_weighed.specs.Table.{book_of};
 ghost use Rattle.qg_tree_refs.specs.Exchange.{Begins, IsNew};
 
 use qg_num::{Address, NoMemory, RootId};

@@ -1,7 +1,7 @@
 // A book of references, after some came and others went.
 ghost use Rattle.std.specs.Prelude.{◌≡◌, ◌<◌, None, IfOk, IfSome, length};
 ghost use Rattle.qg_refs.specs.Book.{references_at};
-ghost use Rattle.qg_extents.specs.Table.{book_of};
+ghost use Rattle.qg_weighed.specs.Table.{book_of};
 ghost use Rattle.qg_tree_refs.specs.Exchange.{CanExchange, Exchanges, IsMarked, exchange_told};
 
 use crate::coming::{Coming, give_first};

@@ -1,7 +1,7 @@
 // References that are given.
 ghost use Rattle.std.specs.Prelude.{◌≡◌, ◌∷◌, [], true, IfOk, None};
 ghost use Rattle.qg_refs.specs.Counts.{greatest_count};
-ghost use Rattle.qg_extents.specs.Table.{book_of};
+ghost use Rattle.qg_weighed.specs.Table.{book_of};
 ghost use Rattle.qg_owed.specs.Told.{owing_told, owings_told};
 ghost use Rattle.qg_tree_refs.specs.Exchange.{CanGive, Gives};
 

@@ -2,7 +2,7 @@
 ghost use Rattle.std.specs.Prelude.{◌≡◌, ◌<◌, true, false, IfOk, None, OnErr, nat_lt};
 ghost use Rattle.qg_refs.specs.Book.{Adds, Drops, count_at};
 ghost use Rattle.qg_refs.specs.Counts.{greatest_count};
-ghost use Rattle.qg_extents.specs.Table.{book_of};
+ghost use Rattle.qg_weighed.specs.Table.{book_of};
 
 use crate::TreeRefs;
 use crate::giving::greatest_count;

@@ -1,6 +1,6 @@
 // References that are taken.
 ghost use Rattle.std.specs.Prelude.{◌≡◌, ◌∷◌, [], true, None};
-ghost use Rattle.qg_extents.specs.Table.{book_of};
+ghost use Rattle.qg_weighed.specs.Table.{book_of};
 ghost use Rattle.qg_owed.specs.Told.{owing_told, owings_told};
 ghost use Rattle.qg_tree_refs.specs.Exchange.{CanTake, Takes};
 

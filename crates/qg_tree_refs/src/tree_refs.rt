@@ -8,10 +8,10 @@ use crate::coming::Coming;
 use crate::exchange::exchange;
 use crate::lists::Lists;
 use qg_cow::Leaving;
-use qg_extents::Extents;
 use qg_node::Node;
 use qg_num::{Address, Generation, NoMemory, RootId};
 use qg_refs::What;
+use qg_weighed::extents::Extents;
 use qg_weighed::{BookCopy, Weighed};
 use std::marker::Model;
 
@@ -42,7 +42,7 @@ impl Model for TreeRefs {
 }
 
 impl TreeRefs {
-    ghost use Rattle.qg_extents.specs.Table.{book_of};
+    ghost use Rattle.qg_weighed.specs.Table.{book_of};
     ghost use Rattle.qg_weighed.specs.Weight.{weight_of};
     ghost use Rattle.qg_refs.specs.Book.{references_at};
     ghost use Rattle.qg_tree_refs.specs.Exchange.{CanExchange, Exchanges, exchange_told};

@@ -15,6 +15,7 @@ pub use fault::OpenFault;
 pub use form::{expected_below, form_failure, is_root_shaped, takes_a_quarter};
 pub use items::add_said;
 pub use nodes::NodeList;
+pub use qg_parts as parts;
 pub use visiting::visit;
 pub use walk::walk_tree;
 pub use walked::Walked;

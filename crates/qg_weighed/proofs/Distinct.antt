@@ -11,7 +11,7 @@ use Rattle.std.proofs.lemmas.List.Sums.{sum_by-cons}
 use Rattle.qg_image.specs.Record.{Record, RootOf, ExtentOf, NodeOf, ReferenceTo, Status, InfoOf, LimitOf, RelationOf}
 use Rattle.qg_image.specs.Record.{distinct_records, record_bytes, records_bytes, same_record, same_reference}
 use Rattle.qg_weighed.specs.Laws.{is_among}
-use Rattle.qg_refs.proofs.RankOrder.{same_itself, same_reference_is}
+use Rattle.qg_extents.proofs.RankOrder.{same_itself, same_reference_is}
 
 -- ---- two records
 

@@ -20,9 +20,9 @@ use Rattle.qg_image.specs.Record.{ExtentOf, NodeOf}
 use Rattle.qg_image.specs.State.{Layout, Placed, layout_of}
 use Rattle.qg_image.proofs.Contained.{none_contained}
 use Rattle.qg_image.specs.IsFresh.{fresh_leaf, fresh_state}
-use Rattle.qg_refs.specs.declared.kept.What.{What}
-use Rattle.qg_refs.specs.declared.kept.Kept.{Kept}
-use Rattle.qg_refs.specs.Book.{what_in}
+use Rattle.qg_extents.specs.Types.{What}
+use Rattle.qg_extents.specs.Types.{Kept}
+use Rattle.qg_extents.specs.Book.{what_in}
 use Rattle.qg_extents.specs.Fresh.{fresh_root, fresh_table}
 use Rattle.qg_extents.specs.Table.{IsTable, book_of}
 use Rattle.qg_extents.proofs.FreshRecords.{fresh-owed}

@@ -4,11 +4,11 @@ use Rattle.std.proofs.Common.{ap, subst, ◌∙◌, arith}
 use Rattle.std.specs.Prelude.{◌||◌, if◌then◌else◌, is_some, nat_lt}
 use Rattle.std.proofs.lemmas.Bool.{cond-true, or_right, true≢false}
 use Rattle.qg_items.specs.declared.extent.Reference.{Reference}
-use Rattle.qg_refs.specs.declared.kept.What.{What}
-use Rattle.qg_refs.specs.declared.kept.Kept.{Kept}
-use Rattle.qg_refs.specs.Book.{Drops, references_in, what_in}
-use Rattle.qg_refs.specs.Counts.{count_of}
-use Rattle.qg_refs.proofs.Counting.{count-nil}
+use Rattle.qg_extents.specs.Types.{What}
+use Rattle.qg_extents.specs.Types.{Kept}
+use Rattle.qg_extents.specs.Book.{Drops, references_in, what_in}
+use Rattle.qg_extents.specs.Counts.{count_of}
+use Rattle.qg_extents.proofs.Counting.{count-nil}
 use Rattle.qg_extents.specs.Table.{IsTable, book_of}
 use Rattle.qg_weighed.specs.Weight.{IsWeighed, extent_record_bytes, has_record, has_reference, lacking, reference_bytes}
 use Rattle.qg_weighed.specs.Weight.{table_bytes, weight_of}

@@ -6,7 +6,7 @@ use Rattle.std.proofs.lemmas.List.Folds.{list_any-append}
 use Rattle.qg_image.specs.Need.{extent_records, held_records, present_records, quota_records, root_records, weight}
 use Rattle.qg_image.specs.Record.{Record, records_bytes, same_record}
 use Rattle.qg_image.specs.State.{State, layout_of}
-use Rattle.qg_refs.specs.declared.kept.Kept.{Kept}
+use Rattle.qg_extents.specs.Types.{Kept}
 use Rattle.qg_weighed.specs.Laws.{CountsLayout, IsRecorded, IsWeight, is_among, is_of_extents, other_records}
 use Rattle.qg_weighed.specs.Weight.{records_in, weight_of}
 use Rattle.qg_weighed.proofs.Distinct.{bytes-alike, bytes-apart, bytes-more}

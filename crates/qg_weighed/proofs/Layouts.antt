@@ -20,12 +20,12 @@ use Rattle.qg_image.specs.Record.{same_record, same_reference}
 use Rattle.qg_image.specs.State.{Layout, Placed}
 use Rattle.qg_image.proofs.Contained.{contains_cases, contains_here, contains_later, none_contained}
 use Rattle.qg_home.proofs.Reaching.{entry_of_value, value_of_entry}
-use Rattle.qg_refs.specs.declared.counted.Counted.{Counted}
-use Rattle.qg_refs.specs.declared.kept.What.{What}
-use Rattle.qg_refs.specs.declared.kept.Kept.{Kept}
-use Rattle.qg_refs.specs.Book.{references_in, what_in}
-use Rattle.qg_refs.specs.Counts.{IsRefList, count_of}
-use Rattle.qg_refs.proofs.Counting.{count-found}
+use Rattle.qg_extents.specs.Types.{Counted}
+use Rattle.qg_extents.specs.Types.{What}
+use Rattle.qg_extents.specs.Types.{Kept}
+use Rattle.qg_extents.specs.Book.{references_in, what_in}
+use Rattle.qg_extents.specs.Counts.{IsRefList, count_of}
+use Rattle.qg_extents.proofs.Counting.{count-found}
 use Rattle.qg_extents.specs.Table.{book_of}
 use Rattle.qg_weighed.specs.Laws.{CountsLayout, is_among, is_of_extents, known_at}
 use Rattle.qg_weighed.specs.Weight.{record_known, records_in}

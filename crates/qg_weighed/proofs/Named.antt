@@ -15,7 +15,7 @@ use Rattle.qg_image.specs.ItemMeaning.{extent_part, first_some, is_keyed, quota_
 use Rattle.qg_image.specs.Need.{held_records}
 use Rattle.qg_image.specs.Record.{Record, RootOf, extent_record, quota_record, record_named, same_record}
 use Rattle.qg_image.specs.State.{State}
-use Rattle.qg_refs.specs.declared.kept.Kept.{Kept}
+use Rattle.qg_extents.specs.Types.{Kept}
 use Rattle.qg_extents.specs.Table.{IsTable}
 use Rattle.qg_extents.specs.Written.{parts_of_book}
 use Rattle.qg_weighed.specs.Laws.{IsRecorded, is_among, is_of_extents}

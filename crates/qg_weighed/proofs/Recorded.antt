@@ -21,12 +21,12 @@ use Rattle.qg_items.specs.declared.extent.Reference.{Reference}
 use Rattle.qg_items.specs.declared.extent.ExtentItem.{ExtentItem}
 use Rattle.qg_image.specs.Record.{Record, RootOf, ExtentOf, NodeOf, ReferenceTo, Status, InfoOf, LimitOf, RelationOf}
 use Rattle.qg_image.specs.Record.{extent_record, same_record, same_reference}
-use Rattle.qg_refs.specs.declared.counted.Counted.{Counted}
-use Rattle.qg_refs.specs.declared.kept.What.{What}
-use Rattle.qg_refs.specs.declared.kept.Kept.{Kept}
-use Rattle.qg_refs.specs.Book.{Adds, Book, Drops, Marks, references_in, what_in}
-use Rattle.qg_refs.specs.Counts.{HasOneMore, IsRefList, count_of}
-use Rattle.qg_refs.proofs.Counting.{count-cons, count-nil}
+use Rattle.qg_extents.specs.Types.{Counted}
+use Rattle.qg_extents.specs.Types.{What}
+use Rattle.qg_extents.specs.Types.{Kept}
+use Rattle.qg_extents.specs.Book.{Adds, Book, Drops, Marks, references_in, what_in}
+use Rattle.qg_extents.specs.Counts.{HasOneMore, IsRefList, count_of}
+use Rattle.qg_extents.proofs.Counting.{count-cons, count-nil}
 use Rattle.qg_extents.specs.Table.{IsTable, book_of}
 use Rattle.qg_extents.specs.Written.{part_of, parts_of_book, parts_of_extent, record_part}
 use Rattle.qg_extents.proofs.Sayable.{entry-may}

@@ -16,7 +16,7 @@ use Rattle.qg_image.specs.Owed.{Owing, layout_extents, owed}
 use Rattle.qg_image.specs.Record.{Record, RootOf, ExtentOf, NodeOf, ReferenceTo, Status, InfoOf, LimitOf, RelationOf}
 use Rattle.qg_image.specs.Record.{extent_record, same_record}
 use Rattle.qg_image.specs.State.{Layout, Placed, State}
-use Rattle.qg_refs.specs.declared.kept.Kept.{Kept}
+use Rattle.qg_extents.specs.Types.{Kept}
 use Rattle.qg_extents.specs.Written.{parts_of_book}
 use Rattle.qg_weighed.specs.Laws.{is_among, is_of_extents}
 use Rattle.qg_weighed.specs.Weight.{records_in}

@@ -13,12 +13,12 @@ use Rattle.std.proofs.lemmas.List.Sums.{sum_by-cons}
 use Rattle.std.proofs.lemmas.Map.Keys.{sorted_tail}
 use Rattle.qg_items.specs.declared.extent.Reference.{Reference}
 use Rattle.qg_image.specs.Record.{Record, ReferenceTo, record_bytes, records_bytes, same_record}
-use Rattle.qg_refs.specs.declared.counted.Counted.{Counted}
-use Rattle.qg_refs.specs.declared.kept.What.{What}
-use Rattle.qg_refs.specs.declared.kept.Kept.{Kept}
-use Rattle.qg_refs.specs.Book.{Adds, Book, Drops, Marks, what_in}
-use Rattle.qg_refs.specs.Counts.{Ascend, IsRefList, count_of}
-use Rattle.qg_refs.proofs.Counting.{count-cons, count-found, count-nil, counted-own}
+use Rattle.qg_extents.specs.Types.{Counted}
+use Rattle.qg_extents.specs.Types.{What}
+use Rattle.qg_extents.specs.Types.{Kept}
+use Rattle.qg_extents.specs.Book.{Adds, Book, Drops, Marks, what_in}
+use Rattle.qg_extents.specs.Counts.{Ascend, IsRefList, count_of}
+use Rattle.qg_extents.proofs.Counting.{count-cons, count-found, count-nil, counted-own}
 use Rattle.qg_extents.specs.Table.{IsTable, book_of}
 use Rattle.qg_weighed.specs.Laws.{is_among}
 use Rattle.qg_weighed.specs.Weight.{extent_bytes, extent_record_bytes, has_record, has_reference, is_level_alike}

@@ -16,8 +16,8 @@ use Rattle.qg_image.specs.Record.{Record, RootOf, ExtentOf, NodeOf, ReferenceTo,
 use Rattle.qg_image.specs.Record.{records_bytes, same_record}
 use Rattle.qg_image.specs.State.{Layout, Placed, State, layout_of}
 use Rattle.qg_image.specs.IsFresh.{fresh_state}
-use Rattle.qg_refs.specs.declared.kept.Kept.{Kept}
-use Rattle.qg_refs.specs.Book.{AgreesWithOwed, Book, what_in}
+use Rattle.qg_extents.specs.Types.{Kept}
+use Rattle.qg_extents.specs.Book.{AgreesWithOwed, Book, what_in}
 use Rattle.qg_extents.specs.Fresh.{fresh_table}
 use Rattle.qg_extents.specs.Table.{IsTable, book_of}
 use Rattle.qg_extents.specs.Written.{parts_of_book}

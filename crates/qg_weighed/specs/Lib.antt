@@ -1,2 +1,3 @@
+pub use Rattle.qg_extents.specs.Table
 pub mod Weight
 pub mod Laws

@@ -5,10 +5,10 @@ use Rattle.std.specs.Prelude.{nat_lt, if◌then◌else◌}
 use Rattle.std.specs.List.{sum_by}
 use Rattle.qg_items.specs.declared.extent.Reference.{Reference}
 use Rattle.qg_image.specs.Record.{Record, ExtentOf, NodeOf, extent_record, records_bytes, reference_body}
-use Rattle.qg_refs.specs.declared.kept.What.{What}
-use Rattle.qg_refs.specs.declared.kept.Kept.{Kept}
-use Rattle.qg_refs.specs.Book.{references_in}
-use Rattle.qg_refs.specs.Counts.{count_of}
+use Rattle.qg_extents.specs.Types.{What}
+use Rattle.qg_extents.specs.Types.{Kept}
+use Rattle.qg_extents.specs.Book.{references_in}
+use Rattle.qg_extents.specs.Counts.{count_of}
 use Rattle.qg_extents.specs.Table.{IsTable}
 use Rattle.qg_extents.specs.Written.{parts_of_book}
 

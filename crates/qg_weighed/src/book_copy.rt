@@ -12,7 +12,7 @@ pub struct BookCopy {
 
 impl Model for BookCopy {
     ghost use Rattle.std.specs.Prelude.{List, ℕ};
-    ghost use Rattle.qg_refs.specs.declared.kept.Kept.{Kept};
+    ghost use Rattle.qg_extents.specs.Types.{Kept};
     ghost use Rattle.qg_weighed.specs.Weight.{IsWeighed};
 
     ghost Value = { List (ℕ × Kept) };

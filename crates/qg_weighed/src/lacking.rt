@@ -6,10 +6,10 @@ ghost use Rattle.qg_weighed.specs.Weight.{extent_record_bytes, has_record, has_r
 ghost use Rattle.qg_weighed.specs.Weight.{lacking, reference_bytes};
 
 use qg_extents::Extents;
+use qg_extents::refs::{Kept, Reference, What};
 use qg_items::{EXTENT_DATA_REF_BYTES, EXTENT_ITEM_BYTES, SHARED_DATA_REF_BYTES};
 use qg_node::ITEM_HEADER_BYTES;
 use qg_num::Address;
-use qg_refs::{Kept, Reference, What};
 
 /// What the item of a record takes: its header, and its body.
 pub(crate) const RECORD_BYTES: u64 = (ITEM_HEADER_BYTES + EXTENT_ITEM_BYTES) as u64;

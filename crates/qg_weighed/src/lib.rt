@@ -9,4 +9,5 @@ mod whole;
 
 pub use book_copy::BookCopy;
 pub use laws::weight_law;
+pub use qg_extents as extents;
 pub use weighed::Weighed;

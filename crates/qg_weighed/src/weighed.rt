@@ -1,7 +1,7 @@
 // A book of references with what it takes.
 ghost use Rattle.std.specs.Prelude.{◌≡◌, ◌<◌, length, IfOk, OnOk, OnErr};
-ghost use Rattle.qg_refs.specs.Book.{Adds, Drops, Marks, count_at, full_in, references_at, what_in};
-ghost use Rattle.qg_refs.specs.Counts.{greatest_count};
+ghost use Rattle.qg_extents.specs.Book.{Adds, Drops, Marks, count_at, full_in, references_at, what_in};
+ghost use Rattle.qg_extents.specs.Counts.{greatest_count};
 ghost use Rattle.qg_extents.specs.Table.{IsTable, book_of};
 ghost use Rattle.qg_weighed.specs.Weight.{weight_of};
 
@@ -9,8 +9,8 @@ use crate::BookCopy;
 use crate::lacking::lacking;
 use crate::whole::{plus, table_bytes};
 use qg_extents::Extents;
+use qg_extents::refs::{Reference, What};
 use qg_num::{Address, NoMemory};
-use qg_refs::{Reference, What};
 use std::marker::Model;
 
 /// A book of references beside the one that the last commit recorded, and what the items take that stand for both, each

@@ -3,8 +3,8 @@ ghost use Rattle.std.specs.Prelude.{◌≡◌, ◌+◌, IfOk};
 ghost use Rattle.qg_weighed.specs.Weight.{extent_bytes, table_bytes};
 
 use crate::lacking::{RECORD_BYTES, reference_bytes};
+use qg_extents::refs::Kept;
 use qg_num::NoMemory;
-use qg_refs::Kept;
 use std::collections::BTreeMap;
 
 /// What the items take that stand for a table. A sum that doesn't fit 64 bits is answered as want of memory.

@@ -1,10 +1,11 @@
 -- Words one by one.
-use Rattle.std.proofs.Common.{Option, Some, None, ◌≡◌, ℕ, ◌^◌, ◌≤◌, ◌<◌, List, [], ◌∷◌, length, get_or, sym, ◌∙◌, refl}
-use Rattle.std.proofs.Common.{arith, String, Global}
-use Rattle.std.specs.Prelude.{string_bytes, codes, IfSome, IfNone}
+use Rattle.std.proofs.Common.{◌≡◌, ℕ, Bool, true, false, IsTrue, ◌^◌, ◌≤◌, ◌<◌, List, [], ◌∷◌, length, get_or, sym, ◌∙◌}
+use Rattle.std.proofs.Common.{arith, refl, String, Global}
+use Rattle.std.specs.Prelude.{◌↔◌, ◌&&◌, string_bytes, codes}
 use Rattle.std.specs.Fmt.{decimal}
 use Rattle.qg_super.specs.declared.sizes.Sizes.{Sizes}
-use Rattle.qg_words.specs.Words.{SizesFit, AskForImage, AskForLines, texts}
+use Rattle.std.proofs.lemmas.Bool.{false≢true}
+use Rattle.qg_words.specs.Words.{SizesFit, AskForImage, AskForLines, generate_words, mkfs_words, texts}
 
 -- a word at a place, and its text
 pub record IsWord (words : List (String Global)) (place : ℕ) (word : String Global) (text : List ℕ) : Type 0 where
@@ -47,78 +48,42 @@ four_texts {words = w ∷ x ∷ y ∷ z ∷ []} some few a b c d =
     (rw c.text_is (rw d.text_is (rw a.stands (rw b.stands (rw c.stands (rw d.stands refl)))))))
 four_texts {words = w ∷ x ∷ y ∷ z ∷ v ∷ words} some few a b c d = absurd (omega arith)
 
--- the last three are these sizes
-abbrev pub SpellSizes : List ℕ → List ℕ → List ℕ → Sizes → Type 0
-SpellSizes nodesize slots sectors sizes =
-    (nodesize ≡ decimal sizes.nodesize) × (slots ≡ decimal sizes.slots) × (sectors ≡ decimal sizes.sectors)
+-- both tests pass exactly where both facts hold
+pub both-hold : {a b : Bool} {A B : Type 0} → (IsTrue a ↔ A) → (IsTrue b ↔ B) → (IsTrue (a && b) ↔ (A × B))
+both-hold {a = true} {b = true} first second = (λ is. (first.0 refl, second.0 refl), λ are. refl)
+both-hold {a = true} {b = false} first second = (λ is. absurd cc, λ are. absurd (false≢true (second.1 are.1)))
+both-hold {a = false} first second = (λ is. absurd cc, λ are. absurd (false≢true (first.1 are.0)))
 
--- the last three are no sizes
-abbrev pub SpellNone : List ℕ → List ℕ → List ℕ → Type 0
-SpellNone nodesize slots sectors =
-    (sizes : Sizes) → SizesFit sizes → nodesize ≡ decimal sizes.nodesize → slots ≡ decimal sizes.slots
-    → sectors ≡ decimal sizes.sectors → ⊥
+-- four words are those of an image of these sizes exactly where each is what it should be
+pub image-spelled :
+    (test : Bool) (sizes : Sizes) {words : List (List ℕ)} {name nodesize slots sectors : List ℕ}
+    → words ≡ name ∷ nodesize ∷ slots ∷ sectors ∷ [] → SizesFit sizes
+    → (IsTrue test ↔ ((((name ≡ codes "mkfs") × (nodesize ≡ decimal sizes.nodesize)) × (slots ≡ decimal sizes.slots))
+    × (sectors ≡ decimal sizes.sectors)))
+    → (IsTrue test ↔ AskForImage words sizes)
+image-spelled test sizes {words} {name} {nodesize} {slots} {sectors} are fits holds = (
+  λ is. let each = holds.0 is in
+      record { fits = fits; are = are ∙ rw (each.0.0.0, each.0.0.1, each.0.1, each.1) refl },
+  λ ask. let same : name ∷ nodesize ∷ slots ∷ sectors ∷ [] ≡ mkfs_words sizes = sym are ∙ ask.are in
+      let named : name ≡ codes "mkfs" = cc in
+      let first : nodesize ≡ decimal sizes.nodesize = cc in
+      let second : slots ≡ decimal sizes.slots = cc in
+      let third : sectors ≡ decimal sizes.sectors = cc in
+      holds.1 (((named, first), second), third),
+)
 
--- where they are no sizes, the four ask for no image
-no_image :
-    {words : List (List ℕ)} {name nodesize slots sectors : List ℕ}
-    → words ≡ name ∷ nodesize ∷ slots ∷ sectors ∷ [] → SpellNone nodesize slots sectors → (sizes : Sizes)
-    → AskForImage words sizes → ⊥
-no_image {words} {name} {nodesize} {slots} {sectors} are none sizes ask =
-    let same = sym are ∙ ask.are in
-    let first : nodesize ≡ decimal sizes.nodesize = cc in
-    let second : slots ≡ decimal sizes.slots = cc in
-    let third : sectors ≡ decimal sizes.sectors = cc in
-    none sizes ask.fits first second third
-
--- what is read of the last three is what the four ask for
-pub ask-found :
-    (result : Option Sizes) {words : List (List ℕ)} {name nodesize slots sectors : List ℕ}
-    → words ≡ name ∷ nodesize ∷ slots ∷ sectors ∷ [] → name ≡ codes "mkfs" → IfSome result SizesFit
-    → IfSome result (λ sizes. SpellSizes nodesize slots sectors sizes)
-    → IfSome result (λ sizes. AskForImage words sizes)
-ask-found None are named fits found = tt
-ask-found (Some sizes) are named fits found =
-    record { fits = fits; are = are ∙ rw named (rw found.0 (rw found.1 (rw found.2 refl))) }
-
--- and where nothing is read they ask for none
-pub none-found :
-    (result : Option Sizes) {words : List (List ℕ)} {name nodesize slots sectors : List ℕ}
-    → words ≡ name ∷ nodesize ∷ slots ∷ sectors ∷ [] → IfNone result (SpellNone nodesize slots sectors)
-    → IfNone result ((sizes : Sizes) → AskForImage words sizes → ⊥)
-none-found None are none = no_image are none
-none-found (Some sizes) are none = tt
-
--- ---- a seed and a count
-
--- what is read of the last two of three words is what the three ask for
-pub lines-found :
-    (result : Option (ℕ × ℕ)) {words : List (List ℕ)} {name seed count : List ℕ}
-    → words ≡ name ∷ seed ∷ count ∷ [] → name ≡ codes "gen"
-    → IfSome result (λ pair. (pair.0 < 2 ^ 64) × (pair.1 < 2 ^ 64))
-    → IfSome result (λ pair. (seed ≡ decimal pair.0) × (count ≡ decimal pair.1))
-    → IfSome result (λ pair. AskForLines words pair.0 pair.1)
-lines-found None are named fits found = tt
-lines-found (Some pair) are named fits found =
-    record { seed_fits = fits.0; count_fits = fits.1; are = are ∙ rw named (rw found.0 (rw found.1 refl)) }
-
--- the last two are no such numbers
-abbrev pub SpellNoPair : List ℕ → List ℕ → Type 0
-SpellNoPair seed count = (a b : ℕ) → a < 2 ^ 64 → b < 2 ^ 64 → seed ≡ decimal a → count ≡ decimal b → ⊥
-
--- where they are none, the three ask for no lines
-no_lines :
-    {words : List (List ℕ)} {name seed count : List ℕ}
-    → words ≡ name ∷ seed ∷ count ∷ [] → SpellNoPair seed count → (a b : ℕ) → AskForLines words a b → ⊥
-no_lines {words} {name} {seed} {count} are none a b ask =
-    let same = sym are ∙ ask.are in
-    let first : seed ≡ decimal a = cc in
-    let second : count ≡ decimal b = cc in
-    none a b ask.seed_fits ask.count_fits first second
-
--- and where nothing is read they ask for none
-pub lines-none :
-    (result : Option (ℕ × ℕ)) {words : List (List ℕ)} {name seed count : List ℕ}
-    → words ≡ name ∷ seed ∷ count ∷ [] → IfNone result (SpellNoPair seed count)
-    → IfNone result ((a b : ℕ) → AskForLines words a b → ⊥)
-lines-none None are none = no_lines are none
-lines-none (Some pair) are none = tt
+-- and three words those of so many lines of a seed
+pub lines-spelled :
+    (test : Bool) (a b : ℕ) {words : List (List ℕ)} {name seed count : List ℕ}
+    → words ≡ name ∷ seed ∷ count ∷ [] → a < 2 ^ 64 → b < 2 ^ 64
+    → (IsTrue test ↔ (((name ≡ codes "gen") × (seed ≡ decimal a)) × (count ≡ decimal b)))
+    → (IsTrue test ↔ AskForLines words a b)
+lines-spelled test a b {words} {name} {seed} {count} are fits_a fits_b holds = (
+  λ is. let each = holds.0 is in
+      record { seed_fits = fits_a; count_fits = fits_b; are = are ∙ rw (each.0.0, each.0.1, each.1) refl },
+  λ ask. let same : name ∷ seed ∷ count ∷ [] ≡ generate_words a b = sym are ∙ ask.are in
+      let named : name ≡ codes "gen" = cc in
+      let first : seed ≡ decimal a = cc in
+      let second : count ≡ decimal b = cc in
+      holds.1 ((named, first), second),
+)

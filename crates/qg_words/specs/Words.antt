@@ -1,5 +1,6 @@
 -- The words of a command line (this project's own).
-use Rattle.std.specs.Prelude.{◌≡◌, ℕ, ◌^◌, ◌<◌, List, [], ◌∷◌, map, codes, string_bytes, String}
+use Rattle.std.specs.Prelude.{◌≡◌, ◌==◌, ℕ, Bool, ◌^◌, ◌<◌, List, [], ◌∷◌, map, codes, slice_index, string_bytes}
+use Rattle.std.specs.Prelude.{String}
 use Rattle.std.specs.Fmt.{decimal}
 use Rattle.std.specs.declared.alloc.Global.{Global}
 use Rattle.qg_super.specs.declared.sizes.Sizes.{Sizes}
@@ -9,6 +10,10 @@ use Rattle.qg_words.specs.declared.form.Form.TheVariants.{Mkfs, Run, Check, Gene
 -- the text of each word
 abbrev pub texts : List (String Global) → List (List ℕ)
 texts words = map string_bytes words
+
+-- the text begins with the hyphen of an option
+abbrev pub begins_with_hyphen : List ℕ → Bool
+begins_with_hyphen text = slice_index text 0 == 45
 
 -- the words that ask for an image of these sizes, the numbers in decimal without leading zeros
 abbrev pub mkfs_words : Sizes → List (List ℕ)

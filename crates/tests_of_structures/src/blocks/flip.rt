@@ -42,6 +42,7 @@ impl FlipDisk {
 }
 
 impl Disk for FlipDisk {
+    ghost use Rattle.std.specs.Prelude.{true};
     ghost use Rattle.qg_disk.specs.FileDisk.{sized_untold};
 
     ghost history = { λ calls. Unrecorded (with_changes (history_of calls) 0) };
@@ -49,6 +50,8 @@ impl Disk for FlipDisk {
     ghost size = { size_of };
 
     ghost faults = { λ _. 0 };
+
+    ghost takes_memory = { true };
 
     ghost sized = { λ calls events told. sized_untold (size_of calls) (with_changes (history_of calls) 0) events told };
 

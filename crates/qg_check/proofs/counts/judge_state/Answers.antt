@@ -24,9 +24,9 @@ returns-clause-failure c = λ layout are.
     (c.in_ok-counters.ensures.direct layout are) in
     let direct = subst (λ (counters : List Counters). AreGroupCounts layout (hierarchy_of c.args.state.now.quota)
     counters) (sym c.as_slice-2.ensures.value) own in
-    let judged = c.judge_groups.ensures.failure layout (hierarchy_of quota) (ap keys_of (sym c.as_slice.ensures))
+    let judged = c.judge_groups.ensures.failure layout quota (ap keys_of (sym c.as_slice.ensures))
     direct in
     let same = counts_judged layout quota
     ∙ ap (λ (groups : List (ℕ × Group)). first_failure
-    (map (group_failure layout (hierarchy_of c.args.state.now.quota)) groups)) (sym c.as_slice.ensures) in
+    (map (group_failure layout quota) groups)) (sym c.as_slice.ensures) in
     fails_same c.judge_groups.result same judged

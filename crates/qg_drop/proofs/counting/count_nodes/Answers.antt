@@ -5,7 +5,7 @@ use Rattle.qg_image.specs.Walk.{root_expected}
 use Rattle.qg_machine.specs.Refusals.{nodes_reached, root_level}
 use Rattle.qg_ground.proofs.Editing.{ArePlaced-drafted}
 use Rattle.qg_descent.specs.Tree.{Root}
-use Rattle.qg_drop.specs.Counting.{nodes_below}
+use Rattle.qg_drop.specs.Counting.{node_count_below}
 use Rattle.qg_drop.proofs.Stepping.{edit-still, rests-read}
 use Rattle.qg_drop.proofs.Whole.{few-held, root-count, root-leads, tells-held}
 use Rattle.qg_drop.proofs.counting.count_nodes.Goals as goal
@@ -38,7 +38,7 @@ returns-clause-counted g c state book holds has same =
     c.way.result.address height address in
     let few = few-held c.args.land.now history book state holds ground owner in
     IfOk-weaker c.count_under.result
-    (λ (count : ℕ). count ≡ min (nodes_below state c.height.result c.way.result.address) (2 ^ 64 - 1))
+    (λ (count : ℕ). count ≡ min (node_count_below state c.height.result c.way.result.address) (2 ^ 64 - 1))
     (λ (count : ℕ). count ≡ nodes_reached state owner)
     (λ count is. omega (arith, is, below, few)) (c.count_under.ensures.counted state tells leads)
 

@@ -1,7 +1,7 @@
 use Rattle.std.proofs.Common.{◌≡◌, ℕ, ◌+◌, List, [], take, drop, false, sym, subst, inl, inr, arith}
 use Rattle.std.proofs.lemmas.List.{take_all}
-use Rattle.qg_image.specs.declared.part.ExtentPart.{ExtentPart}
-use Rattle.qg_image.specs.Owed.{reference_told}
+use Rattle.qg_parts.specs.Types.{ExtentPart}
+use Rattle.qg_parts.specs.Owed.{reference_told}
 use Rattle.qg_refs.specs.declared.counted.Counted.{Counted}
 use Rattle.qg_refs.specs.Counts.{IsRefList}
 use Rattle.qg_extents.specs.Told.{told_in}

@@ -1,5 +1,5 @@
 use Rattle.std.specs.Prelude.{◌≢◌, ◌<◌, ℕ, slice_index_or}
-use Rattle.qg_descent.specs.Tree.{Root}
+use Rattle.qg_tree_edits.specs.Tree.{Root}
 use Rattle.qg_fs_tree.proofs.turning.place_of.Given as goal
 
 -- none of the trees in front is that of the number

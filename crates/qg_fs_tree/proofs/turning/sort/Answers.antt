@@ -1,6 +1,6 @@
 use Rattle.std.proofs.Common.{rules}
 use Rattle.std.proofs.lemmas.List.Sorted.{IsNonDecreasingBy-from_sort_by_key}
-use Rattle.qg_descent.specs.Tree.{Root}
+use Rattle.qg_tree_edits.specs.Tree.{Root}
 use Rattle.qg_fs_tree.proofs.turning.sort.Goals as goal
 
 pub returns-clause-ascending : goal.returns-clause-ascending

@@ -3,13 +3,13 @@ use Rattle.qg_num.specs.declared.answer.Answer.TheVariants as answer
 use Rattle.qg_num.specs.declared.command.Command.TheVariants.{Commit}
 use Rattle.qg_num.specs.declared.refusal.Refusal.TheVariants as why
 use Rattle.qg_machine.specs.Refusals.{last_generation}
-use Rattle.qg_blocks.proofs.Broken.{broken-handed}
 use Rattle.qg_kept.specs.Calls.{commit_calls, unsure_calls}
 use Rattle.qg_kept.specs.FsLawsKeeping.{other_names}
 use Rattle.qg_kept.proofs.PiecesRead.{handed}
 use Rattle.qg_kept.proofs.Whole.{handed-sound}
 use Rattle.qg_kept_commit.proofs.Cleaned.{looked-nothing}
 use Rattle.qg_kept_commit.proofs.Commits.{commits-step, does_idle, does_refuse, early-state, far-step, pending-state}
+use Rattle.qg_kept_commit.proofs.Intact.{ended-intact, intact-handed}
 use Rattle.qg_kept_commit.proofs.OnDisk.{on-disk, on-error}
 use Rattle.qg_kept_commit.proofs.committing.commit.Goals as goal
 
@@ -90,8 +90,17 @@ commit_now-requires-clause-early g c = omega (arith, c.value.ensures, c.if-value
 
 pub returns-in_err-commit_now-clause-intact : goal.returns-in_err-commit_now-clause-intact
 returns-in_err-commit_now-clause-intact g c =
-    broken-handed (Unit {0}) c.from_residual.result _ _ (handed c.from_residual.result _ c.from_residual.ensures.1)
-    c.in_err-commit_now.ensures.intact
+    intact-handed c.from_residual.result _ g.D.Disk.takes_memory _ _
+    (handed c.from_residual.result _ c.from_residual.ensures.1) c.in_err-commit_now.ensures.intact
+
+pub returns-then-kept-eq0-clause-intact : goal.returns-then-kept-eq0-clause-intact
+returns-then-kept-eq0-clause-intact g c = ended-intact _ g.D.Disk.takes_memory _ _
+
+pub returns-then-value-gt-LAST_GENERATION-clause-intact : goal.returns-then-value-gt-LAST_GENERATION-clause-intact
+returns-then-value-gt-LAST_GENERATION-clause-intact g c = ended-intact _ g.D.Disk.takes_memory _ _
+
+pub returns-clause-intact : goal.returns-clause-intact
+returns-clause-intact g c = ended-intact _ g.D.Disk.takes_memory _ _
 
 pub returns-in_err-commit_now-clause-err : goal.returns-in_err-commit_now-clause-err
 returns-in_err-commit_now-clause-err g c =

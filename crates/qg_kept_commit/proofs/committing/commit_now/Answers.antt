@@ -1,6 +1,5 @@
 use Rattle.std.proofs.Common.{arith, ap, inl, inr, ◌∙◌}
 use Rattle.qg_super.specs.SuperText.{sizes_of}
-use Rattle.qg_blocks.proofs.Broken.{broken-any}
 use Rattle.qg_kept.proofs.Looked.{with_blocks}
 use Rattle.qg_kept.proofs.PiecesRead.{handed}
 use Rattle.qg_kept.proofs.Whole.{handed-sound}
@@ -11,6 +10,7 @@ use Rattle.qg_kept_commit.proofs.CommitKeeps.{plan-still}
 use Rattle.qg_kept_commit.proofs.CommitOver.{backed-then, calls-over, committed-on, kept-forgotten, kept-then}
 use Rattle.qg_kept_commit.proofs.CommitOver.{room-back, room-then, started, stopped-so, unfresh, written-then}
 use Rattle.qg_kept_commit.proofs.Commits.{stops-starts}
+use Rattle.qg_kept_commit.proofs.Intact.{ended-intact, stops-intact, written-intact}
 use Rattle.qg_kept_commit.proofs.OnDisk.{on-err, on-error}
 use Rattle.qg_kept_commit.proofs.committing.commit_now.Goals as goal
 
@@ -279,4 +279,20 @@ returns-in_err-trees-clause-sizes g c = (
 
 pub returns-in_err-plan-clause-intact : goal.returns-in_err-plan-clause-intact
 returns-in_err-plan-clause-intact g c =
-    broken-any c.from_residual.result _ c.in_err-plan.ensures.looked.read.history
+    stops-intact c.from_residual.result g.D.Disk.takes_memory _ _ c.in_err-plan.ensures.looked.read.history
+
+pub returns-in_err-copy-clause-intact : goal.returns-in_err-copy-clause-intact
+returns-in_err-copy-clause-intact g c =
+    stops-intact c.from_residual-in_err-copy.result g.D.Disk.takes_memory _ _ c.in_ok-plan.ensures.looked.read.history
+
+pub returns-in_err-trees-clause-intact : goal.returns-in_err-trees-clause-intact
+returns-in_err-trees-clause-intact g c =
+    let history = g.D.Disk.history in
+    written-intact c.from_residual-in_err-trees.result _ g.D.Disk.takes_memory (history c.args.disk.now)
+    (history c.plan_of.new.disk) (history c.write_trees.new.disk)
+    (handed c.from_residual-in_err-trees.result _ c.from_residual-in_err-trees.ensures.1)
+    c.in_ok-plan.ensures.looked.read.history c.in_err-trees.ensures.no_image
+    (λ none refused. ap history (c.in_err-trees.ensures.memory none refused))
+
+pub returns-clause-intact : goal.returns-clause-intact
+returns-clause-intact g c = ended-intact _ g.D.Disk.takes_memory _ _

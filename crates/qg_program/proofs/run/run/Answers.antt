@@ -19,7 +19,7 @@ pub returns-in-Err-clause-follows : goal.returns-in-Err-clause-follows
 returns-in-Err-clause-follows g c = λ events input state told source stands.
     let silent = c.refuse.ensures.silent
     (subst (TellsFailure c.in-Err.fault) stands.sound (c.in-Err.ensures.refused events told)) in
-    follows-unopened c.refuse.result state input silent.0 (c.open.ensures.touches events told) silent.1
+    follows-unopened c.refuse.result state input silent.0 (c.open.ensures.touches events told) silent.1 source
 
 pub returns-in-Ok-clause-crashes : goal.returns-in-Ok-clause-crashes
 returns-in-Ok-clause-crashes g c = λ events after state told now stands.

@@ -72,6 +72,7 @@ returns-in-Err-clause-follows g c = λ state events opened input stands opens kn
     answered-failed _ input c.turn.new.feed _ c.turn.new.session.store _ _ so_far told opens
     (record { counted = rw told at counted; within = c.turn.ensures.takes.within })
     (λ is. c.turn.ensures.takes.too_long (c.in-Err.is ∙ ap Err is))
+    (λ is. c.turn.ensures.takes.no_newline (c.in-Err.is ∙ ap Err is))
     (c.in-Err.ensures.err so_far.present so_far.events so_far.stands so_far.known)
 
 pub returns-in-Err-clause-crashes : goal.returns-in-Err-clause-crashes

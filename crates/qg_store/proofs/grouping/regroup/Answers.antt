@@ -294,4 +294,4 @@ returns-in_err-commit_now-clause-intact g c =
     c.in_ok-commit_pending.ensures.calls.none c.in_ok-commit_pending.ensures.calls.calls
     (c.in_err-commit_now.ensures.err ∙ superblock-regrouped c.commit_pending.new.kept c.change_groups.new.kept
     c.in_ok-change_groups.ensures.rest)
-    (same)) c.in_err-commit_now.ensures.intact
+    (same)) c.in_err-commit_now.ensures.intact.broken

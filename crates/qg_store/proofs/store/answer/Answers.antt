@@ -306,7 +306,7 @@ returns-in-Owners-clause-intact g c = broken-any c.owners.result _ (inl c.owners
 
 pub returns-in-Commit-clause-intact : goal.returns-in-Commit-clause-intact
 returns-in-Commit-clause-intact g c =
-    broken-then c.commit.result _ _ (λ same. inl same) c.commit.ensures.intact
+    broken-then c.commit.result _ _ (λ same. inl same) c.commit.ensures.intact.broken
 
 pub returns-in-SubCreate-clause-intact : goal.returns-in-SubCreate-clause-intact
 returns-in-SubCreate-clause-intact g c =

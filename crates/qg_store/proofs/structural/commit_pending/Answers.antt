@@ -73,7 +73,7 @@ returns-clause-calls g c =
     record {
       none = λ is. absurd (omega (arith, is, some));
       calls = on-ok _ _ c.commit_now.result (λ leaves some. (leaves.nodes, leaves.calls)) c.commit_now.ensures.leaves;
-      intact = c.commit_now.ensures.intact;
+      intact = c.commit_now.ensures.intact.broken;
     }
 
 pub returns-clause-err : goal.returns-clause-err

@@ -462,4 +462,4 @@ returns-in_err-commit_now-clause-intact g c =
     (ap (λ (k : Kept). k.pending) c.turn_to.ensures.same.rest)
     c.in_ok-commit_pending.ensures.calls.none c.in_ok-commit_pending.ensures.calls.calls
     (c.in_err-commit_now.ensures.err ∙ c.in_ok-snap_change.ensures.superblock)
-    (same ∙ c.in_ok-snap_change.ensures.apart.0)) c.in_err-commit_now.ensures.intact
+    (same ∙ c.in_ok-snap_change.ensures.apart.0)) c.in_err-commit_now.ensures.intact.broken

@@ -1,6 +1,7 @@
 use Rattle.std.proofs.Common.{◌≡◌, ◌∷◌, ℕ, inl, inr, length, refl, subst, sym, ap, ◌∙◌}
-use Rattle.std.specs.Prelude.{All}
+use Rattle.std.specs.Prelude.{All, Err}
 use Rattle.std.specs.List.{AllByRecursion}
+use Rattle.std.proofs.lemmas.Bool.{true≢false}
 use Rattle.std.specs.List.Sorted.{IsStrictlySortedBy}
 use Rattle.std.specs.Ordering.{nat_cmp}
 use Rattle.qg_device.specs.History.{Synced}
@@ -80,6 +81,11 @@ returns-clause-stopped g c = λ events told. inr (record {
       c.in_ok-addresses.ensures.addresses c.in_ok-addresses.ensures.ascending;
   made = c.in-Err-NoMemory.ensures.front events told;
 })
+
+-- only a disk that takes memory wants it once the calls began
+pub returns-clause-memory : goal.returns-clause-memory
+returns-clause-memory g c = λ none refused.
+    absurd (true≢false (sym (c.in-Err-NoMemory.ensures.memory (ap Err c.in-Err-NoMemory.field-0-is)) ∙ none))
 
 -- ---- crashes
 

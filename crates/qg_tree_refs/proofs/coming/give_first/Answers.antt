@@ -4,8 +4,8 @@ use Rattle.std.proofs.lemmas.Bool.{true≢false}
 use Rattle.qg_items.specs.declared.extent.Reference.TheVariants.{KeyedBlock}
 use Rattle.qg_refs.specs.declared.kept.What.{What}
 use Rattle.qg_refs.specs.Book.{Book, what_in}
-use Rattle.qg_blocks.proofs.Telling.{none_of}
-use Rattle.qg_extents.specs.Table.{book_of}
+use Rattle.qg_ground.proofs.Telling.{none_of}
+use Rattle.qg_weighed.specs.Table.{book_of}
 use Rattle.qg_tree_refs.specs.declared.coming.Coming.{Coming}
 use Rattle.qg_tree_refs.specs.Exchange.{Begins, IsNew}
 use Rattle.qg_tree_refs.proofs.Gains.{count-none, nothing_known}

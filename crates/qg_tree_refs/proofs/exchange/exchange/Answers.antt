@@ -2,7 +2,7 @@ use Rattle.std.proofs.Common.{List, ap, arith, subst, sym, ◌∙◌}
 use Rattle.qg_image.specs.Owed.{Owing}
 use Rattle.qg_owed.specs.Told.{owings_told}
 use Rattle.qg_owed.specs.declared.owing.Owing.{Owing as Listed}
-use Rattle.qg_extents.specs.Table.{book_of}
+use Rattle.qg_weighed.specs.Table.{book_of}
 use Rattle.qg_tree_refs.specs.Exchange.{CanGive, CanTake, Gives, Takes, exchange_told}
 use Rattle.qg_tree_refs.proofs.Whole.{CanGive-marked, CanTake-given, Exchanges-whole, IsNew-given, first_none}
 use Rattle.qg_tree_refs.proofs.Whole.{none_first}

@@ -1,6 +1,6 @@
 use Rattle.std.proofs.Common.{◌≡◌, None, arith, sym, ◌∙◌}
 use Rattle.qg_refs.specs.Book.{what_in}
-use Rattle.qg_extents.specs.Table.{book_of}
+use Rattle.qg_weighed.specs.Table.{book_of}
 use Rattle.qg_owed.specs.Told.{owing_told}
 use Rattle.qg_tree_refs.proofs.Gains.{Gives-one, known-something, one-known, one-room}
 use Rattle.qg_tree_refs.proofs.giving.give.Goals as goal

@@ -1,7 +1,7 @@
 use Rattle.std.proofs.Common.{◌≡◌, false, true, refl, sym, ◌∙◌}
 use Rattle.std.specs.Prelude.{None}
 use Rattle.std.proofs.lemmas.Bool.{true≢false}
-use Rattle.qg_extents.specs.Table.{book_of}
+use Rattle.qg_weighed.specs.Table.{book_of}
 use Rattle.qg_tree_refs.proofs.Gains.{CanGive-one, Gives-more, Gives-none, none_or}
 use Rattle.qg_tree_refs.proofs.giving.give_all.Goals.{then-not-branch, else-not-branch}
 use Rattle.qg_tree_refs.proofs.giving.give_all.Goals as goal

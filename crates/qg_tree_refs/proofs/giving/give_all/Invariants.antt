@@ -1,6 +1,6 @@
 use Rattle.std.proofs.Common.{◌≡◌, take}
 use Rattle.std.specs.Prelude.{None}
-use Rattle.qg_extents.specs.Table.{book_of}
+use Rattle.qg_weighed.specs.Table.{book_of}
 use Rattle.qg_owed.specs.Told.{owings_told}
 use Rattle.qg_tree_refs.specs.Exchange.{CanGive, Gives}
 use Rattle.qg_tree_refs.proofs.giving.give_all.Given as goal

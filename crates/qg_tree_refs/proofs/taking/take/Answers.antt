@@ -1,6 +1,6 @@
 use Rattle.std.proofs.Common.{◌≡◌, arith}
 use Rattle.qg_refs.specs.Book.{count_at}
-use Rattle.qg_extents.specs.Table.{book_of}
+use Rattle.qg_weighed.specs.Table.{book_of}
 use Rattle.qg_owed.specs.Told.{owing_told}
 use Rattle.qg_tree_refs.proofs.Losses.{Takes-one, one-there}
 use Rattle.qg_tree_refs.proofs.taking.take.Goals as goal

@@ -1,7 +1,7 @@
 use Rattle.std.proofs.Common.{◌≡◌, false, true, refl, sym, ◌∙◌}
 use Rattle.std.specs.Prelude.{None}
 use Rattle.std.proofs.lemmas.Bool.{true≢false}
-use Rattle.qg_extents.specs.Table.{book_of}
+use Rattle.qg_weighed.specs.Table.{book_of}
 use Rattle.qg_tree_refs.proofs.Gains.{none_or}
 use Rattle.qg_tree_refs.proofs.Losses.{CanTake-one, Takes-more, Takes-none}
 use Rattle.qg_tree_refs.proofs.taking.take_all.Goals.{then-not-take, else-not-take}

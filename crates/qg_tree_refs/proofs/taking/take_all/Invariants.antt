@@ -1,6 +1,6 @@
 use Rattle.std.proofs.Common.{◌≡◌, take}
 use Rattle.std.specs.Prelude.{None}
-use Rattle.qg_extents.specs.Table.{book_of}
+use Rattle.qg_weighed.specs.Table.{book_of}
 use Rattle.qg_owed.specs.Told.{owings_told}
 use Rattle.qg_tree_refs.specs.Exchange.{CanTake, Takes}
 use Rattle.qg_tree_refs.proofs.taking.take_all.Given as goal

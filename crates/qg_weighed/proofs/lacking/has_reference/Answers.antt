@@ -1,6 +1,6 @@
 use Rattle.std.proofs.Common.{ap, sym, ◌∙◌, Option}
 use Rattle.std.specs.Option.{option_copied}
-use Rattle.qg_refs.specs.declared.kept.Kept.{Kept}
+use Rattle.qg_extents.specs.Types.{Kept}
 use Rattle.qg_weighed.specs.Weight.{has_reference}
 use Rattle.qg_weighed.proofs.Known.{nothing-there}
 use Rattle.qg_weighed.proofs.lacking.has_reference.Goals as goal

@@ -1,6 +1,6 @@
 use Rattle.std.proofs.Common.{ap, sym, ◌∙◌, Option}
 use Rattle.std.specs.Option.{option_copied}
-use Rattle.qg_refs.specs.declared.kept.Kept.{Kept}
+use Rattle.qg_extents.specs.Types.{Kept}
 use Rattle.qg_extents.specs.Table.{book_of}
 use Rattle.qg_weighed.specs.Weight.{lacking}
 use Rattle.qg_weighed.proofs.Known.{lacks-none, lacks-some}

@@ -1,6 +1,6 @@
 use Rattle.std.proofs.Common.{◌≡◌, ℕ, map}
 use Rattle.std.specs.Map.Iter.{deref_pair}
-use Rattle.qg_refs.specs.declared.kept.Kept.{Kept}
+use Rattle.qg_extents.specs.Types.{Kept}
 use Rattle.qg_weighed.specs.Weight.{table_bytes}
 use Rattle.qg_weighed.proofs.whole.table_bytes.Given as goal
 

@@ -5,7 +5,7 @@ use Rattle.qg_device.specs.History.{History, content}
 use Rattle.qg_node.specs.declared.node.Node.{Node}
 use Rattle.qg_blocks.specs.Held.{Held}
 use Rattle.qg_blocks.specs.Standing.{standing}
-use Rattle.qg_blocks.specs.Told.{Answers, IsBacked, clean_at, first_of, fresh_at}
+use Rattle.qg_blocks.specs.Told.{Answers, BreaksForCause, IsBacked, clean_at, first_of, fresh_at}
 use Rattle.qg_blocks.proofs.Backing.{IsBacked-promoted}
 use Rattle.qg_blocks.proofs.Telling.{IsAtHand-backed, IsSome-first, IsSome-second, IsSome-promoted, loaded-found}
 use Rattle.qg_blocks.proofs.Telling.{lookup-promoted, none_of, nothing-held, promoted-absent, told-unbroken}
@@ -106,3 +106,8 @@ returns-clause-again g c some =
     absurd (nothing-held (fresh_at c.args.self.now.draft c.args.address) (clean_at c.args.self.now c.args.address)
     (none_of (fresh_at c.args.self.now.draft c.args.address) (sym c.is_fresh.ensures ∙ c.if-is_fresh.false))
     (sym c.touch.ensures.found ∙ c.if-touch.false) some)
+
+pub returns-clause-broken : goal.returns-clause-broken
+returns-clause-broken g c =
+    subst (λ (held : Held). BreaksForCause c.fetch.result held.draft.sizes (g.D.Disk.size c.args.disk.now)
+    c.args.address) c.touch.ensures.same c.fetch.ensures.broken

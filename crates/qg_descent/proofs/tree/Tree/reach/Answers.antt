@@ -3,8 +3,8 @@ use Rattle.std.proofs.lemmas.Result.{err_from_is_err_and}
 use Rattle.qg_device.specs.History.{History, Recorded}
 use Rattle.qg_node.specs.declared.node.Node.{Node}
 use Rattle.qg_node.specs.Nodes.{header_of, own_pointers}
-use Rattle.qg_image.specs.declared.expected.Expected.{Expected}
-use Rattle.qg_image.specs.Walk.{root_expected}
+use Rattle.qg_blocks.specs.Types.{Expected}
+use Rattle.qg_blocks.specs.Walk.{root_expected}
 use Rattle.qg_walk.proofs.Failures.{IsFormed-form}
 use Rattle.qg_blocks.specs.Told.{told}
 use Rattle.qg_descent.specs.declared.way.Way.{Way}

@@ -1,7 +1,7 @@
 use Rattle.std.proofs.Common.{◌≡◌, ◌+◌, ◌-◌, ◌≤◌, true, List, None, Some}
 use Rattle.qg_device.specs.History.{Event, Recorded}
 use Rattle.qg_node.specs.declared.item.Item.{Item}
-use Rattle.qg_image.specs.Walk.{root_expected}
+use Rattle.qg_blocks.specs.Walk.{root_expected}
 use Rattle.qg_walk.specs.Added.{is_to}
 use Rattle.qg_blocks.specs.Told.{told}
 use Rattle.qg_descent.specs.Tree.{TellsTree, super_of}

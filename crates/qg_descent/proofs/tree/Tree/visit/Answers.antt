@@ -1,6 +1,6 @@
 use Rattle.std.proofs.Common.{◌≡◌, Some, None, refl, sym, ap, subst, ◌∙◌}
 use Rattle.qg_super.specs.declared.superblock.Super.{Super}
-use Rattle.qg_image.specs.declared.failure.Failure.TheVariants.{Broken}
+use Rattle.qg_blocks.specs.Types.{Broken}
 use Rattle.qg_walk.specs.Standing.{form_failure}
 use Rattle.qg_descent.specs.Tree.{super_of}
 use Rattle.qg_descent.proofs.Visits.{broken-only, fails-formed, loaded-found, loaded-kept, loaded-told}

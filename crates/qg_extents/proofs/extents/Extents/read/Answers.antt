@@ -1,7 +1,7 @@
 use Rattle.std.proofs.Common.{◌≡◌, ◌≤◌, ℕ, List, [], Option, length, false, sym, subst, arith}
 use Rattle.std.specs.Prelude.{MatchOption, slice_range}
 use Rattle.std.proofs.lemmas.List.{take_all}
-use Rattle.qg_image.specs.declared.part.ExtentPart.{ExtentPart}
+use Rattle.qg_parts.specs.Types.{ExtentPart}
 use Rattle.qg_refs.specs.declared.kept.Kept.{Kept}
 use Rattle.qg_extents.specs.Table.{book_of}
 use Rattle.qg_extents.specs.Told.{IsEntryOf, IsTold, is_entry}

@@ -1,6 +1,6 @@
 use Rattle.std.proofs.Common.{ℕ, List, [], refl, subst, arith}
-use Rattle.qg_edit.specs.Edits.{with_item}
-use Rattle.qg_edit.proofs.Leaves.{ok-known}
+use Rattle.qg_tree_edits.specs.Edits.{with_item}
+use Rattle.qg_tree_edits.proofs.Leaves.{ok-known}
 use Rattle.qg_refs.specs.declared.kept.Kept.{Kept}
 use Rattle.qg_extents.specs.Table.{IsTable}
 use Rattle.qg_tree_refs.proofs.Stepping.{Follows-none}

@@ -1,5 +1,5 @@
 use Rattle.std.proofs.Common.{◌≡◌, ℕ, true, None, Some, sym, subst}
-use Rattle.qg_image.specs.Members.{Hierarchy}
+use Rattle.qg_machine.specs.Members.{Hierarchy}
 use Rattle.qg_hier.specs.declared.fault.HierFault.TheVariants as why
 use Rattle.qg_hier.specs.Faults.{destroy_fault}
 use Rattle.qg_hier.specs.Groups.{has_number}

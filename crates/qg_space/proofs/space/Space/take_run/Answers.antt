@@ -3,7 +3,7 @@ use Rattle.qg_super.specs.Places.{data_begin, sector}
 use Rattle.qg_super.proofs.Served.{SizesFit-is_served}
 use Rattle.qg_space.specs.Holding.{Holding, is_free_run}
 use Rattle.qg_space.specs.Run.{Run}
-use Rattle.qg_space.specs.Lying.{IsFront}
+use Rattle.qg_space.specs.Lying.{IsPackedFront}
 use Rattle.qg_space.proofs.Fronts.{front_kept}
 use Rattle.qg_space.proofs.Used.{is_clear_used, clear_within}
 use Rattle.qg_space.proofs.space.Space.take_run.Goals as goal
@@ -23,7 +23,7 @@ put_run-requires-clause-clear c =
 
 pub packed_runs-self-inside-requires-clause-known : goal.packed_runs-self-inside-requires-clause-known
 packed_runs-self-inside-requires-clause-known c =
-    let Front : List Run → Type 0 = λ runs. IsFront runs c.min.result in
+    let Front : List Run → Type 0 = λ runs. IsPackedFront runs c.min.result in
     subst Front (sym c.deref.ensures.value)
     (front_kept c.self.inside.runs.items c.put_run.new.runs.items c.self.inside.packed c.in_ok-place.place c.min.result
     (omega (arith, c.min.ensures)) (omega (arith, c.min.ensures))

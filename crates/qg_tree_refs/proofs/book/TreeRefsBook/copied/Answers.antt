@@ -1,16 +1,16 @@
 use Rattle.std.proofs.Common.{◌≡◌, ℕ, List, [], ◌∷◌, ◌++◌, ap, refl, subst, sym, ◌∙◌}
 use Rattle.std.specs.Prelude.{None, Some}
 use Rattle.qg_device.specs.History.{History}
-use Rattle.qg_blocks.specs.Held.{Draft}
-use Rattle.qg_blocks.specs.Told.{fresh_at, held_at}
-use Rattle.qg_blocks.proofs.Telling.{held-kept}
+use Rattle.qg_ground.specs.Held.{Draft}
+use Rattle.qg_ground.specs.Told.{fresh_at, held_at}
+use Rattle.qg_ground.proofs.Telling.{held-kept}
 use Rattle.qg_ground.specs.declared.ground.Ground.{Ground}
 use Rattle.qg_ground.proofs.Lands.{Rests-after, Rests-draft}
 use Rattle.qg_ground.specs.Tellings.Telling.{Copied}
 use Rattle.qg_tree_refs.specs.declared.tree_refs.TreeRefs.{TreeRefs}
 use Rattle.qg_tree_refs.specs.Following.{Follows}
 use Rattle.qg_refs.specs.declared.kept.Kept.{Kept}
-use Rattle.qg_extents.specs.Table.{IsTable, book_of}
+use Rattle.qg_weighed.specs.Table.{IsTable, book_of}
 use Rattle.qg_tree_refs.specs.Settled.{IsSettled}
 use Rattle.qg_tree_refs.proofs.Placing.{IsLetGo}
 use Rattle.qg_tree_refs.proofs.Settles.{IsPutAt-fresh, Settled-copied, held-fresh, level-copied, some-fresh}

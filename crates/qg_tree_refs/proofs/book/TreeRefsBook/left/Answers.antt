@@ -1,9 +1,9 @@
 use Rattle.std.proofs.Common.{◌≡◌, ℕ, List, Some, ap, subst, sym, ◌∙◌}
 use Rattle.qg_node.specs.declared.node.Node.{Node}
-use Rattle.qg_blocks.specs.Told.{fresh_at, held_at}
-use Rattle.qg_blocks.proofs.Telling.{fresh-held, held-told}
+use Rattle.qg_ground.specs.Told.{fresh_at, held_at}
+use Rattle.qg_ground.proofs.Telling.{fresh-held, held-told}
 use Rattle.qg_refs.specs.declared.kept.Kept.{Kept}
-use Rattle.qg_extents.specs.Table.{IsTable, book_of}
+use Rattle.qg_weighed.specs.Table.{IsTable, book_of}
 use Rattle.qg_tree_refs.proofs.Placing.{IsLetGo}
 use Rattle.qg_tree_refs.proofs.Settles.{IsEmptied-fresh, Settled-left}
 use Rattle.qg_tree_refs.proofs.Stepping.{Follows-left}

@@ -1,11 +1,11 @@
 use Rattle.std.proofs.Common.{◌≡◌, ℕ, List, refl, ap, subst, ◌∙◌}
 use Rattle.qg_node.specs.declared.node.Node.{Node}
 use Rattle.qg_node.specs.Nodes.{header_of}
-use Rattle.qg_blocks.specs.Told.{fresh_at}
-use Rattle.qg_blocks.proofs.Telling.{fresh-held}
+use Rattle.qg_ground.specs.Told.{fresh_at}
+use Rattle.qg_ground.proofs.Telling.{fresh-held}
 use Rattle.qg_ground.specs.Tellings.Telling.{Made}
 use Rattle.qg_refs.specs.declared.kept.Kept.{Kept}
-use Rattle.qg_extents.specs.Table.{IsTable}
+use Rattle.qg_weighed.specs.Table.{IsTable}
 use Rattle.qg_tree_refs.proofs.Settles.{IsPutAt-fresh, Settled-made, some-fresh}
 use Rattle.qg_tree_refs.proofs.Stepping.{Follows-more}
 use Rattle.qg_tree_refs.proofs.book.TreeRefsBook.made.Goals as goal

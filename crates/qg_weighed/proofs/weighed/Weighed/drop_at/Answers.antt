@@ -1,5 +1,5 @@
 use Rattle.std.proofs.Common.{◌<◌, subst, sym, ◌∙◌}
-use Rattle.qg_refs.specs.Book.{count_at}
+use Rattle.qg_extents.specs.Book.{count_at}
 use Rattle.qg_extents.specs.Table.{book_of}
 use Rattle.qg_weighed.specs.Weight.{Books}
 use Rattle.qg_weighed.proofs.Known.{lacking-least, unknown-none, weighed-dropped}

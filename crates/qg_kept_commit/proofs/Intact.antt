@@ -1,0 +1,52 @@
+-- What a commit that did not end leaves as it was.
+use Rattle.std.proofs.Common.{◌≡◌, ◌⊎◌, ◌∙◌, inl, inr, refl, sym, subst}
+use Rattle.std.specs.Prelude.{Bool, false, Result, Ok, Err, IsErrOf}
+use Rattle.qg_device.specs.History.{History}
+use Rattle.qg_num.specs.declared.fault.BlockFault.{BlockFault}
+use Rattle.qg_num.specs.declared.fault.BlockFault.TheVariants.{NoMemory, Disk, Image}
+use Rattle.qg_blocks.proofs.Broken.{broken-any}
+use Rattle.qg_kept_commit.specs.Committing.{StopsIntact}
+
+-- nothing was done
+pub stops-intact : {A : Type 0} (result : Result A BlockFault) (takes : Bool) (before after : History)
+    → after ≡ before → StopsIntact takes result before after
+stops-intact result takes before after same = record {
+  broken = broken-any result (after ≡ before) same;
+  refused = λ none refused. same;
+}
+
+-- it ended
+pub ended-intact : {A : Type 0} (done : A) (takes : Bool) (before after : History)
+    → StopsIntact takes (Ok done) before after
+ended-intact done takes before after = record { broken = tt; refused = λ none refused. absurd cc }
+
+-- its calls began
+pub written-intact : {A B : Type 0} (result : Result A BlockFault) (fault : BlockFault) (takes : Bool)
+    (before between after : History) → result ≡ Err fault → between ≡ before
+    → (fault ≡ Disk) ⊎ (fault ≡ NoMemory)
+    → (takes ≡ false → IsErrOf {T = B} (Err fault) NoMemory → after ≡ between) → StopsIntact takes result before after
+written-intact result Disk takes before between after is same either refused =
+    subst (λ r. StopsIntact takes r before after) (sym is)
+    (record { broken = tt; refused = λ none wanted. absurd cc })
+written-intact result NoMemory takes before between after is same either refused =
+    subst (λ r. StopsIntact takes r before after) (sym is)
+    (record { broken = tt; refused = λ none wanted. refused none refl ∙ same })
+written-intact result (Image rule at) takes before between after is same either refused =
+    elim either [
+      | inl disk ↦ absurd cc
+      | inr memory ↦ absurd cc
+    ]
+
+-- a fault that is handed on
+pub intact-handed : {A B : Type 0} (result : Result A BlockFault) (fault : BlockFault) (takes : Bool)
+    (before after : History) → result ≡ Err fault → StopsIntact {A = B} takes (Err fault) before after
+    → StopsIntact takes result before after
+intact-handed result (Image rule at) takes before after is intact =
+    subst (λ r. StopsIntact takes r before after) (sym is)
+    (record { broken = intact.broken; refused = λ none wanted. absurd cc })
+intact-handed result Disk takes before after is intact =
+    subst (λ r. StopsIntact takes r before after) (sym is)
+    (record { broken = tt; refused = λ none wanted. absurd cc })
+intact-handed result NoMemory takes before after is intact =
+    subst (λ r. StopsIntact takes r before after) (sym is)
+    (record { broken = tt; refused = λ none wanted. intact.refused none refl })
