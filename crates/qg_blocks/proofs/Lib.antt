@@ -7,3 +7,4 @@ pub mod Written
 pub mod Flushed
 pub mod Walked
 pub mod Broken
+pub mod Stopping

@@ -12,3 +12,4 @@ pub mod Told
 pub mod Writing
 pub mod Lending
 pub mod Types
+pub mod Stopping

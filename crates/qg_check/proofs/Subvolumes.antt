@@ -15,7 +15,7 @@ use Rattle.qg_super.specs.declared.superblock.Super.{Super}
 use Rattle.qg_image.specs.Below.{nodes_below}
 use Rattle.qg_image.specs.declared.file.File.{File}
 use Rattle.qg_image.specs.declared.part.FilePart.{FilePart}
-use Rattle.qg_image.specs.FilesOf.{are_files, file_parts, files_in, files_of}
+use Rattle.qg_image.specs.FilesOf.{are_files, file_parts, files_in, AreItemsOfFiles}
 use Rattle.qg_image.specs.ItemMeaning.{file_part, when}
 use Rattle.qg_parts.specs.Held.{file_said}
 use Rattle.qg_image.specs.declared.element.Element.{Element}
@@ -140,8 +140,8 @@ module _ (super : Super) (image : List ℕ) (root : RootItem) (kept : subvolume_
       ap (list_all (is_item_of Files super.generation)) items_are
       ∙ all_in (is_item_of Files super.generation) own_items nodes (λ node has. (branch.reached.each node has).held)
 
-  files_are : files_of super.generation (items_of_root Files super image root)
-      ≡ Some (files_in (file_parts (items_of_root Files super image root)))
+  files_are : AreItemsOfFiles super.generation (items_of_root Files super image root)
+      (files_in (file_parts (items_of_root Files super image root)))
   files_are =
       let items = items_of_root Files super image root in
       files_of_held super.generation items (file_parts items) (files_in (file_parts items)) held refl

@@ -12,7 +12,7 @@ use Rattle.qg_super.specs.declared.superblock.Super.{Super}
 use Rattle.qg_super.specs.Places.{first_place, is_slot, second_place}
 use Rattle.qg_super.specs.SuperText.{is_super, sizes_of}
 use Rattle.qg_image.specs.declared.file.File.{File}
-use Rattle.qg_image.specs.FilesOf.{files_of}
+use Rattle.qg_image.specs.FilesOf.{AreItemsOfFiles}
 use Rattle.qg_image.specs.Table.{keys_of, value_at}
 use Rattle.qg_image.specs.declared.element.Element.{Element}
 use Rattle.qg_image.specs.Owed.{Agrees, homeless, is_nothing, layout_extents, owed_count, what_at}
@@ -37,7 +37,7 @@ use Rattle.qg_check.specs.declared.judge.Read.{Read}
 -- the items of a subvolume's tree have bodies of bytes, and are read as files
 pub record IsSubvolumeOf (super : Super) (bytes : List ℕ) (root : RootItem) : Type 0 where
   pub files : List (ℕ × File)
-  pub told : files_of super.generation (items_of_root Files super bytes root) ≡ Some files
+  pub told : AreItemsOfFiles super.generation (items_of_root Files super bytes root) files
   pub bodies : All (λ item. IsBytes item.body) (items_of_root Files super bytes root)
 
 -- what is known of a node of so many bytes

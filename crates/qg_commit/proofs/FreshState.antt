@@ -15,7 +15,7 @@ use Rattle.qg_super.specs.declared.sizes.Sizes.{Sizes}
 use Rattle.qg_super.specs.declared.superblock.Super.{Super}
 use Rattle.qg_super.specs.Places.{is_served, slot_at}
 use Rattle.qg_super.proofs.Served.{SizesFit-is_served}
-use Rattle.qg_image.specs.FilesOf.{are_files, files_of}
+use Rattle.qg_image.specs.FilesOf.{are_files, files_of, AreItemsOfFiles}
 use Rattle.qg_image.specs.IsShaped.{is_shaped}
 use Rattle.qg_image.specs.ItemMeaning.{is_subvolume_number}
 use Rattle.qg_image.specs.Table.{value_at}
@@ -25,7 +25,7 @@ use Rattle.qg_image.specs.Members.{is_below, leads, members}
 use Rattle.qg_image.specs.Owed.{homeless, is_nothing, layout_extents, owed_count, what_at}
 use Rattle.qg_image.specs.Reach.{is_reached, level_of, pieces_of, reach, reach_of_root}
 use Rattle.qg_image.specs.Space.{present_extents}
-use Rattle.qg_image.specs.State.{Placed, State, Subvolume, layout_of, node_at}
+use Rattle.qg_image.specs.State.{Placed, State, Subvolume, layout_of, node_at, blank_state, blank_subvolume}
 use Rattle.qg_image.proofs.Contained.{none_contained}
 use Rattle.qg_image.specs.declared.failure.Failure.{Failure}
 use Rattle.qg_image.specs.declared.tree.Tree.TheVariants.{Files}
@@ -64,7 +64,7 @@ module _ (super : Super) (root : ℕ) (found : ℕ → Result Node Failure) (fir
   leaf-items : items_under Files super found 0 (root_expected None None) root ≡ Some []
   leaf-items = rw (leaf-is_way, there) refl
 
-no_files : (generation : ℕ) → files_of generation [] ≡ Some []
+no_files : (generation : ℕ) → AreItemsOfFiles generation [] []
 unfolding files_of are_files
 no_files generation = refl
 
@@ -75,21 +75,13 @@ module _ (sizes : Sizes) (served : is_served sizes ≡ true) where
   root = slot_at sizes 2
 
   abbrev own : Subvolume
-  own = record { files = []; root = root; last_snapshot = 0 }
+  own = blank_subvolume root
 
   abbrev placed : Placed
   placed = record { node = own_leaf sizes; full = false }
 
   abbrev pub before : State
-  before = record {
-    sizes = sizes;
-    generation = 0;
-    subvolumes = (TOP_LEVEL, own) ∷ [];
-    layout = (root, placed) ∷ [];
-    quota = None;
-    pending = [];
-    held = record { nodes = []; others = []; extents = [] };
-  }
+  before = record (blank_state sizes) { subvolumes = (TOP_LEVEL, own) ∷ []; layout = (root, placed) ∷ [] }
 
   abbrev quota : Quota
   quota = fresh_quota sizes.nodesize

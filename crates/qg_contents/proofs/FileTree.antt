@@ -16,10 +16,9 @@ use Rattle.qg_items.specs.ItemText.{inode_text, extent_data_text}
 use Rattle.qg_items.proofs.FileBodies.{length-inode_text, length-extent_data_text}
 use Rattle.qg_image.specs.declared.file.File.{File}
 use Rattle.qg_image.specs.declared.part.FilePart.{FilePart}
-use Rattle.qg_image.specs.FilesOf.{are_files, files_in, files_of, is_file_item, pieces_bytes}
+use Rattle.qg_image.specs.FilesOf.{are_files, files_in, files_of, is_file_item, pieces_bytes, AreItemsOfFiles}
 use Rattle.qg_parts.specs.Keys.{file_key}
-use Rattle.qg_rules.specs.declared.parts.FileItems.{FileItems}
-use Rattle.qg_rules.specs.Files.{is_file_of}
+use Rattle.qg_rules.specs.Files.{FileItems, is_file_of}
 use Rattle.qg_rules.proofs.Pieces.{file_small}
 use Rattle.qg_rules.proofs.Standing.{StartsOther}
 use Rattle.qg_rules.proofs.Reading.{IsNext, IsReading, IsReading-none, IsReading-more, IsReading-all, file_told-judged}
@@ -137,7 +136,7 @@ file_items-of_tree generation files are small by = file_items-allowed generation
 
 pub file_items-told : (generation : ℕ) (files : List (ℕ × File)) → AreWritableFiles files → generation < 2 ^ 64
     → All (IsFileBy generation) files
-    → files_of generation (flat_map items_of_file files) ≡ Some files
+    → AreItemsOfFiles generation (flat_map items_of_file files) files
 unfolding files_of
 file_items-told generation files are small by =
     let written = AreWritten-writable files are in

@@ -1,9 +1,9 @@
 // The items of a subvolume's tree.
-ghost use Rattle.std.specs.Prelude.{◌≡◌, ◌≤◌, ◌<◌, ◌^◌, ℕ, ◌∷◌, ◌++◌, [], Some, All, IfOk, OnOk, IsTrue, length, map};
+ghost use Rattle.std.specs.Prelude.{◌≡◌, ◌≤◌, ◌<◌, ◌^◌, ℕ, ◌∷◌, ◌++◌, [], All, IfOk, OnOk, IsTrue, length, map};
 ghost use Rattle.std.specs.List.{flat_map, list_all, sum_by};
 ghost use Rattle.qg_node.specs.Fits.{ItemFits};
 ghost use Rattle.qg_node.specs.Nodes.{is_ascending, items_bytes};
-ghost use Rattle.qg_image.specs.FilesOf.{files_of, pieces_bytes};
+ghost use Rattle.qg_image.specs.FilesOf.{pieces_bytes, AreItemsOfFiles};
 ghost use Rattle.qg_image.specs.Need.{file_bytes};
 ghost use Rattle.qg_image.specs.Walk.{is_item_of};
 ghost use Rattle.qg_image.specs.declared.tree.Tree.TheVariants.{Files};
@@ -25,7 +25,7 @@ use std::alloc::{AllocError, Global};
 pub fn file_items(alloc: Global, files: &[(Ino, File)]) -> Result<Items, NoMemory>
     requires { AreWritableFiles files.now }
     ensures told { IfOk result (λ items. (generation : ℕ) → generation < 2 ^ 64 → All (IsFileBy generation) files.now
-        → files_of generation items ≡ Some files.now) }
+        → AreItemsOfFiles generation items files.now) }
     ensures allowed { IfOk result (λ items. (generation : ℕ) → generation < 2 ^ 64 → All (IsFileBy generation) files.now
         → IsTrue (list_all (is_item_of Files generation) items)) }
     ensures ascending { IfOk result (λ items. IsTrue (is_ascending (map (λ item. item.key) items))) }

@@ -1,7 +1,7 @@
 -- Two images stand for one state where the second has the superblock of the first and each node that the state holds.
 use Rattle.std.proofs.Common.{◌≡◌, ◌∙◌, ℕ, ◌≤◌, Bool, true, false, List, [], ◌∷◌, ◌++◌, length, map, refl, sym, ap}
 use Rattle.std.proofs.Common.{subst}
-use Rattle.std.specs.Prelude.{Option, Some, None, nat_le, unwrap_or}
+use Rattle.std.specs.Prelude.{Option, Some, None, nat_le}
 use Rattle.std.specs.List.{Contains, AllByRecursion, filter_map, flat_map, fold}
 use Rattle.std.specs.Option.{option_map}
 use Rattle.std.proofs.lemmas.Bool.{le-leb, leb-true}
@@ -19,9 +19,9 @@ use Rattle.qg_image.specs.Table.{keys_of, value_at, with_value}
 use Rattle.qg_image.specs.declared.part.ExtentPart.{ExtentPart}
 use Rattle.qg_image.specs.declared.part.QuotaPart.{QuotaPart}
 use Rattle.qg_image.specs.ItemMeaning.{root_part, extent_part, quota_part}
-use Rattle.qg_image.specs.FilesOf.{are_files, file_parts, files_of}
+use Rattle.qg_image.specs.FilesOf.{are_files, file_parts, files_told}
 use Rattle.qg_image.specs.declared.quota.Quota.{Quota}
-use Rattle.qg_image.specs.State.{State, Subvolume, Placed, layout_of}
+use Rattle.qg_image.specs.State.{State, Subvolume, Placed, layout_of, blank_state}
 use Rattle.qg_image.specs.Owed.{disagreement, homeless}
 use Rattle.qg_image.specs.Space.{present_extents}
 use Rattle.qg_image.specs.declared.failure.Failure.{Failure}
@@ -32,6 +32,7 @@ use Rattle.qg_image.specs.ImageState.{addresses_of, as_committed, extent_parts, 
 use Rattle.qg_image.specs.ImageState.{nodes_of_root, of_tree, other_nodes, placed, quota_in, quota_parts, quota_root}
 use Rattle.qg_image.specs.ImageState.{quota_told, root_items, root_nodes, roots_in, state_in, subvolume_in}
 use Rattle.qg_image.specs.ImageState.{subvolume_roots, subvolumes_in, super_in, super_of, tree_items, tree_nodes}
+use Rattle.qg_image.specs.ImageState.{subvolume_told}
 use Rattle.qg_image.specs.StateOf.{StateOf}
 use Rattle.qg_image.specs.Verdict.{IsSound, are_few, are_mirrored, are_roots, counts_failure, extent_set, image_failure}
 use Rattle.qg_image.specs.Verdict.{is_quota, most_subvolumes, places_failure, quota_failure, references_failure}
@@ -121,14 +122,11 @@ breaks_none super image keeps =
 -- ---- the state
 
 abbrev state_with : Super → List Node → List (ℕ × Subvolume) → List (ℕ × Placed) → Option Quota → State
-state_with super others subvolumes layout quota = as_committed others (record {
-  sizes = sizes_of super;
+state_with super others subvolumes layout quota = as_committed others (record (blank_state (sizes_of super)) {
   generation = super.generation;
   subvolumes = subvolumes;
   layout = layout;
   quota = quota;
-  pending = [];
-  held = record { nodes = []; others = []; extents = [] };
 })
 
 -- the nodes of all subvolumes, subvolume by subvolume
@@ -378,14 +376,8 @@ module _ (super : Super) (old new : List ℕ) (rules : KeepsRules super old)
 
   told_same_of : (entry : ℕ × RootItem) → IsCarried entry → told_in new entry ≡ told_in old entry
   told_same_of entry is =
-      let make : List Item → ℕ × Subvolume = λ items. (
-        entry.0,
-        record {
-          files = unwrap_or (files_of super.generation items) [];
-          root = entry.1.bytenr;
-          last_snapshot = entry.1.last_snapshot;
-        },
-      ) in
+      let make : List Item → ℕ × Subvolume = λ items.
+      (entry.0, subvolume_told (files_told super.generation items) entry.1) in
       ap make (items_same_of entry is)
 
   files_failure_same : first_failure

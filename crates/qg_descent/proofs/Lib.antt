@@ -16,3 +16,4 @@ pub mod BranchWalk
 pub mod BranchOrder
 pub mod BranchRanges
 pub mod BranchApart
+pub mod Stopping

@@ -2,3 +2,4 @@ pub mod Tree
 pub mod Reading
 pub mod Way
 pub mod Branch
+pub mod Stopping

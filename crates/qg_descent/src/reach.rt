@@ -6,6 +6,7 @@ ghost use Rattle.qg_node.specs.declared.item.Item.{Item as ItemValue};
 ghost use Rattle.qg_node.specs.declared.node.Node.{Node as NodeValue};
 ghost use Rattle.qg_walk.specs.Standing.{form_failure};
 ghost use Rattle.qg_blocks.specs.Told.{BreaksNone, found, told};
+ghost use Rattle.qg_descent.specs.Stopping.{StopsOnWay, StopsThere};
 ghost use Rattle.qg_descent.specs.Tree.{TellsTree, super_of};
 ghost use Rattle.qg_descent.specs.Way.{FailsOnWay, FailsThere, HasRead, IsReadable, IsReached, IsVisited};
 
@@ -22,6 +23,9 @@ use std::sync::ledger::Ledger;
 impl Tree {
     /// Sees to it that the node that a way has come to is in memory, and that it is what the way leads to expect. It
     /// takes a step.
+    ///
+    /// Over any disk `Image` comes only at the way's address, and for just that rule there is no node such as the way
+    /// leads to expect.
     pub fn visit<P: TreePart, D: Disk, L: Ledger>(
         &self,
         blocks: &mut Blocks,
@@ -39,6 +43,8 @@ impl Tree {
         ensures broken { (events : List Event) → D.history disk.old ≡ Recorded events
             → FailsThere P.tree (super_of self.now blocks.old.draft) way.now.expected way.now.address
             (found blocks.old.draft (content events) way.now.address) result }
+        ensures stops { StopsThere result P.tree self.now blocks.old.draft (D.size disk.old) way.now.expected
+            way.now.address }
         ensures readable { IsReadable blocks.new (D.history disk.new) (D.size disk.new) }
         ensures read { HasRead blocks.old blocks.new (D.history disk.old) (D.history disk.new) (D.size disk.old)
             (D.size disk.new) }
@@ -70,6 +76,7 @@ impl Tree {
             → BreaksNone result }
         ensures broken { (events : List Event) → D.history disk.old ≡ Recorded events
             → FailsOnWay P.tree self.now blocks.old.draft events result }
+        ensures stops { StopsOnWay result P.tree self.now blocks.old.draft (D.size disk.old) }
         ensures readable { IsReadable blocks.new (D.history disk.new) (D.size disk.new) }
         ensures read { HasRead blocks.old blocks.new (D.history disk.old) (D.history disk.new) (D.size disk.old)
             (D.size disk.new) }

@@ -5,6 +5,7 @@ ghost use Rattle.qg_device.specs.History.{Event, Recorded};
 ghost use Rattle.qg_node.specs.declared.item.Item.{Item as ItemValue};
 ghost use Rattle.qg_blocks.specs.Told.{BreaksNone};
 ghost use Rattle.qg_descent.specs.Reading.{body_at, items_within, last_upto};
+ghost use Rattle.qg_descent.specs.Stopping.{StopsOnWay};
 ghost use Rattle.qg_descent.specs.Tree.{TellsTree};
 ghost use Rattle.qg_descent.specs.Way.{FailsOnWay, Gathers, HasRead, IsFurther, IsReadable};
 
@@ -22,7 +23,8 @@ impl Tree {
     /// The body under a key; none exactly where no item has the key. It takes at most a step for each level, and copies
     /// no node.
     ///
-    /// `P` says which tree it is, and so which owners a node may have. What does not fit a tree is answered as `Image`.
+    /// `P` says which tree it is, and so which owners a node may have. What does not fit a tree is answered as `Image`:
+    /// over any disk only at an address on the way down, where there is no node such as the way leads to expect.
     pub fn get<P: TreePart, D: Disk, L: Ledger>(
         &self,
         alloc: Global,
@@ -38,6 +40,7 @@ impl Tree {
             → BreaksNone result }
         ensures broken { (events : List Event) → D.history disk.old ≡ Recorded events
             → FailsOnWay P.tree self.now blocks.old.draft events result }
+        ensures stops { StopsOnWay result P.tree self.now blocks.old.draft (D.size disk.old) }
         ensures readable { IsReadable blocks.new (D.history disk.new) (D.size disk.new) }
         ensures read { HasRead blocks.old blocks.new (D.history disk.old) (D.history disk.new) (D.size disk.old)
             (D.size disk.new) }
@@ -66,6 +69,7 @@ impl Tree {
             → BreaksNone result }
         ensures broken { (events : List Event) → D.history disk.old ≡ Recorded events
             → FailsOnWay P.tree self.now blocks.old.draft events result }
+        ensures stops { StopsOnWay result P.tree self.now blocks.old.draft (D.size disk.old) }
         ensures readable { IsReadable blocks.new (D.history disk.new) (D.size disk.new) }
         ensures read { HasRead blocks.old blocks.new (D.history disk.old) (D.history disk.new) (D.size disk.old)
             (D.size disk.new) }
@@ -96,6 +100,7 @@ impl Tree {
             → BreaksNone result }
         ensures broken { (events : List Event) → D.history disk.old ≡ Recorded events
             → FailsOnWay P.tree self.now blocks.old.draft events result }
+        ensures stops { StopsOnWay result P.tree self.now blocks.old.draft (D.size disk.old) }
         ensures readable { IsReadable blocks.new (D.history disk.new) (D.size disk.new) }
         ensures read { HasRead blocks.old blocks.new (D.history disk.old) (D.history disk.new) (D.size disk.old)
             (D.size disk.new) }
@@ -129,6 +134,7 @@ impl Tree {
             → BreaksNone result }
         ensures broken { (events : List Event) → D.history disk.old ≡ Recorded events
             → FailsOnWay P.tree self.now blocks.old.draft events result }
+        ensures stops { StopsOnWay result P.tree self.now blocks.old.draft (D.size disk.old) }
         ensures readable { IsReadable blocks.new (D.history disk.new) (D.size disk.new) }
         ensures read { HasRead blocks.old blocks.new (D.history disk.old) (D.history disk.new) (D.size disk.old)
             (D.size disk.new) }

@@ -1,9 +1,10 @@
 -- What is left so over any disk, once runs were given back and a node was let go.
 use Rattle.std.proofs.Common.{◌≡◌, ℕ, ◌<◌, ◌≤◌, List, [], ◌∷◌, length, None, arith, refl, sym, ap, subst, ◌∙◌}
-use Rattle.std.specs.Prelude.{Err, IsErrAnd, Ok, Result}
+use Rattle.std.specs.Prelude.{Err, IsErrAnd, Result}
 use Rattle.qg_device.specs.History.{History}
 use Rattle.qg_num.specs.declared.fault.BlockFault.{BlockFault}
 use Rattle.qg_image.specs.declared.element.Element.{Element}
+pub use Rattle.qg_blocks.proofs.Broken.{handed}
 use Rattle.qg_blocks.specs.Told.{BreaksNone, IsBacked, held_at}
 use Rattle.qg_space.specs.Holding.{free_slots, without_runs, without_slot}
 use Rattle.qg_space.proofs.Counted.{free_slots-given}
@@ -84,11 +85,6 @@ free-left land mid new gone at references given stays goes =
     omega (arith, same, most)
 
 -- ---- faults
-
-pub handed : {A : Type 0} (result : Result A BlockFault) (fault : BlockFault) → IsErrAnd result (λ given. given ≡ fault)
-    → result ≡ Err fault
-handed (Ok x) fault is = absurd is
-handed (Err given) fault is = ap (λ (f : BlockFault). Err f) is
 
 pub unbroken-handed : {A : Type 0} (result : Result A BlockFault) (fault : BlockFault)
     → IsErrAnd result (λ given. given ≡ fault) → BreaksNone {A = A} (Err fault) → BreaksNone result

@@ -5,6 +5,7 @@ ghost use Rattle.qg_device.specs.History.{Event, Recorded};
 ghost use Rattle.qg_node.specs.Nodes.{own_pointers};
 ghost use Rattle.qg_image.specs.State.{State as MachineState, has_subvolume, next_generation};
 ghost use Rattle.qg_machine.specs.Refusals.{nodes_reached};
+ghost use Rattle.qg_blocks.specs.Stopping.{StopsForCause};
 ghost use Rattle.qg_blocks.specs.Told.{BreaksNone};
 ghost use Rattle.qg_descent.specs.Way.{HasRead, IsReadable};
 ghost use Rattle.qg_tree_edits.specs.Editing.{IsEditable};
@@ -53,6 +54,7 @@ pub fn count_nodes<D: Disk, L: Ledger>(
     ensures read { HasRead land.old.blocks land.new.blocks (D.history disk.old) (D.history disk.new) (D.size disk.old)
         (D.size disk.new) }
     ensures space { land.new.space ≡ land.old.space }
+    ensures stops { StopsForCause result land.old.blocks.draft.sizes (D.size disk.old) }
     ensures cause { HasCause BlockFault.Disk (D.faults disk.old) (D.faults disk.new) result }
 {
     count_under::<D, L>(
@@ -91,6 +93,7 @@ fn count_under<D: Disk, L: Ledger>(
     ensures readable { IsReadable blocks.new (D.history disk.new) (D.size disk.new) }
     ensures read { HasRead blocks.old blocks.new (D.history disk.old) (D.history disk.new) (D.size disk.old)
         (D.size disk.new) }
+    ensures stops { StopsForCause result blocks.old.draft.sizes (D.size disk.old) }
     ensures cause { HasCause BlockFault.Disk (D.faults disk.old) (D.faults disk.new) result }
 {
     tree.visit::<FilePart, D, L>(blocks, disk, way, reads)?;
@@ -128,6 +131,7 @@ fn count_each<D: Disk, L: Ledger>(
     ensures readable { IsReadable blocks.new (D.history disk.new) (D.size disk.new) }
     ensures read { HasRead blocks.old blocks.new (D.history disk.old) (D.history disk.new) (D.size disk.old)
         (D.size disk.new) }
+    ensures stops { StopsForCause result blocks.old.draft.sizes (D.size disk.old) }
     ensures cause { HasCause BlockFault.Disk (D.faults disk.old) (D.faults disk.new) result }
 {
     let mut count: u64 = 0;

@@ -6,6 +6,7 @@ ghost use Rattle.qg_super.specs.Places.{capacity};
 ghost use Rattle.qg_image.specs.State.{State as MachineState, has_subvolume, next_generation};
 ghost use Rattle.qg_machine.specs.Refusals.{nodes_reached};
 ghost use Rattle.qg_machine.specs.Step.{deleted};
+ghost use Rattle.qg_blocks.specs.Stopping.{StopsForCause};
 ghost use Rattle.qg_blocks.specs.Told.{BreaksNone};
 ghost use Rattle.qg_tree_edits.specs.Editing.{IsEditable};
 ghost use Rattle.qg_tree_refs.specs.Heavier.{BookGetsHeavier};
@@ -63,6 +64,7 @@ pub fn drop_all<D: Disk, L: Ledger>(
     ensures book { StaysBook book.old book.new result }
     ensures rests { RestsButRuns land.old land.new (D.history disk.new) tree.now.next }
     ensures disk { (D.history disk.new ≡ D.history disk.old) × (D.size disk.new ≡ D.size disk.old) }
+    ensures stops { StopsForCause result land.old.blocks.draft.sizes (D.size disk.old) }
     ensures cause { HasCause BlockFault.Disk (D.faults disk.old) (D.faults disk.new) result }
 {
     let _ascending = book.refs().len();
@@ -117,6 +119,7 @@ fn drop_under<D: Disk, L: Ledger>(
     ensures book { StaysBook book.old book.new result }
     ensures rests { RestsButRuns land.old land.new (D.history disk.new) tree.now.next }
     ensures disk { (D.history disk.new ≡ D.history disk.old) × (D.size disk.new ≡ D.size disk.old) }
+    ensures stops { StopsForCause result land.old.blocks.draft.sizes (D.size disk.old) }
     ensures cause { HasCause BlockFault.Disk (D.faults disk.old) (D.faults disk.new) result }
 {
     tree.visit::<FilePart, D, L>(&mut land.blocks, disk, &part.way, reads)?;
@@ -182,6 +185,7 @@ fn drop_each<D: Disk, L: Ledger>(
     ensures book { StaysBook book.old book.new result }
     ensures rests { RestsButRuns land.old land.new (D.history disk.new) tree.now.next }
     ensures disk { (D.history disk.new ≡ D.history disk.old) × (D.size disk.new ≡ D.size disk.old) }
+    ensures stops { StopsForCause result land.old.blocks.draft.sizes (D.size disk.old) }
     ensures cause { HasCause BlockFault.Disk (D.faults disk.old) (D.faults disk.new) result }
 {
     let mut rest = parts;

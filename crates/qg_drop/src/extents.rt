@@ -7,6 +7,7 @@ ghost use Rattle.qg_num.specs.declared.rule.Rule.TheVariants.{Refs};
 ghost use Rattle.qg_super.specs.Places.{is_run};
 ghost use Rattle.qg_image.specs.Owed.{owed_by_node};
 ghost use Rattle.qg_refs.specs.Book.{what_in};
+ghost use Rattle.qg_blocks.specs.Stopping.{NamesRule};
 ghost use Rattle.qg_blocks.specs.Told.{BreaksNone};
 ghost use Rattle.qg_extents.specs.Table.{book_of};
 ghost use Rattle.qg_drop.specs.Dropping.{extent_of_what, extents_known, without_references};
@@ -69,6 +70,7 @@ pub(crate) fn without_references(
     ensures sound { All (λ run. Contains space.now.runs run × IsTrue (is_run space.now.sizes run.address run.bytes))
         (without_references (book_of refs.now) extents.now) → BreaksNone result }
     ensures no_disk { IfErr result (λ fault. fault ≡ BlockFault.Disk → ⊥) }
+    ensures refs { NamesRule result Refs }
 {
     let mut gone = Vec::new(alloc);
     for extent in extents {

@@ -1,9 +1,11 @@
 // One node that a subvolume reaches no more.
 ghost use Rattle.std.specs.Prelude.{◌≡◌, ◌≤◌, ◌&&◌, ◌==◌, ℕ, Bool, List, IfErr, IsSome, IsTrue, OnOk, not};
 ghost use Rattle.qg_device.specs.History.{History};
+ghost use Rattle.qg_num.specs.declared.rule.Rule.TheVariants.{Refs};
 ghost use Rattle.qg_image.specs.Table.{value_at};
 ghost use Rattle.qg_image.specs.State.{Placed as PlacedValue, State as MachineState};
 ghost use Rattle.qg_super.specs.Places.{capacity};
+ghost use Rattle.qg_blocks.specs.Stopping.{NamesRule};
 ghost use Rattle.qg_blocks.specs.Told.{BreaksNone, IsBacked, held_at};
 ghost use Rattle.qg_space.specs.Holding.{free_slots};
 ghost use Rattle.qg_ground.specs.Land.{IsDrafted};
@@ -48,6 +50,7 @@ pub(crate) fn part_with(
     ensures rests { (history : History) (generation : ℕ) → IsBacked land.old.blocks history
         → IsDrafted land.old generation → RestsButRuns land.old land.new history generation }
     ensures no_disk { IfErr result (λ fault. fault ≡ BlockFault.Disk → ⊥) }
+    ensures refs { NamesRule result Refs }
 {
     let _ascending = book.refs().len();
     let named = extents_known(alloc, book.refs(), land.blocks.peek(at))?;

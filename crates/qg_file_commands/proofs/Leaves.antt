@@ -1,11 +1,9 @@
 -- What an edit leaves follows the state, and leaves the slots that a commit may want. Weights are in bytes.
 use Rattle.std.proofs.Common.{◌≡◌, ℕ, ◌+◌, ◌*◌, ◌^◌, ◌<◌, ◌≤◌, List, sym, ap, subst, arith}
-use Rattle.std.proofs.Common.{inl, inr}
 use Rattle.qg_device.specs.History.{History}
-use Rattle.qg_node.specs.NodeText.{IsNodeSize}
 use Rattle.qg_super.specs.declared.sizes.Sizes.{Sizes}
 use Rattle.qg_image.specs.declared.file.File.{File}
-use Rattle.qg_image.specs.Need.{file_copies, nodes_filled}
+use Rattle.qg_image.specs.Need.{file_copies}
 use Rattle.qg_image.specs.State.{Accepted, State}
 use Rattle.qg_space.specs.Holding.{free_slots}
 use Rattle.qg_extents.specs.Table.{IsTable}
@@ -20,15 +18,10 @@ use Rattle.qg_kept.specs.FsLawsKeeping as step
 use Rattle.qg_kept.proofs.Followed.{follows}
 use Rattle.qg_kept.specs.FsLawsCommitting.{AreShort}
 use Rattle.qg_kept.specs.declared.kept.Kept.{Kept}
-use Rattle.qg_kept.specs.Keeping.{IsKept, IsKeptOf, book_weight, commit_need, filled_by, need_of, quota_weight}
+use Rattle.qg_kept.specs.Keeping.{IsKept, IsKeptOf, book_weight, commit_room_of, filled_by, need_of, quota_weight}
 use Rattle.qg_kept.specs.Keeping.{root_weight}
-use Rattle.qg_kept.proofs.Looked.{node-size}
-use Rattle.qg_kept.proofs.Room.{fills-apart}
+use Rattle.qg_kept.proofs.Reserve.{large}
 use Rattle.qg_kept.proofs.Stepped.{Follows, edited, tree-kept}
-
-wide : (nodesize : ℕ) → IsNodeSize nodesize → 4096 ≤ nodesize
-wide nodesize (inl is) = omega (arith, is)
-wide nodesize (inr is) = omega (arith, is)
 
 -- a part of what is needed is free
 pub part-free : (a b free : ℕ) → a + b + 40 ≤ free → a ≤ free
@@ -42,10 +35,9 @@ copies-free kept pieces enough =
     (8 * filled_by kept)
     (free_slots kept.fs.land.space) enough
 
--- so the slots that are enough for all together are for the three parts
-pub parts-need : (book root quota all left : ℕ) → book + root + quota ≤ all + 2 → 5 * all + 13 ≤ left
-    → 5 * (book + root + quota) + 3 ≤ left
-parts-need book root quota all left parts enough = omega (arith, parts, enough)
+-- what was needed is there still, but for what was taken
+needed-left : (need free left copies : ℕ) → need ≤ free → free ≤ left + copies → need ≤ left + copies
+needed-left need free left copies enough taken = omega (arith, enough, taken)
 
 -- a tree that is left for the next edit, with a table of references
 module _ (old : Kept) (fs : FsTree) (before after : History) (bytes left : ℕ) (state : State)
@@ -85,7 +77,7 @@ module _ (old : Kept) (fs : FsTree) (before after : History) (bytes left : ℕ) 
       (book_weight old + root_weight old + quota_weight old)
       (book_weight (edited old fs old.quota) + root_weight old + quota_weight old)
   heavier-by = record {
-    size = wide old.superblock.nodesize (node-size old fits.fitted);
+    size = large old fits.fitted;
     low = omega arith;
     few_edits = omega arith;
     few_names = omega arith;
@@ -96,20 +88,12 @@ module _ (old : Kept) (fs : FsTree) (before after : History) (bytes left : ℕ) 
         + ((pieces + 3) * edit_bytes nodesize 3 + names * name_new_bytes)) nodesize-is weighs);
   }
 
-  reserved : commit_need (edited old fs old.quota) ≤ free_slots fs.land.space
+  reserved : commit_room_of (edited old fs old.quota) ≤ free_slots fs.land.space
   reserved =
-      let nodesize = old.superblock.nodesize in
-      let whole = leaves-need nodesize old.fs.tree.height pieces 3 (pieces + 3) names
+      leaves-need old.superblock.nodesize old.fs.tree.height pieces 3 (pieces + 3) names
       (book_weight old + root_weight old + quota_weight old)
       (book_weight (edited old fs old.quota) + root_weight old + quota_weight old) (free_slots old.fs.land.space)
-      (free_slots fs.land.space) heavier-by enough leaves.free in
-      parts-need (nodes_filled nodesize (book_weight (edited old fs old.quota)))
-      (nodes_filled nodesize (root_weight old))
-      (nodes_filled nodesize (quota_weight old))
-      (nodes_filled nodesize (book_weight (edited old fs old.quota) + root_weight old + quota_weight old))
-      (free_slots fs.land.space)
-      (fills-apart nodesize (book_weight (edited old fs old.quota)) (root_weight old) (quota_weight old)
-      (wide nodesize (node-size old fits.fitted))) whole
+      (free_slots fs.land.space) heavier-by enough leaves.free
 
   copied : (last : Accepted) → FollowsCommand fs before state (state_after state files fs before last)
       (mine_after keeps.mine files fs) files old.fs.tree.owner (file_copies old.fs.tree.height pieces)
@@ -124,4 +108,8 @@ module _ (old : Kept) (fs : FsTree) (before after : History) (bytes left : ℕ) 
     short = short;
     held = heavier.held;
     reserved = reserved;
+    needed = needed-left (need_of old pieces) (free_slots old.fs.land.space) (free_slots fs.land.space)
+        (file_copies old.fs.tree.height pieces) enough leaves.free;
+    bytes = left;
+    tree = tree-now;
   }

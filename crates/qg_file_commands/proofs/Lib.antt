@@ -1,5 +1,6 @@
 pub mod Refused
 pub mod Touched
+pub mod Asked
 pub mod Leaves
 pub mod ReservedBy
 pub mod Accepting

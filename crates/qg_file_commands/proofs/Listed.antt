@@ -64,4 +64,5 @@ module _ (kept : Kept) (state : State) (history : History) (sub ino : ℕ)
     step = subst (λ (sub : ℕ). Step state (Ls sub ino) (answer.File file.size file.pieces) [] state) (sym top)
         (steps file is);
     keeps = keeps;
+    reserved = keeps.reserve;
   }

@@ -34,6 +34,7 @@ use Rattle.qg_kept.specs.Editable.{AreGroups, AreGroupsOf}
 use Rattle.qg_extents.specs.Table.{IsTable}
 use Rattle.qg_kept.proofs.Lists.{from-mapped}
 use Rattle.qg_kept.specs.declared.kept.Kept.{Kept}
+use Rattle.qg_kept.specs.declared.kept.KeptSubvolume.{KeptSubvolume}
 use Rattle.qg_kept.specs.Keeping.{IsFitted, IsKeptWith, most_reserved}
 use Rattle.qg_kept.proofs.Looked.{hand-among, tree-listed}
 
@@ -71,9 +72,9 @@ room-small pending n few small = omega (arith, few, small)
 module _ (kept : Kept) (fits : IsFitted kept) where
   number-listed : (sub : ℕ) → Contains (keys_of kept.snapshots) sub → is_subvolume_number sub ≡ true
   number-listed sub has =
-      let entry = from-mapped (λ (entry : ℕ × ℕ). entry.0) kept.snapshots sub has in
+      let entry = from-mapped (λ (entry : ℕ × KeptSubvolume). entry.0) kept.snapshots sub has in
       subst (λ (n : ℕ). is_subvolume_number n ≡ true) entry.2
-      (All-contains (λ (entry : ℕ × ℕ). IsTrue (is_subvolume_number entry.0)) kept.snapshots entry.0
+      (All-contains (λ (entry : ℕ × KeptSubvolume). IsTrue (is_subvolume_number entry.0)) kept.snapshots entry.0
       fits.subvolumes.numbers entry.1)
 
   -- a subvolume has its group while quota is on

@@ -1,5 +1,5 @@
 // A range of a file is cloned.
-ghost use Rattle.std.specs.Prelude.{◌≡◌, ◌+◌, ◌<◌, ◌≤◌, [], ℕ, List, None, Some, IfOk, IsTrue};
+ghost use Rattle.std.specs.Prelude.{◌≡◌, ◌+◌, ◌*◌, ◌<◌, ◌≤◌, [], ℕ, List, None, Some, IfOk, IsTrue};
 ghost use Rattle.qg_device.specs.Cause.{HasCause};
 ghost use Rattle.qg_device.specs.History.{Event, Recorded};
 ghost use Rattle.qg_num.specs.declared.command.Command.TheVariants.{Clone};
@@ -9,11 +9,14 @@ ghost use Rattle.qg_image.specs.State.{State, Subvolume};
 ghost use Rattle.qg_blocks.specs.Told.{BreaksNone};
 ghost use Rattle.qg_file_items.specs.Pieces.{pieces_met};
 ghost use Rattle.qg_kept.specs.Files.{pieces_of};
+ghost use Rattle.qg_machine.specs.FileChange.{FileChange, file_change};
 ghost use Rattle.qg_machine.specs.Refusals.{over_limit};
+ghost use Rattle.qg_machine.specs.Work.{is_accepted};
 ghost use Rattle.qg_kept.specs.Answering.{Answered, is_unchanging};
 ghost use Rattle.qg_kept.specs.Editing.{clone_refusal};
 ghost use Rattle.qg_kept.specs.Keeping.{IsKept, IsKeptOf, SameButClean};
 ghost use Rattle.qg_file_commands.specs.Ranges.{CanClonePieces};
+ghost use Rattle.qg_file_commands.specs.Reading.{AsksForFew};
 ghost use Rattle.qg_file_commands.specs.Reserving.{CanReserve};
 
 use crate::finding::{found_in, inode_in, pieces_in};
@@ -48,6 +51,8 @@ pub fn clone<D: Disk, L: Ledger>(
     ensures sound { (state : State) (events : List Event) → D.history disk.old ≡ Recorded events
         → IsKeptOf kept.old state (D.history disk.old) → BreaksNone result }
     ensures unchanged { IfOk result (λ answer. IsTrue (is_unchanging answer) → SameButClean kept.old kept.new) }
+    ensures reads { IfOk result (λ answer. AsksForFew kept.old (D.history disk.old)
+        (Clone sub ino off len to_sub to_ino to_off) answer reads.old reads.new) }
     ensures superblock { kept.new.superblock ≡ kept.old.superblock }
     ensures apart { (D.history disk.new ≡ D.history disk.old) × (D.size disk.new ≡ D.size disk.old) }
     ensures cause { HasCause BlockFault.Disk (D.faults disk.old) (D.faults disk.new) result }
@@ -115,6 +120,11 @@ fn clone_pieces<D: Disk, L: Ledger>(
         → value_at sub state.subvolumes ≡ Some from → source.now ≡ pieces_met off (off + len) (pieces_of ino from.files)
         → BreaksNone result }
     ensures unchanged { IfOk result (λ answer. IsTrue (is_unchanging answer) → SameButClean kept.old kept.new) }
+    ensures reads { (state : State) (sub ino : ℕ) (from : Subvolume) (change : FileChange)
+        → IsKeptOf kept.old state (D.history disk.old)
+        → value_at sub state.subvolumes ≡ Some from → source.now ≡ pieces_met off (off + len) (pieces_of ino from.files)
+        → file_change state (Clone sub ino off len to_sub to_ino to_off) ≡ Some change
+        → IfOk result (λ answer. IsTrue (is_accepted answer) → reads.new ≤ reads.old + 53 * (change.pieces + 3)) }
     ensures superblock { kept.new.superblock ≡ kept.old.superblock }
     ensures apart { (D.history disk.new ≡ D.history disk.old) × (D.size disk.new ≡ D.size disk.old) }
     ensures cause { HasCause BlockFault.Disk (D.faults disk.old) (D.faults disk.new) result }

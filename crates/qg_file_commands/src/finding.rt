@@ -1,9 +1,10 @@
 // What a command reads of a file.
-ghost use Rattle.std.specs.Prelude.{◌≡◌, ℕ, List, IfOk};
+ghost use Rattle.std.specs.Prelude.{◌≡◌, ◌+◌, ◌*◌, ◌≤◌, ℕ, List, IfOk};
 ghost use Rattle.std.specs.Option.{option_map};
 ghost use Rattle.qg_device.specs.Cause.{HasCause};
 ghost use Rattle.qg_image.specs.declared.file.File.{File as FileValue};
 ghost use Rattle.qg_image.specs.Table.{value_at};
+ghost use Rattle.qg_machine.specs.FileChange.{pieces_meeting};
 ghost use Rattle.qg_contents.specs.Written.{inode_of};
 ghost use Rattle.qg_blocks.specs.Told.{BreaksNone};
 ghost use Rattle.qg_files.specs.Apart.{AreApart};
@@ -21,7 +22,7 @@ use qg_num::{BlockFault, Ino, Pieces, Steps};
 use std::sync::ledger::Ledger;
 
 /// The INODE_ITEM of a file; none exactly where there is no such file. `Image` comes only where the tree has the items
-/// of no files.
+/// of no files. Where it has them, no more nodes are asked for than a tree has levels at most.
 pub(crate) fn inode_in<D: Disk, L: Ledger>(
     kept: &mut Kept,
     disk: &mut D,
@@ -33,6 +34,8 @@ pub(crate) fn inode_in<D: Disk, L: Ledger>(
         → IfOk result (λ inode. inode ≡ option_map inode_of (value_at ino files)) }
     ensures sound { (files : List (ℕ × FileValue)) → HoldsFiles kept.old.fs (D.history disk.old) files
         → BreaksNone result }
+    ensures reads { (files : List (ℕ × FileValue)) → HoldsFiles kept.old.fs (D.history disk.old) files
+        → reads.new ≤ reads.old + 8 }
     ensures kept { IsKept kept.new (D.history disk.new) (D.size disk.new) }
     ensures looked { HasReadNodes kept.old kept.new (D.history disk.old) (D.history disk.new) (D.size disk.old)
         (D.size disk.new) }
@@ -63,6 +66,8 @@ pub(crate) fn pieces_in<D: Disk, L: Ledger>(
         → IfOk result (λ pieces. pieces ≡ pieces_met from to (pieces_of ino files)) }
     ensures sound { (files : List (ℕ × FileValue)) → HoldsFiles kept.old.fs (D.history disk.old) files
         → BreaksNone result }
+    ensures reads { (files : List (ℕ × FileValue)) → HoldsFiles kept.old.fs (D.history disk.old) files
+        → reads.new ≤ reads.old + 8 * (pieces_meeting from to (pieces_of ino files) + 2) }
     ensures apart { IfOk result (λ pieces. AreApart pieces) }
     ensures kept { IsKept kept.new (D.history disk.new) (D.size disk.new) }
     ensures looked { HasReadNodes kept.old kept.new (D.history disk.old) (D.history disk.new) (D.size disk.old)
@@ -96,6 +101,8 @@ pub(crate) fn found_in<D: Disk, L: Ledger>(
         → IfOk result (λ found. Finds files ino from to found) }
     ensures sound { (files : List (ℕ × FileValue)) → HoldsFiles kept.old.fs (D.history disk.old) files
         → BreaksNone result }
+    ensures reads { (files : List (ℕ × FileValue)) → HoldsFiles kept.old.fs (D.history disk.old) files
+        → reads.new ≤ reads.old + 8 * (pieces_meeting from to (pieces_of ino files) + 3) }
     ensures apart { IfOk result (λ found. AreApart found.met) }
     ensures kept { IsKept kept.new (D.history disk.new) (D.size disk.new) }
     ensures looked { HasReadNodes kept.old kept.new (D.history disk.old) (D.history disk.new) (D.size disk.old)

@@ -7,6 +7,7 @@ ghost use Rattle.qg_image.specs.State.{State};
 ghost use Rattle.qg_blocks.specs.Told.{BreaksNone};
 ghost use Rattle.qg_kept.specs.Answering.{Answered, is_unchanging};
 ghost use Rattle.qg_kept.specs.Keeping.{IsKept, IsKeptOf, SameButClean};
+ghost use Rattle.qg_file_commands.specs.Reading.{AsksForFew};
 
 use crate::finding::{inode_in, pieces_in};
 use crate::ranges::MOST_PENDING;
@@ -31,6 +32,8 @@ pub fn unlink<D: Disk, L: Ledger>(
     ensures sound { (state : State) (events : List Event) → D.history disk.old ≡ Recorded events
         → IsKeptOf kept.old state (D.history disk.old) → BreaksNone result }
     ensures unchanged { IfOk result (λ answer. IsTrue (is_unchanging answer) → SameButClean kept.old kept.new) }
+    ensures reads { IfOk result
+        (λ answer. AsksForFew kept.old (D.history disk.old) (Unlink sub ino) answer reads.old reads.new) }
     ensures superblock { kept.new.superblock ≡ kept.old.superblock }
     ensures apart { (D.history disk.new ≡ D.history disk.old) × (D.size disk.new ≡ D.size disk.old) }
     ensures cause { HasCause BlockFault.Disk (D.faults disk.old) (D.faults disk.new) result }

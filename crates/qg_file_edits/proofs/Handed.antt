@@ -1,22 +1,19 @@
 -- What a call answers that hands on a fault.
-use Rattle.std.proofs.Common.{◌≡◌, ℕ, List, Result, Ok, Err, refl, sym, ap, subst, ◌∙◌}
-use Rattle.std.specs.Prelude.{⊤, IsErrAnd, IsErrOf, MatchResult}
+use Rattle.std.proofs.Common.{◌≡◌, ℕ, List, Result, Ok, Err, refl, sym, subst, ◌∙◌}
+use Rattle.std.specs.Prelude.{⊤, IsErrOf, MatchResult}
 use Rattle.qg_device.specs.History.{History}
 use Rattle.qg_num.specs.declared.fault.BlockFault.{BlockFault}
-use Rattle.qg_num.specs.declared.fault.BlockFault.TheVariants.{Disk, NoMemory}
+use Rattle.qg_num.specs.declared.fault.BlockFault.TheVariants.{Disk, Image, NoMemory}
 use Rattle.qg_num.specs.declared.piece.Piece.{Piece}
 use Rattle.qg_node.specs.declared.item.Item.{Item}
+use Rattle.qg_num.specs.declared.rule.Rule.TheVariants.{Refs}
+use Rattle.qg_blocks.specs.Stopping.{NamesRule}
 use Rattle.qg_blocks.specs.Told.{BreaksNone}
+pub use Rattle.qg_blocks.proofs.Broken.{handed}
 use Rattle.qg_fs_layout.specs.Types.{FsTree}
 use Rattle.qg_fs_layout.specs.Standing.{IsMisfitAt}
 use Rattle.qg_file_edits.specs.Editing.{AreMade}
 use Rattle.qg_file_edits.specs.Naming.{AreNamed}
-
--- the result of a `?` that hands a fault on
-pub handed : {A : Type 0} (result : Result A BlockFault) (fault : BlockFault) → IsErrAnd result (λ given. given ≡ fault)
-    → result ≡ Err fault
-handed (Ok x) fault is = absurd is
-handed (Err given) fault is = ap (λ (f : BlockFault). Err f) is
 
 pub named-failed : (old new : FsTree) (history : History) (items : List Item) (names : List (ℕ × Piece))
     (result : Result (Unit {0}) BlockFault) (fault : BlockFault) → result ≡ Err fault
@@ -51,3 +48,14 @@ misfit-none {A} at (Err fault) met disk = misfit-other at (Err fault) fault refl
 -- want of memory that is handed on
 pub memory-sound : (result : Result (Unit {0}) BlockFault) → result ≡ Err NoMemory → BreaksNone result
 memory-sound result is = subst (λ (r : Result (Unit {0}) BlockFault). BreaksNone r) (sym is) tt
+
+-- the rule that it names is `refs`
+pub misfit-rule : (A : Type 0) (at : ℕ) (fault : BlockFault) → IsMisfitAt at fault → NamesRule {A = A} (Err fault) Refs
+misfit-rule A at (Image rule address) misfit = misfit.0
+misfit-rule A at Disk misfit = tt
+misfit-rule A at NoMemory misfit = tt
+
+pub misfit-match : {A : Type 0} (at : ℕ) (result : Result A BlockFault)
+    → MatchResult result (λ done. ⊤) (IsMisfitAt at) → NamesRule result Refs
+misfit-match at (Ok x) met = tt
+misfit-match {A} at (Err fault) met = misfit-rule A at fault met

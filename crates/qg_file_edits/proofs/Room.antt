@@ -41,7 +41,7 @@ module _ (old new : FsTree) (history : History) (files : List (ℕ × File)) (pi
   pub leaves-room : 10 * file_copies old.tree.height pieces
       + 8 * nodes_filled old.land.space.sizes.nodesize (weight_of old.refs.held old.refs.refs + besides) + 40
       ≤ free_slots old.land.space
-      → 5 * nodes_filled old.land.space.sizes.nodesize (weight_of new.refs.held new.refs.refs) + 13
+      → 5 * nodes_filled old.land.space.sizes.nodesize (weight_of new.refs.held new.refs.refs) + 40
       ≤ free_slots new.land.space
   leaves-room enough =
       leaves-need old.land.space.sizes.nodesize old.tree.height pieces 3 (pieces + 3) (2 * (pieces + 3))

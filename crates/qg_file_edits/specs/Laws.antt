@@ -16,5 +16,5 @@ CommandLeavesRoom = (old new : FsTree) (history : History) (files : List (ℕ ×
     → 10 * file_copies old.tree.height pieces
     + 8 * nodes_filled old.land.space.sizes.nodesize (weight_of old.refs.held old.refs.refs + besides) + 40
     ≤ free_slots old.land.space
-    → 5 * nodes_filled old.land.space.sizes.nodesize (weight_of new.refs.held new.refs.refs) + 13
+    → 5 * nodes_filled old.land.space.sizes.nodesize (weight_of new.refs.held new.refs.refs) + 40
     ≤ free_slots new.land.space

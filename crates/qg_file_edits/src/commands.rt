@@ -7,6 +7,7 @@ ghost use Rattle.qg_image.specs.FilesOf.{is_aligned, largest_size};
 ghost use Rattle.qg_image.specs.Table.{value_at, without_key};
 ghost use Rattle.qg_machine.specs.FileChange.{pieces_meeting, pieces_past};
 ghost use Rattle.qg_image.specs.Need.{file_copies};
+ghost use Rattle.qg_blocks.specs.Stopping.{StopsForCause};
 ghost use Rattle.qg_blocks.specs.Told.{BreaksNone};
 ghost use Rattle.qg_space.specs.Holding.{free_slots, is_free_run};
 ghost use Rattle.qg_files.specs.Apart.{AreApart};
@@ -61,6 +62,7 @@ pub fn write<D: Disk, L: Ledger>(
         → reads.new ≤ reads.old + 45 * (pieces_meeting off (off + len) (pieces_of ino files) + 3) }
     ensures leaves { LeavesHeld fs.old fs.new (D.history disk.old) (D.history disk.new) (D.size disk.old)
         (D.size disk.new) }
+    ensures stops { StopsForCause result fs.old.land.blocks.draft.sizes (D.size disk.old) }
     ensures own { OnOk result (StaysOwn fs.old fs.new) }
     ensures cause { HasCause BlockFault.Disk (D.faults disk.old) (D.faults disk.new) result }
 {
@@ -120,6 +122,7 @@ pub fn clone_into<D: Disk, L: Ledger>(
         + pieces_meeting from (from + len) (pieces_of other source_files) + 3) }
     ensures leaves { LeavesHeld fs.old fs.new (D.history disk.old) (D.history disk.new) (D.size disk.old)
         (D.size disk.new) }
+    ensures stops { StopsForCause result fs.old.land.blocks.draft.sizes (D.size disk.old) }
     ensures own { OnOk result (StaysOwn fs.old fs.new) }
     ensures cause { HasCause BlockFault.Disk (D.faults disk.old) (D.faults disk.new) result }
 {
@@ -159,6 +162,7 @@ pub fn truncate<D: Disk, L: Ledger>(
         → reads.new ≤ reads.old + 45 * (pieces_past size file.pieces + 3) }
     ensures leaves { LeavesHeld fs.old fs.new (D.history disk.old) (D.history disk.new) (D.size disk.old)
         (D.size disk.new) }
+    ensures stops { StopsForCause result fs.old.land.blocks.draft.sizes (D.size disk.old) }
     ensures own { OnOk result (StaysOwn fs.old fs.new) }
     ensures cause { HasCause BlockFault.Disk (D.faults disk.old) (D.faults disk.new) result }
 {
@@ -196,6 +200,7 @@ pub fn unlink<D: Disk, L: Ledger>(
         → reads.new ≤ reads.old + 45 * (length file.pieces + 3) }
     ensures leaves { LeavesHeld fs.old fs.new (D.history disk.old) (D.history disk.new) (D.size disk.old)
         (D.size disk.new) }
+    ensures stops { StopsForCause result fs.old.land.blocks.draft.sizes (D.size disk.old) }
     ensures own { OnOk result (StaysOwn fs.old fs.new) }
     ensures cause { HasCause BlockFault.Disk (D.faults disk.old) (D.faults disk.new) result }
 {

@@ -4,6 +4,7 @@ ghost use Rattle.std.specs.List.{filter_map};
 ghost use Rattle.qg_device.specs.Cause.{HasCause};
 ghost use Rattle.qg_num.specs.declared.piece.Piece.{Piece as PieceValue};
 ghost use Rattle.qg_node.specs.declared.item.Item.{Item as ItemValue};
+ghost use Rattle.qg_blocks.specs.Stopping.{StopsForCause};
 ghost use Rattle.qg_edit.specs.Edits.{has_key, with_item, without_key};
 ghost use Rattle.qg_exchange.specs.Applying.{Applies, CanApply, after_step, after_steps};
 ghost use Rattle.qg_fs_layout.specs.Standing.{IsSubvolume, Stands, name_told};
@@ -42,6 +43,7 @@ fn put_new<D: Disk, L: Ledger>(
         reads.old reads.new result }
     ensures leaves { LeavesHeld fs.old fs.new (D.history disk.old) (D.history disk.new) (D.size disk.old)
         (D.size disk.new) }
+    ensures stops { StopsForCause result fs.old.land.blocks.draft.sizes (D.size disk.old) }
     ensures own { OnOk result (StaysOwn fs.old fs.new) }
     ensures cause { HasCause BlockFault.Disk (D.faults disk.old) (D.faults disk.new) result }
 {
@@ -69,6 +71,7 @@ fn put_again<D: Disk, L: Ledger>(
         reads.old reads.new result }
     ensures leaves { LeavesHeld fs.old fs.new (D.history disk.old) (D.history disk.new) (D.size disk.old)
         (D.size disk.new) }
+    ensures stops { StopsForCause result fs.old.land.blocks.draft.sizes (D.size disk.old) }
     ensures own { OnOk result (StaysOwn fs.old fs.new) }
     ensures cause { HasCause BlockFault.Disk (D.faults disk.old) (D.faults disk.new) result }
 {
@@ -90,6 +93,7 @@ fn take_out<D: Disk, L: Ledger>(
         → AreMade 1 0 fs.old fs.new (D.history disk.old) (without_key key items) names reads.old reads.new result }
     ensures leaves { LeavesHeld fs.old fs.new (D.history disk.old) (D.history disk.new) (D.size disk.old)
         (D.size disk.new) }
+    ensures stops { StopsForCause result fs.old.land.blocks.draft.sizes (D.size disk.old) }
     ensures own { OnOk result (StaysOwn fs.old fs.new) }
     ensures cause { HasCause BlockFault.Disk (D.faults disk.old) (D.faults disk.new) result }
 {
@@ -112,6 +116,7 @@ fn take_step<D: Disk, L: Ledger>(
         → AreMade 1 0 fs.old fs.new (D.history disk.old) (after_step ino step items) names reads.old reads.new result }
     ensures leaves { LeavesHeld fs.old fs.new (D.history disk.old) (D.history disk.new) (D.size disk.old)
         (D.size disk.new) }
+    ensures stops { StopsForCause result fs.old.land.blocks.draft.sizes (D.size disk.old) }
     ensures own { OnOk result (StaysOwn fs.old fs.new) }
     ensures cause { HasCause BlockFault.Disk (D.faults disk.old) (D.faults disk.new) result }
 {
@@ -147,6 +152,7 @@ pub(crate) fn take_steps<D: Disk, L: Ledger>(
         reads.old reads.new result }
     ensures leaves { LeavesHeld fs.old fs.new (D.history disk.old) (D.history disk.new) (D.size disk.old)
         (D.size disk.new) }
+    ensures stops { StopsForCause result fs.old.land.blocks.draft.sizes (D.size disk.old) }
     ensures own { OnOk result (StaysOwn fs.old fs.new) }
     ensures cause { HasCause BlockFault.Disk (D.faults disk.old) (D.faults disk.new) result }
 {
@@ -172,6 +178,7 @@ pub(crate) fn edit_inode<D: Disk, L: Ledger>(
         → AreMade 1 0 fs.old fs.new (D.history disk.old) (after_inode ino edit items) names reads.old reads.new result }
     ensures leaves { LeavesHeld fs.old fs.new (D.history disk.old) (D.history disk.new) (D.size disk.old)
         (D.size disk.new) }
+    ensures stops { StopsForCause result fs.old.land.blocks.draft.sizes (D.size disk.old) }
     ensures own { OnOk result (StaysOwn fs.old fs.new) }
     ensures cause { HasCause BlockFault.Disk (D.faults disk.old) (D.faults disk.new) result }
 {

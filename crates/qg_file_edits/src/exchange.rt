@@ -5,7 +5,9 @@ ghost use Rattle.std.specs.Option.{option_to_list};
 ghost use Rattle.qg_device.specs.Cause.{HasCause};
 ghost use Rattle.qg_device.specs.History.{History};
 ghost use Rattle.qg_num.specs.declared.piece.Piece.{Piece as PieceValue};
+ghost use Rattle.qg_num.specs.declared.rule.Rule.TheVariants.{Refs};
 ghost use Rattle.qg_node.specs.declared.item.Item.{Item as ItemValue};
+ghost use Rattle.qg_blocks.specs.Stopping.{NamesRule, StopsForCause};
 ghost use Rattle.qg_image.specs.declared.file.File.{File as FileValue};
 ghost use Rattle.qg_contents.specs.Written.{items_of_file};
 ghost use Rattle.qg_exchange.specs.Named.{named, names_of};
@@ -66,6 +68,7 @@ pub(crate) fn make_exchange<D: Disk, L: Ledger>(
     ensures still { OnOk result (IsTable fs.new.refs.refs) }
     ensures leaves { LeavesHeld fs.old fs.new (D.history disk.old) (D.history disk.new) (D.size disk.old)
         (D.size disk.new) }
+    ensures stops { StopsForCause result fs.old.land.blocks.draft.sizes (D.size disk.old) }
     ensures own { OnOk result (StaysOwn fs.old fs.new) }
     ensures cause { HasCause BlockFault.Disk (D.faults disk.old) (D.faults disk.new) result }
 {
@@ -90,6 +93,7 @@ fn name_those_put(fs: &mut FsTree, ino: Ino, change: &Exchange) -> Result<(), Bl
     ensures heavier { OnOk result (BookGetsHeavier fs.old.refs fs.new.refs
         (length (change.now.named ++ option_to_list change.now.new) * name_new_bytes)) }
     ensures fault { IsErrOf result BlockFault.Disk → ⊥ }
+    ensures refs { NamesRule result Refs }
 {
     name_new(fs, ino, change.new)?;
     name_each(fs, ino, change.named.as_slice())
@@ -114,6 +118,7 @@ fn edit_items<D: Disk, L: Ledger>(
         reads.new result }
     ensures leaves { LeavesHeld fs.old fs.new (D.history disk.old) (D.history disk.new) (D.size disk.old)
         (D.size disk.new) }
+    ensures stops { StopsForCause result fs.old.land.blocks.draft.sizes (D.size disk.old) }
     ensures own { OnOk result (StaysOwn fs.old fs.new) }
     ensures cause { HasCause BlockFault.Disk (D.faults disk.old) (D.faults disk.new) result }
 {

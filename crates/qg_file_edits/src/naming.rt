@@ -4,7 +4,9 @@ ghost use Rattle.std.specs.List.{filter_map};
 ghost use Rattle.std.specs.Option.{option_to_list};
 ghost use Rattle.qg_device.specs.History.{History};
 ghost use Rattle.qg_num.specs.declared.piece.Piece.{Piece as PieceValue};
+ghost use Rattle.qg_num.specs.declared.rule.Rule.TheVariants.{Refs};
 ghost use Rattle.qg_node.specs.declared.item.Item.{Item as ItemValue};
+ghost use Rattle.qg_blocks.specs.Stopping.{NamesRule};
 ghost use Rattle.qg_space.specs.Holding.{is_free_run};
 ghost use Rattle.qg_fs_layout.specs.Heavier.{BookGetsHeavier, name_bytes, name_new_bytes};
 ghost use Rattle.qg_exchange.specs.Named.{names_of};
@@ -24,6 +26,7 @@ pub(crate) fn name_each(fs: &mut FsTree, ino: Ino, pieces: &[Piece]) -> Result<(
     ensures nodes { KeepsNodes fs.old fs.new }
     ensures heavier { OnOk result (BookGetsHeavier fs.old.refs fs.new.refs (length pieces.now * name_bytes)) }
     ensures fault { IsErrOf result BlockFault.Disk → ⊥ }
+    ensures refs { NamesRule result Refs }
 {
     for piece in pieces {
         fs.name(ino, piece)?;
@@ -41,6 +44,7 @@ pub(crate) fn unname_each(fs: &mut FsTree, ino: Ino, pieces: &[Piece]) -> Result
     ensures nodes { KeepsNodes fs.old fs.new }
     ensures heavier { OnOk result (BookGetsHeavier fs.old.refs fs.new.refs 0) }
     ensures fault { IsErrOf result BlockFault.Disk → ⊥ }
+    ensures refs { NamesRule result Refs }
 {
     for piece in pieces {
         fs.unname(ino, piece)?;
@@ -58,6 +62,7 @@ pub(crate) fn name_new(fs: &mut FsTree, ino: Ino, new: Option<Piece>) -> Result<
     ensures heavier { OnOk result (BookGetsHeavier fs.old.refs fs.new.refs
         (length (option_to_list new) * name_new_bytes)) }
     ensures fault { IsErrOf result BlockFault.Disk → ⊥ }
+    ensures refs { NamesRule result Refs }
 {
     match new {
         Some(piece) => fs.name_new(ino, &piece),

@@ -15,8 +15,7 @@ use Rattle.qg_image.specs.declared.part.FilePart.{FilePart}
 use Rattle.qg_image.specs.declared.part.FilePart.TheVariants.{Inode, PieceOf}
 use Rattle.qg_image.specs.FilesOf.{are_files, files_in, inodes_end, is_file, least_inode, pieces_bytes}
 use Rattle.qg_parts.specs.Keys.{file_key}
-use Rattle.qg_rules.specs.Files.{is_file_of}
-use Rattle.qg_rules.specs.declared.parts.FileItems.{FileItems}
+use Rattle.qg_rules.specs.Files.{FileItems, is_file_of}
 use Rattle.qg_rules.specs.Writable.{IsFileBy, IsPlaced, IsWritableFile}
 use Rattle.qg_rules.proofs.Reading.{IsReading, IsReading-broken, IsReading-more, IsReading-none, IsReading-orphan}
 use Rattle.qg_rules.proofs.Reading.{IsNext, file_told-judged, whole_file}

@@ -1,5 +1,5 @@
 -- Items that are read as files are those that are written for these files.
-use Rattle.std.proofs.Common.{◌≡◌, ℕ, true, List, [], ◌∷◌, ◌++◌, map, Some, refl, ap, subst, ◌∙◌}
+use Rattle.std.proofs.Common.{◌≡◌, ℕ, true, List, [], ◌∷◌, ◌++◌, map, refl, ap, subst, ◌∙◌}
 use Rattle.std.specs.Prelude.{All, ◌&&◌}
 use Rattle.std.specs.List.{flat_map, list_all}
 use Rattle.std.proofs.lemmas.Bool.{and_parts}
@@ -12,7 +12,7 @@ use Rattle.qg_node.specs.Nodes.{is_ascending}
 use Rattle.qg_items.proofs.Trips.{then_some_parts}
 use Rattle.qg_image.specs.declared.file.File.{File}
 use Rattle.qg_image.specs.declared.part.FilePart.TheVariants.{PieceOf}
-use Rattle.qg_image.specs.FilesOf.{are_files, file_parts, files_in, files_of, is_file_item}
+use Rattle.qg_image.specs.FilesOf.{are_files, file_parts, files_in, files_of, is_file_item, AreItemsOfFiles}
 use Rattle.qg_rules.specs.Writable.{IsFileBy, IsWritableFile}
 use Rattle.qg_contents.specs.Written.{item_of_inode, item_of_piece, items_of_file}
 use Rattle.qg_file_items.specs.Bodies.{Ascend}
@@ -46,7 +46,7 @@ record IsRead (generation : ℕ) (items : List Item) (files : List (ℕ × File)
   sound : are_files (file_parts items) ≡ true
   told : files_in (file_parts items) ≡ files
 
-is_read : (generation : ℕ) (items : List Item) (files : List (ℕ × File)) → files_of generation items ≡ Some files
+is_read : (generation : ℕ) (items : List Item) (files : List (ℕ × File)) → AreItemsOfFiles generation items files
     → IsRead generation items files
 unfolding files_of
 is_read generation items files is =
@@ -59,7 +59,7 @@ is_read generation items files is =
 
 pub spelled : (generation : ℕ) (items : List Item) (files : List (ℕ × File)) → All (λ item. IsBytes item.body) items
     → Ascend items
-    → files_of generation items ≡ Some files → AreItemsOf generation files items
+    → AreItemsOfFiles generation items files → AreItemsOf generation files items
 spelled generation items files bytes ascending is =
     let read = is_read generation items files is in
     let said =

@@ -10,7 +10,7 @@ use Rattle.qg_node.specs.declared.item.Item.{Item}
 use Rattle.qg_items.specs.declared.kind.TheConstants.{EXTENT_DATA, INODE_ITEM}
 use Rattle.qg_image.specs.declared.file.File.{File}
 use Rattle.qg_image.specs.IsShaped.{same_key}
-use Rattle.qg_image.specs.FilesOf.{are_pieces, files_of, is_aligned, largest_size}
+use Rattle.qg_image.specs.FilesOf.{are_pieces, is_aligned, largest_size, AreItemsOfFiles}
 use Rattle.qg_image.specs.Table.{keys_of, value_at, with_value, without_key as without_value}
 use Rattle.qg_machine.specs.FileChange.{before, pieces_meeting, pieces_or_none, pieces_past}
 use Rattle.qg_machine.specs.FileChange.{with_pieces, with_range, with_size}
@@ -67,7 +67,7 @@ abbrev pub AreSpelled : Type 0
 AreSpelled =
     (generation : ℕ) (items : List Item) (files : List (ℕ × File)) → All (λ item. IsBytes item.body) items
     → Ascend items
-    → files_of generation items ≡ Some files → AreItemsOf generation files items
+    → AreItemsOfFiles generation items files → AreItemsOf generation files items
 
 -- their keys ascend
 abbrev pub FilesAscend : Type 0

@@ -14,7 +14,7 @@ use Rattle.qg_image.specs.Table.{has_key}
 use Rattle.qg_image.specs.declared.quota.Group.{Group}
 use Rattle.qg_image.specs.declared.quota.Quota.{Quota}
 use Rattle.qg_image.specs.Counts.{due_counters}
-use Rattle.qg_image.specs.Space.{is_free_slot, present_extents}
+use Rattle.qg_image.specs.Space.{is_free_slot}
 use Rattle.qg_image.specs.State.{Layout, State, layout_of, next_generation}
 use Rattle.qg_image.proofs.Contained.{contains_here, contains_later}
 use Rattle.qg_image.specs.ImageState.{addresses_of, as_committed}
@@ -90,26 +90,9 @@ module _ (old : State) (counters : ℕ → Counters) (counts : AreDueCounters ol
       ≡ quota_laid (next_generation old) counters old.quota
   quota_is = quota_by old.quota refl
 
-  abbrev with_quota : List Node → Option Quota → State
-  with_quota others quota = as_committed others (record {
-    sizes = old.sizes;
-    generation = next_generation old;
-    subvolumes = old.subvolumes;
-    layout = old.layout;
-    quota = quota;
-    pending = [];
-    held = record { nodes = []; others = []; extents = [] };
-  })
-
-  settled_is : (others : List Node)
-      → with_quota others (option_map (recounted (layout_of old) (next_generation old)) old.quota)
-      ≡ as_committed others (settled old)
-  unfolding present_extents
-  settled_is others = refl
-
   pub committed-is : (others : List Node)
       → committed others old (quota_laid (next_generation old) counters old.quota) ≡ as_committed others (settled old)
-  committed-is others = ap (with_quota others) (sym quota_is) ∙ settled_is others
+  committed-is others = ap (committed others old) (sym quota_is)
 
 -- ---- slots
 

@@ -18,7 +18,7 @@ use Rattle.qg_super.specs.declared.superblock.Super.{Super}
 use Rattle.qg_super.specs.Places.{is_run}
 use Rattle.qg_image.specs.declared.file.File.{File}
 use Rattle.qg_image.specs.Below.{items_below}
-use Rattle.qg_image.specs.FilesOf.{files_of}
+use Rattle.qg_image.specs.FilesOf.{files_of, AreItemsOfFiles}
 use Rattle.qg_image.specs.Table.{has_key, value_at}
 use Rattle.qg_image.specs.Owed.{owed_count}
 use Rattle.qg_image.specs.Reach.{extent_of, is_among, level_of, reaches}
@@ -117,7 +117,7 @@ module _ (fs : FsTree) (history : History) (bytes : ℕ) (state : State) (mine :
 
   files_told : (tree : Root) → Contains (trees_of fs) tree → (subvolume : Subvolume)
       → value_at tree.owner state.subvolumes ≡ Some subvolume
-      → files_of fs.tree.next (items_in fs history tree) ≡ Some subvolume.files
+      → AreItemsOfFiles fs.tree.next (items_in fs history tree) subvolume.files
   files_told tree among subvolume value =
       let has = has_files tree among subvolume value in
       ap (λ (items : List Item). files_of fs.tree.next items) has.items

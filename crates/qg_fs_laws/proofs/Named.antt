@@ -1,12 +1,12 @@
 -- What the items of trees name is what the files of their subvolumes have.
-use Rattle.std.proofs.Common.{◌≡◌, ℕ, List, ◌++◌, Some, refl, sym, subst, inl, inr}
+use Rattle.std.proofs.Common.{◌≡◌, ℕ, List, ◌++◌, refl, sym, subst, inl, inr}
 use Rattle.std.specs.Prelude.{◌↔◌}
 use Rattle.std.specs.List.{Contains, filter_map}
 use Rattle.std.proofs.lemmas.List.Elements.{Contains-append_cases, Contains-append_left, Contains-append_right}
 use Rattle.qg_device.specs.History.{History}
 use Rattle.qg_num.specs.declared.piece.Piece.{Piece}
 use Rattle.qg_node.specs.declared.item.Item.{Item}
-use Rattle.qg_image.specs.FilesOf.{files_of}
+use Rattle.qg_image.specs.FilesOf.{AreItemsOfFiles}
 use Rattle.qg_image.specs.declared.element.Element.{Element}
 use Rattle.qg_image.specs.Reach.{extent_of}
 use Rattle.qg_image.specs.Space.{present_extents}
@@ -31,12 +31,12 @@ record IsToldBy (fs : FsTree) (history : History) (run : Element) : Type 0 where
 pub record HasTree (fs : FsTree) (history : History) (subvolume : Subvolume) : Type 0 where
   pub tree : Root
   pub among : Contains (trees_of fs) tree
-  pub files : files_of fs.tree.next (items_in fs history tree) ≡ Some subvolume.files
+  pub files : AreItemsOfFiles fs.tree.next (items_in fs history tree) subvolume.files
 
 pub record HasSubvolume (fs : FsTree) (history : History) (state : State) (tree : Root) : Type 0 where
   pub entry : ℕ × Subvolume
   pub has : Contains state.subvolumes entry
-  pub files : files_of fs.tree.next (items_in fs history tree) ≡ Some entry.1.files
+  pub files : AreItemsOfFiles fs.tree.next (items_in fs history tree) entry.1.files
 
 module _ (fs : FsTree) (history : History) (state : State) (items : List Item)
     (hand : items_in fs history fs.tree ≡ items)

@@ -14,7 +14,7 @@ use Rattle.qg_items.specs.declared.root.RootItem.{RootItem}
 use Rattle.qg_super.specs.declared.superblock.Super.{Super}
 use Rattle.qg_super.specs.SuperText.{sizes_of}
 use Rattle.qg_image.specs.declared.file.File.{File}
-use Rattle.qg_image.specs.FilesOf.{files_of}
+use Rattle.qg_image.specs.FilesOf.{AreItemsOfFiles}
 use Rattle.qg_image.specs.Table.{keys_of, value_at}
 use Rattle.qg_image.specs.declared.element.Element.{Element}
 use Rattle.qg_image.specs.Space.{present_extents}
@@ -22,7 +22,7 @@ use Rattle.qg_image.specs.State.{Layout, Placed, State, Subvolume}
 use Rattle.qg_image.proofs.Contained.{contains_later}
 use Rattle.qg_image.specs.declared.tree.Tree.TheVariants.{Files}
 use Rattle.qg_image.specs.ImageState.{addresses_of, items_of_root, other_nodes, roots_in, state_in, subvolume_in}
-use Rattle.qg_image.specs.ImageState.{subvolume_roots, subvolumes_in}
+use Rattle.qg_image.specs.ImageState.{subvolume_roots, subvolumes_in, subvolume_told}
 use Rattle.qg_image.specs.Walk.{root_told}
 use Rattle.qg_rules.specs.Writable.{IsFileBy}
 use Rattle.qg_space.proofs.Marks.{SlotsFit-is_served}
@@ -45,7 +45,7 @@ use Rattle.qg_standing.proofs.Opened.{slot-met, tree-entry}
 use Rattle.qg_standing.proofs.OpenedStands.{stands-opened}
 use Rattle.qg_file_edits.specs.Files.{HasFiles, HoldsFiles}
 use Rattle.qg_fs_laws.specs.Keeping.{KeepsState, OthersHaveFiles}
-use Rattle.qg_fs_laws.specs.Opening.{AreBytes, HasBytes, HoldsCommit, IsOf, mine_opened}
+use Rattle.qg_fs_laws.specs.Opening.{AreBytes, HasBytes, HoldsCommit, IsOf}
 use Rattle.qg_fs_laws.specs.OpeningLaws.{OpenedIsKept}
 use Rattle.qg_fs_laws.proofs.ImageWalks.{items-ascend}
 
@@ -74,14 +74,14 @@ module _ (super : Super) (image : List ℕ) where
 
   -- the subvolume of a ROOT_ITEM whose items are read as files
   subvolume_made : (root : RootItem) (files : List (ℕ × File))
-      → files_of super.generation (items_of_root Files super image root) ≡ Some files
-      → subvolume_in super image root ≡ mine_opened files root
-  subvolume_made root files are = ap (λ (o : Option (List (ℕ × File))). mine_opened (unwrap_or o []) root) are
+      → AreItemsOfFiles super.generation (items_of_root Files super image root) files
+      → subvolume_in super image root ≡ subvolume_told files root
+  subvolume_made root files are = ap (λ (o : Option (List (ℕ × File))). subvolume_told (unwrap_or o []) root) are
 
   value_there : (sub : ℕ) (root : RootItem) (files : List (ℕ × File))
       → value_at sub (subvolume_roots (roots_in super image)) ≡ Some root
-      → files_of super.generation (items_of_root Files super image root) ≡ Some files
-      → value_at sub (state_in super image).subvolumes ≡ Some (mine_opened files root)
+      → AreItemsOfFiles super.generation (items_of_root Files super image root) files
+      → value_at sub (state_in super image).subvolumes ≡ Some (subvolume_told files root)
   value_there sub root files is are =
       ap (λ (table : List (ℕ × Subvolume)). value_at sub table) subvolumes_there
       ∙ value_made (subvolume_in super image) sub (subvolume_roots (roots_in super image))
@@ -137,7 +137,7 @@ module _ (fs : FsTree) (super : Super) (events : List Event) (table : IsTable fs
         (subvolume_roots (roots_in super (content events))) bytes) entry has
 
     read_as : (files : List (ℕ × File))
-        → files_of super.generation (items_of_root Files super (content events) entry.1) ≡ Some files
+        → AreItemsOfFiles super.generation (items_of_root Files super (content events) entry.1) files
         → AreItemsOf super.generation files (items_of_root Files super (content events) entry.1)
     read_as files are =
         spelled super.generation (items_of_root Files super (content events) entry.1) files written ascending are
@@ -151,8 +151,8 @@ module _ (fs : FsTree) (super : Super) (events : List Event) (table : IsTable fs
     has_files subvolume is =
         let told = read_as own.files own.files_are in
         let there = value_there super (content events) entry.0 entry.1 own.files value_is own.files_are in
-        let e : Some (mine_opened own.files entry.1) ≡ Some subvolume = sym there ∙ is in
-        let same : mine_opened own.files entry.1 ≡ subvolume = cc in
+        let e : Some (subvolume_told own.files entry.1) ≡ Some subvolume = sym there ∙ is in
+        let same : subvolume_told own.files entry.1 ≡ subvolume = cc in
         subst (λ (s : Subvolume). HasFiles fs (Recorded events) (opened_tree super entry) s.files) same (record {
           items = made.each entry has ∙ told.are;
           writable = told.writable;
@@ -262,7 +262,7 @@ module _ (fs : FsTree) (super : Super) (events : List Event) (table : IsTable fs
         by = All-weaker (IsFileBy super.generation) (IsFileBy fs.tree.next) by_next files hand_read.by;
       }
 
-      keeps : KeepsState fs (Recorded events) (state_in super (content events)) (mine_opened files root) files
+      keeps : KeepsState fs (Recorded events) (state_in super (content events)) (subvolume_told files root) files
       keeps = record {
         there = value_there super (content events) fs.tree.owner root files is.there is.are;
         are = refl;

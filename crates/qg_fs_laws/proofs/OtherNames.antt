@@ -32,7 +32,7 @@ use Rattle.qg_image.specs.declared.quota.Quota.{Quota}
 use Rattle.qg_image.specs.Need.{held_records, quota_records}
 use Rattle.qg_image.specs.Record.{Record, InfoOf, LimitOf, RootOf, Status, RelationOf, extent_record, quota_record}
 use Rattle.qg_image.specs.Record.{record_named, same_record}
-use Rattle.qg_image.specs.State.{Committed, State}
+use Rattle.qg_image.specs.State.{Committed, State, nothing_held}
 use Rattle.qg_image.proofs.Contained.{contains_cases, none_contained}
 use Rattle.qg_image.specs.Among.{node_among}
 use Rattle.qg_image.specs.declared.tree.Tree.TheVariants.{Extents}
@@ -512,7 +512,7 @@ module _ (sizes : Sizes) (generation : ℕ) (roots : List (ℕ × RootItem)) (bo
 
   module _ (state : State) (table : IsTable book) where
     abbrev in_walk : State
-    in_walk = record state { held = record { nodes = []; others = walked; extents = [] } }
+    in_walk = record state { held = record nothing_held { others = walked } }
 
     walk_recorded : IsRecorded in_walk book
     walk_recorded = said-recorded in_walk book table all_say

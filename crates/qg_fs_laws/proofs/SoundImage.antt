@@ -12,7 +12,7 @@ use Rattle.qg_items.specs.declared.tree.TheConstants.{EXTENT_TREE, QUOTA_TREE, T
 use Rattle.qg_super.specs.declared.superblock.Super.{Super}
 use Rattle.qg_super.specs.Places.{first_place, is_served, second_place, total_bytes}
 use Rattle.qg_super.specs.SuperText.{is_super, sizes_of}
-use Rattle.qg_image.specs.FilesOf.{are_files, file_parts, files_in, files_of, is_file_item}
+use Rattle.qg_image.specs.FilesOf.{are_files, file_parts, files_in, files_of, is_file_item, AreItemsOfFiles}
 use Rattle.qg_image.specs.ItemMeaning.{extent_part_stamps, is_subvolume_number}
 use Rattle.qg_image.specs.Table.{has_key, value_at}
 use Rattle.qg_image.specs.declared.part.ExtentPart.{ExtentPart}
@@ -79,7 +79,7 @@ fits_there subvolumes super image is = and_parts _ _ (and_parts _ _ is).0
 
 -- items that a subvolume's tree may hold, and that keep the rule `file`, are read as files
 files_read : (generation : ℕ) (items : List Item) → list_all (is_item_of Files generation) items ≡ true
-    → are_files (file_parts items) ≡ true → files_of generation items ≡ Some (files_in (file_parts items))
+    → are_files (file_parts items) ≡ true → AreItemsOfFiles generation items (files_in (file_parts items))
 unfolding files_of is_item_of
 files_read generation items held are =
     rw (and_from (list_all (is_file_item generation) items) (are_files (file_parts items)) held are) refl

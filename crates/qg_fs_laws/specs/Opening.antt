@@ -11,11 +11,10 @@ use Rattle.qg_items.specs.declared.root.RootItem.{RootItem}
 use Rattle.qg_items.specs.declared.tree.TheConstants.{EXTENT_TREE, QUOTA_TREE}
 use Rattle.qg_super.specs.declared.superblock.Super.{Super}
 use Rattle.qg_image.specs.declared.file.File.{File}
-use Rattle.qg_image.specs.FilesOf.{files_of}
+use Rattle.qg_image.specs.FilesOf.{AreItemsOfFiles}
 use Rattle.qg_image.specs.Table.{value_at}
 use Rattle.qg_image.specs.declared.element.Element.{Element}
 use Rattle.qg_image.specs.declared.quota.Quota.{Quota}
-use Rattle.qg_image.specs.State.{Subvolume}
 use Rattle.qg_image.specs.declared.tree.Tree.TheVariants.{Extents, Files, Quotas, Roots}
 use Rattle.qg_image.specs.declared.tree.Tree.{Tree}
 use Rattle.qg_image.specs.ImageState.{addresses_of, items_of_root, nodes_of_root, other_nodes, quota_parts}
@@ -41,14 +40,10 @@ abbrev pub HasBytes : Super → List ℕ → Type 0
 HasBytes super image =
     AllByRecursion (λ entry. AreBytes super image entry.1) (subvolume_roots (roots_in super image))
 
--- the subvolume with these files and this ROOT_ITEM
-abbrev pub mine_opened : List (ℕ × File) → RootItem → Subvolume
-mine_opened files root = record { files = files; root = root.bytenr; last_snapshot = root.last_snapshot }
-
 -- the subvolume has this ROOT_ITEM in an image, and these files
 pub record IsOf (super : Super) (image : List ℕ) (sub : ℕ) (root : RootItem) (files : List (ℕ × File)) : Type 0 where
   pub there : value_at sub (subvolume_roots (roots_in super image)) ≡ Some root
-  pub are : files_of super.generation (items_of_root Files super image root) ≡ Some files
+  pub are : AreItemsOfFiles super.generation (items_of_root Files super image root) files
 
 -- items of a tree stand in these nodes, and are some that the tree may hold in an image of this generation
 pub record AreItemsOf (tree : Tree) (generation : ℕ) (nodes : List Node) (items : List Item) : Type 0 where

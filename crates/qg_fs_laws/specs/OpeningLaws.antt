@@ -8,14 +8,14 @@ use Rattle.qg_image.specs.declared.file.File.{File}
 use Rattle.qg_image.specs.declared.quota.Quota.{Quota}
 use Rattle.qg_image.specs.Owed.{Agrees, homeless}
 use Rattle.qg_image.specs.State.{layout_of}
-use Rattle.qg_image.specs.ImageState.{extent_parts, quota_in, state_in, super_of}
+use Rattle.qg_image.specs.ImageState.{extent_parts, quota_in, state_in, super_of, subvolume_told}
 use Rattle.qg_image.specs.Verdict.{IsSound}
 use Rattle.qg_weighed.specs.Laws.{IsRecorded}
 use Rattle.qg_extents.specs.Table.{IsTable}
 use Rattle.qg_file_edits.specs.Types.{FsTree}
 use Rattle.qg_standing.specs.Opening.{IsOpened, IsSoundImage}
 use Rattle.qg_fs_laws.specs.Keeping.{KeepsState, NamesOthers, other_names}
-use Rattle.qg_fs_laws.specs.Opening.{HasBytes, HoldsCommit, HoldsOthers, IsOf, mine_opened}
+use Rattle.qg_fs_laws.specs.Opening.{HasBytes, HoldsCommit, HoldsOthers, IsOf}
 
 -- ---- what the verdict says
 
@@ -42,7 +42,7 @@ OpenedIsKept = (fs : FsTree) (super : Super) (events : List Event) (root : RootI
     → IsTable fs.refs.refs → IsSoundImage super (content events) → IsOpened fs super (content events)
     → HoldsCommit fs super (content events) → HasBytes super (content events)
     → IsOf super (content events) fs.tree.owner root files
-    → KeepsState fs (Recorded events) (state_in super (content events)) (mine_opened files root) files
+    → KeepsState fs (Recorded events) (state_in super (content events)) (subvolume_told files root) files
 
 -- the book is what the last commit recorded
 abbrev pub OpenedIsRecorded : Type 0

@@ -15,7 +15,7 @@ use Rattle.qg_image.specs.declared.file.File.{File}
 use Rattle.qg_image.specs.declared.part.FilePart.{FilePart}
 use Rattle.qg_image.specs.declared.part.FilePart.TheVariants.{Inode, PieceOf}
 use Rattle.qg_image.specs.FilesOf.{are_files, file_in, file_parts, files_in, files_of, inodes_in, is_file_item}
-use Rattle.qg_image.specs.FilesOf.{is_inode, is_owned, pieces_in}
+use Rattle.qg_image.specs.FilesOf.{is_inode, is_owned, pieces_in, AreItemsOfFiles}
 use Rattle.qg_image.specs.FilesOf as files
 use Rattle.qg_image.specs.ItemMeaning.{file_part}
 use Rattle.qg_image.specs.Table.{has_key, value_at}
@@ -124,7 +124,7 @@ record AreFilesOf (parts : List FilePart) (read : List (ℕ × File)) : Type 0 w
   owned : list_all (is_owned parts) parts ≡ true
   are : files_in parts ≡ read
 
-files_are : (generation : ℕ) (items : List Item) (read : List (ℕ × File)) → files_of generation items ≡ Some read
+files_are : (generation : ℕ) (items : List Item) (read : List (ℕ × File)) → AreItemsOfFiles generation items read
     → AreFilesOf (file_parts items) read
 unfolding files_of are_files
 files_are generation items read is =
@@ -163,7 +163,7 @@ some_value {A} n table has = from (value_at n table) refl has where
   from (Some x) is some = (x, entry_of_value n x table is)
 
 module _ (generation : ℕ) (items : List Item) (read : List (ℕ × File))
-    (is : files_of generation items ≡ Some read) (run : Element) where
+    (is : AreItemsOfFiles generation items read) (run : Element) where
   pub from-files : Contains (flat_map (λ (file : ℕ × File). map extent_of file.1.pieces) read) run
       → (item : Item) × Contains items item × TellsExtent item run
   from-files has =

@@ -14,7 +14,7 @@ use Rattle.qg_node.specs.Nodes.{header_of}
 use Rattle.qg_super.specs.declared.sizes.Sizes.{Sizes}
 use Rattle.qg_super.specs.Places.{is_slot}
 use Rattle.qg_image.specs.declared.file.File.{File}
-use Rattle.qg_image.specs.FilesOf.{are_files, file_parts, files_in, files_of, is_file_item}
+use Rattle.qg_image.specs.FilesOf.{are_files, file_parts, files_in, files_of, is_file_item, AreItemsOfFiles}
 use Rattle.qg_image.specs.Table.{keys_of, value_at}
 use Rattle.qg_image.specs.declared.tree.Tree.TheVariants.{Files}
 use Rattle.qg_image.specs.ItemsUnder.{items_under}
@@ -55,7 +55,7 @@ passed true b x y is = refl
 passed false b x y is = absurd cc
 
 pub items-of-files : (generation : ℕ) (items : List Item) (files : List (ℕ × File))
-    → files_of generation items ≡ Some files → list_all (is_item_of Files generation) items ≡ true
+    → AreItemsOfFiles generation items files → list_all (is_item_of Files generation) items ≡ true
 unfolding files_of is_item_of
 items-of-files generation items files is =
     passed (list_all (is_file_item generation) items) (are_files (file_parts items)) (files_in (file_parts items)) files
@@ -223,8 +223,8 @@ module _ (fs : FsTree) (history : History) (bytes : ℕ) (items : List Item) (na
       dated_so : next_generation state ≡ tree.next
       dated_so = laid.generation ∙ sym (next-same tree has)
 
-      module _ (mine : Subvolume) (files : files_of fs.tree.next (items_in fs history tree) ≡ Some mine.files) where
-        files_here : files_of (next_generation state) (items_in fs history tree) ≡ Some mine.files
+      module _ (mine : Subvolume) (files : AreItemsOfFiles fs.tree.next (items_in fs history tree) mine.files) where
+        files_here : AreItemsOfFiles (next_generation state) (items_in fs history tree) mine.files
         files_here = ap (λ (n : ℕ). files_of n (items_in fs history tree)) laid.generation ∙ files
 
         each_item : list_all (is_item_of Files (next_generation state)) (items_in fs history tree) ≡ true

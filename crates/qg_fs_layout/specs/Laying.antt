@@ -11,7 +11,7 @@ use Rattle.qg_node.specs.Fits.{NodeFits}
 use Rattle.qg_node.specs.Nodes.{header_of}
 use Rattle.qg_node.specs.NodeText.{IsNode}
 use Rattle.qg_items.specs.declared.extent.Reference.{Reference}
-use Rattle.qg_image.specs.FilesOf.{files_of}
+use Rattle.qg_image.specs.FilesOf.{AreItemsOfFiles}
 use Rattle.qg_image.specs.Table.{keys_of, value_at}
 use Rattle.qg_machine.specs.Layout.{KeepsNode, is_made_node, made_nodes}
 use Rattle.qg_image.specs.declared.element.Element.{Element}
@@ -78,7 +78,7 @@ pub record IsLaidOut (state : State) (fs : FsTree) (history : History) : Type 0 
 abbrev pub HaveFiles : State → FsTree → History → Type 0
 HaveFiles state fs history = (tree : Root) (subvolume : Subvolume) → Contains (trees_of fs) tree
     → value_at tree.owner state.subvolumes ≡ Some subvolume
-    → files_of fs.tree.next (items_in fs history tree) ≡ Some subvolume.files
+    → AreItemsOfFiles fs.tree.next (items_in fs history tree) subvolume.files
 
 -- ---- edits, one after the other
 

@@ -11,7 +11,10 @@ use Rattle.qg_node.specs.declared.item.Item.{Item}
 use Rattle.qg_super.specs.Places.{second_place}
 use Rattle.qg_image.specs.declared.tree.Tree.TheVariants.{Files}
 use Rattle.qg_image.specs.Walk.{is_owner}
+use Rattle.qg_super.specs.declared.sizes.Sizes.{Sizes}
+use Rattle.qg_blocks.specs.Stopping.{StopsForCause}
 use Rattle.qg_blocks.specs.Told.{BreaksNone}
+use Rattle.qg_blocks.proofs.Stopping.{misfit-refs, stops-misfit}
 use Rattle.qg_tree_edits.specs.Land.{IsDrafted, Rests}
 use Rattle.qg_tree_edits.specs.Tellings.{Telling}
 use Rattle.qg_tree_edits.proofs.Lands.{Rests-draft}
@@ -109,3 +112,11 @@ pub fitting-sound : (misfit : Option ℕ) (result : Result (Unit {0}) BlockFault
 fitting-sound None (Ok done) met none = tt
 fitting-sound None (Err fault) met none = cc
 fitting-sound (Some at) result met none = cc
+
+-- over any disk
+pub fitting-stops : (misfit : Option ℕ) (result : Result (Unit {0}) BlockFault) (sizes : Sizes) (bytes : ℕ)
+    → MatchOption misfit (IsOk result) (λ address. result ≡ Err (Image Refs address))
+    → StopsForCause result sizes bytes
+fitting-stops None (Ok done) sizes bytes met = tt
+fitting-stops None (Err fault) sizes bytes met = absurd cc
+fitting-stops (Some at) result sizes bytes met = stops-misfit result Refs at sizes bytes misfit-refs met

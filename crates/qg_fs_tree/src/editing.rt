@@ -4,6 +4,7 @@ ghost use Rattle.qg_device.specs.Cause.{HasCause};
 ghost use Rattle.qg_device.specs.History.{Event, Recorded};
 ghost use Rattle.qg_num.specs.declared.piece.Piece.{Piece as PieceValue};
 ghost use Rattle.qg_node.specs.declared.item.Item.{Item as ItemValue};
+ghost use Rattle.qg_blocks.specs.Stopping.{StopsForCause};
 ghost use Rattle.qg_blocks.specs.Told.{BreaksNone};
 ghost use Rattle.qg_space.specs.Holding.{free_slots};
 ghost use Rattle.qg_tree_edits.specs.Edits.{has_key, with_item, without_key};
@@ -26,7 +27,8 @@ impl FsTree {
     /// is named.
     ///
     /// It takes at most 2·height + 3 slots. Over a disk that tells, no `Image` comes where the subvolume stands, the
-    /// key is not there and 3·(height + 2) slots are free. After an `Err` nothing of it is of use.
+    /// key is not there and 3·(height + 2) slots are free; over any disk it comes only for a cause. After an `Err`
+    /// nothing of it is of use.
     pub fn insert<D: Disk, L: Ledger>(
         &mut self,
         alloc: Global,
@@ -47,6 +49,7 @@ impl FsTree {
             → (items : List ItemValue) (names : List (ℕ × PieceValue))
             → Stands self.old (D.history disk.old) items names → IsTrue (not (has_key key items))
             → 3 * (self.old.tree.height + 2) ≤ free_slots self.old.land.space → BreaksNone result }
+        ensures stops { StopsForCause result self.old.land.blocks.draft.sizes (D.size disk.old) }
         ensures grows { OnOk result (Grows 1 self.old.tree self.new.tree self.old.land self.new.land) }
         ensures others { self.new.others ≡ self.old.others }
         ensures subvolume { IsSubvolume self.new (D.history disk.new) (D.size disk.new) }
@@ -94,6 +97,7 @@ impl FsTree {
             → (items : List ItemValue) (names : List (ℕ × PieceValue))
             → Stands self.old (D.history disk.old) items names → IsTrue (has_key key items)
             → 3 * (self.old.tree.height + 2) ≤ free_slots self.old.land.space → BreaksNone result }
+        ensures stops { StopsForCause result self.old.land.blocks.draft.sizes (D.size disk.old) }
         ensures grows { OnOk result (Grows 1 self.old.tree self.new.tree self.old.land self.new.land) }
         ensures others { self.new.others ≡ self.old.others }
         ensures subvolume { IsSubvolume self.new (D.history disk.new) (D.size disk.new) }
@@ -137,6 +141,7 @@ impl FsTree {
             → (items : List ItemValue) (names : List (ℕ × PieceValue))
             → Stands self.old (D.history disk.old) items names → IsTrue (has_key key items)
             → 3 * (self.old.tree.height + 2) ≤ free_slots self.old.land.space → BreaksNone result }
+        ensures stops { StopsForCause result self.old.land.blocks.draft.sizes (D.size disk.old) }
         ensures grows { OnOk result (Grows 0 self.old.tree self.new.tree self.old.land self.new.land) }
         ensures others { self.new.others ≡ self.old.others }
         ensures subvolume { IsSubvolume self.new (D.history disk.new) (D.size disk.new) }

@@ -2,6 +2,7 @@
 ghost use Rattle.std.specs.Prelude.{◌≡◌, ◌+◌, ◌*◌, ◌<◌, ◌≤◌, Err, IsOk, MatchOption, OnOk};
 ghost use Rattle.qg_num.specs.declared.fault.BlockFault.TheVariants.{Image};
 ghost use Rattle.qg_num.specs.declared.rule.Rule.TheVariants.{Refs};
+ghost use Rattle.qg_blocks.specs.Told.{BreaksAt};
 ghost use Rattle.qg_space.specs.Holding.{free_slots};
 
 use qg_num::{BlockFault, Rule};
@@ -43,6 +44,7 @@ impl FsTree {
         ensures enough { 3 * (self.now.tree.height + 2) ≤ free_slots self.now.land.space → IsOk result }
         ensures few { free_slots self.now.land.space < 3 * (self.now.tree.height + 2)
             → result ≡ Err (Image Refs self.now.tree.address) }
+        ensures only { BreaksAt result Refs self.now.tree.address }
     {
         if 3 * (self.tree.height() as u64 + 2) > self.land.space.free_slots() {
             return Err(BlockFault::Image {

@@ -1,9 +1,13 @@
 -- What two calls leave, one after the other, and what a call leaves that reads.
 use Rattle.std.proofs.Common.{◌≡◌, ℕ, refl, ◌∙◌}
-use Rattle.std.specs.Prelude.{List}
+use Rattle.std.specs.Prelude.{List, Result, Ok, Err, IsOk}
 use Rattle.qg_device.specs.History.{History}
+use Rattle.qg_num.specs.declared.fault.BlockFault.{BlockFault}
+use Rattle.qg_num.specs.declared.fault.BlockFault.TheVariants.{NoMemory, Disk, Image}
+use Rattle.qg_num.specs.declared.rule.Rule.{Rule}
+use Rattle.qg_node.specs.declared.node.Node.{Node}
 use Rattle.qg_blocks.specs.Held.{Held}
-use Rattle.qg_blocks.specs.Told.{StaysBacked}
+use Rattle.qg_blocks.specs.Told.{Answers, BreaksNone, StaysBacked}
 use Rattle.qg_ground.specs.declared.ground.Ground.{Ground}
 use Rattle.qg_ground.specs.Calls.{LeavesBe}
 use Rattle.qg_ground.specs.Land.{IsDrafted, Rests}
@@ -37,3 +41,11 @@ LeavesBe-read land new before after bytes left generation stays disk drafted = r
   history = disk.0;
   size = disk.1;
 }
+
+-- a node is there, and a call that comes to it names no rule
+pub Answers-sound : {A : Type 0} (result : Result A BlockFault) (at : ℕ) (wanted : Result Node Rule) → IsOk wanted
+    → BreaksNone result → Answers result at wanted
+Answers-sound (Ok x) at wanted ok none = ok
+Answers-sound (Err (Image rule address)) at wanted ok none = absurd none
+Answers-sound (Err Disk) at wanted ok none = tt
+Answers-sound (Err NoMemory) at wanted ok none = tt

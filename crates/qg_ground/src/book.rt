@@ -17,7 +17,8 @@ use qg_num::{Address, BlockFault, Steps};
 use std::sync::ledger::Ledger;
 
 /// Who keeps count of the references to a tree's nodes, and is told of each node that the tree copies, makes or leaves
-/// (this project's own). It may give back slots that nothing refers to any more.
+/// (this project's own). It may give back slots that nothing refers to any more. No call of it names a rule, over any
+/// disk.
 pub trait Book<D: Disk, L: Ledger> {
     /// The book after it was told these, in this order, from another state on.
     ghost follows: { Self → List Telling → Self → Type 0 };
@@ -54,7 +55,7 @@ pub trait Book<D: Disk, L: Ledger> {
             → Rests land.old land.new (D.history disk.new) generation }
         ensures stands { OnOk result (stands self.new land.new disk.new) }
         ensures settled { settled self.old land.old disk.old → OnOk result (settled self.new land.new disk.new) }
-        ensures no_image { (events : List Event) → D.history disk.old ≡ Recorded events → BreaksNone result }
+        ensures no_image { BreaksNone result }
         ensures disk { (D.history disk.new ≡ D.history disk.old) × (D.size disk.new ≡ D.size disk.old) }
         ensures cause { HasCause BlockFault.Disk (D.faults disk.old) (D.faults disk.new) result }
         ensures reads { reads.new ≤ reads.old + to_read self.old at };
@@ -80,7 +81,7 @@ pub trait Book<D: Disk, L: Ledger> {
         ensures stands { OnOk result (stands self.new land.new disk.new) }
         ensures settled { (before : Land) → PutsFresh before land.old copy → settled self.old before disk.old
             → OnOk result (settled self.new land.new disk.new) }
-        ensures no_image { (events : List Event) → D.history disk.old ≡ Recorded events → BreaksNone result }
+        ensures no_image { BreaksNone result }
         ensures disk { (D.history disk.new ≡ D.history disk.old) × (D.size disk.new ≡ D.size disk.old) }
         ensures cause { HasCause BlockFault.Disk (D.faults disk.old) (D.faults disk.new) result }
         ensures reads { reads.new ≤ reads.old + to_read self.old at };
@@ -104,7 +105,7 @@ pub trait Book<D: Disk, L: Ledger> {
         ensures stands { OnOk result (stands self.new land.new disk.new) }
         ensures settled { (before : Land) → PutsFresh before land.old at → settled self.old before disk.old
             → OnOk result (settled self.new land.new disk.new) }
-        ensures no_image { (events : List Event) → D.history disk.old ≡ Recorded events → BreaksNone result }
+        ensures no_image { BreaksNone result }
         ensures disk { (D.history disk.new ≡ D.history disk.old) × (D.size disk.new ≡ D.size disk.old) }
         ensures cause { HasCause BlockFault.Disk (D.faults disk.old) (D.faults disk.new) result }
         ensures reads { reads.new ≤ reads.old + to_read self.old at };
@@ -130,7 +131,7 @@ pub trait Book<D: Disk, L: Ledger> {
         ensures stands { OnOk result (stands self.new land.new disk.new) }
         ensures settled { (before : Land) → Empties before land.old at → settled self.old before disk.old
             → OnOk result (settled self.new land.new disk.new) }
-        ensures no_image { (events : List Event) → D.history disk.old ≡ Recorded events → BreaksNone result }
+        ensures no_image { BreaksNone result }
         ensures disk { (D.history disk.new ≡ D.history disk.old) × (D.size disk.new ≡ D.size disk.old) }
         ensures cause { HasCause BlockFault.Disk (D.faults disk.old) (D.faults disk.new) result }
         ensures reads { reads.new ≤ reads.old + to_read self.old at };

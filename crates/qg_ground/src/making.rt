@@ -1,12 +1,10 @@
 // Nodes that a tree makes, and nodes that it leaves.
 ghost use Rattle.std.specs.Prelude.{◌≡◌, ◌+◌, ◌≤◌, ℕ, List, [], ◌∷◌, ◌++◌, Some, IfOk, OnOk};
-ghost use Rattle.qg_device.specs.Cause.{HasCause};
-ghost use Rattle.qg_device.specs.History.{Event, Recorded, content};
 ghost use Rattle.qg_node.specs.declared.node.Node.{Node as NodeValue};
 ghost use Rattle.qg_node.specs.Nodes.{header_of};
 ghost use Rattle.qg_node.specs.NodeText.{IsNode};
-ghost use Rattle.qg_blocks.specs.Told.{Answers, IsBacked, found, told};
-ghost use Rattle.qg_ground.specs.Calls.{CanTakeSlot, FailsByDisk, KeepsBook, LeavesBe};
+ghost use Rattle.qg_blocks.specs.Told.{BreaksForCause, BreaksNone, IsBacked, told};
+ghost use Rattle.qg_ground.specs.Calls.{CanTakeSlot, FailsByDisk, FailsToRead, KeepsBook, LeavesBe};
 ghost use Rattle.qg_ground.specs.Land.{IsDrafted, Rests};
 ghost use Rattle.qg_ground.specs.Changes.{Makes, Takes};
 ghost use Rattle.qg_ground.specs.declared.ground.Ground.{Ground as Land};
@@ -21,7 +19,7 @@ use qg_num::{Address, BlockFault, Steps};
 use std::sync::ledger::Ledger;
 
 /// Puts a new node into a free slot, whatever address it names, and tells the book. The answer is its address, in
-/// bytes. The node has a text, and the generation to come.
+/// bytes. The node has a text, and the generation to come. No rule is named.
 pub fn make_node<D: Disk, L: Ledger, B: Book<D, L>>(
     land: &mut Ground,
     disk: &mut D,
@@ -41,6 +39,7 @@ pub fn make_node<D: Disk, L: Ledger, B: Book<D, L>>(
         → IfOk result (λ now. B.follows before (log ++ Made now ∷ []) book.new) }
     ensures book { KeepsBook B.stands B.settled book.old book.new land.old land.new disk.old disk.new result }
     ensures fails { FailsByDisk (D.history disk.old) (D.faults disk.old) (D.faults disk.new) result }
+    ensures unbroken { BreaksNone result }
     ensures reads { (most : ℕ) → ((q : ℕ) → B.to_read book.old q ≤ most) → reads.new ≤ reads.old + most }
 {
     let now = put_node(land, node)?;
@@ -50,7 +49,8 @@ pub fn make_node<D: Disk, L: Ledger, B: Book<D, L>>(
 
 /// The tree reaches the node at an address, in bytes, no more: it is read, and the book is told.
 ///
-/// `Image` comes only where a rule is broken at `at`, and `Disk` exactly where the disk met a fault.
+/// `Image` comes only where a rule is broken at `at`, over any disk for a cause that is said, and `Disk` exactly where
+/// the disk met a fault.
 pub fn leave_node<D: Disk, L: Ledger, B: Book<D, L>>(
     land: &mut Ground,
     disk: &mut D,
@@ -71,10 +71,9 @@ pub fn leave_node<D: Disk, L: Ledger, B: Book<D, L>>(
     ensures stands { OnOk result (B.stands book.new land.new disk.new) }
     ensures settled { (before : Land) → Empties before land.old at → B.settled book.old before disk.old
         → OnOk result (B.settled book.new land.new disk.new) }
-    ensures answers { (events : List Event) → D.history disk.old ≡ Recorded events
-        → Answers result at (found land.old.blocks.draft (content events) at) }
+    ensures fails { FailsToRead land.old (D.history disk.old) at (D.faults disk.old) (D.faults disk.new) result }
+    ensures broken { BreaksForCause result land.old.blocks.draft.sizes (D.size disk.old) at }
     ensures disk { (D.history disk.new ≡ D.history disk.old) × (D.size disk.new ≡ D.size disk.old) }
-    ensures cause { HasCause BlockFault.Disk (D.faults disk.old) (D.faults disk.new) result }
     ensures reads { reads.new ≤ reads.old + (1 + B.to_read book.old at) }
 {
     land.blocks.load(disk, at, reads)?;

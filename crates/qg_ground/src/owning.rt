@@ -4,7 +4,7 @@ ghost use Rattle.std.specs.Prelude.{IsSome, is_some, if◌then◌else◌};
 ghost use Rattle.qg_node.specs.declared.node.Node.{Node as NodeValue};
 ghost use Rattle.qg_node.specs.Nodes.{header_of};
 ghost use Rattle.qg_blocks.specs.Table.{with_number};
-ghost use Rattle.qg_blocks.specs.Told.{fresh_at, told};
+ghost use Rattle.qg_blocks.specs.Told.{BreaksForCause, fresh_at, told};
 ghost use Rattle.qg_space.specs.Holding.{is_free_slot};
 ghost use Rattle.qg_ground.specs.Calls.{CanTakeSlot, FailsToRead, KeepsBook, LeavesBe};
 ghost use Rattle.qg_ground.specs.Changes.{Copies, Owned, Takes};
@@ -70,6 +70,7 @@ fn copy_out<D: Disk, L: Ledger>(
     ensures rests { LeavesBe land.old land.new (D.history disk.old) (D.history disk.new) (D.size disk.old)
         (D.size disk.new) next }
     ensures fails { FailsToRead land.old (D.history disk.old) at (D.faults disk.old) (D.faults disk.new) result }
+    ensures broken { BreaksForCause result land.old.blocks.draft.sizes (D.size disk.old) at }
     ensures reads { reads.new ≡ reads.old + 1 }
 {
     land.blocks.load(disk, at, reads)?;
@@ -82,7 +83,8 @@ fn copy_out<D: Disk, L: Ledger>(
 /// `next` to come, and the book is told. A node that was read from the free slot that its copy takes is told as one
 /// that is made, since nothing refers to it.
 ///
-/// `Image` comes only where a rule is broken at `at`, and `Disk` exactly where the disk met a fault.
+/// `Image` comes only where a rule is broken at `at`, over any disk for a cause that is said, and `Disk` exactly where
+/// the disk met a fault.
 pub fn own_node<D: Disk, L: Ledger, B: Book<D, L>>(
     alloc: Global,
     land: &mut Ground,
@@ -112,6 +114,7 @@ pub fn own_node<D: Disk, L: Ledger, B: Book<D, L>>(
 
     // Answers have their causes.
     ensures fails { FailsToRead land.old (D.history disk.old) at (D.faults disk.old) (D.faults disk.new) result }
+    ensures broken { BreaksForCause result land.old.blocks.draft.sizes (D.size disk.old) at }
     ensures reads { reads.new ≤ reads.old + (if is_some (fresh_at land.old.blocks.draft at) then 0 else 1
         + B.to_read book.old at) }
 {

@@ -93,15 +93,15 @@ free-create groups i one hierarchy ascend inside is made =
     ∙ ap (λ (o : Option Group). is_some o) (none-before groups i one ascend inside is))
 
 -- one subvolume's group more
-pub made-next : (subs : List (ℕ × ℕ)) (stamp i : ℕ) (one : ℕ × ℕ) (made pushed : List (ℕ × Group)) (number : ℕ)
-    (group : Group) → i < length subs → one ≡ get_or subs i one
+pub made-next : {A : Type 0} (subs : List (ℕ × A)) (stamp i : ℕ) (one : ℕ × A) (made pushed : List (ℕ × Group))
+    (number : ℕ) (group : Group) → i < length subs → one ≡ get_or subs i one
     → made ≡ map (λ sub. (sub, new_group stamp)) (keys_of (take i subs)) → pushed ≡ made ++ (number, group) ∷ []
     → number ≡ one.0 → group ≡ new_group stamp
     → pushed ≡ map (λ sub. (sub, new_group stamp)) (keys_of (take (i + 1) subs))
-made-next subs stamp i one made pushed number group inside is before push numbered new =
+made-next {A} subs stamp i one made pushed number group inside is before push numbered new =
     let f : ℕ → ℕ × Group = λ sub. (sub, new_group stamp) in
     let keys : keys_of (take (i + 1) subs) ≡ keys_of (take i subs) ++ one.0 ∷ [] =
-    map_more (λ (e : ℕ × ℕ). e.0) subs i one inside ∙ ap (λ (e : ℕ × ℕ). keys_of (take i subs) ++ e.0 ∷ []) (sym is) in
+    map_more (λ (e : ℕ × A). e.0) subs i one inside ∙ ap (λ (e : ℕ × A). keys_of (take i subs) ++ e.0 ∷ []) (sym is) in
     push ∙ ap (λ (gs : List (ℕ × Group)). gs ++ (number, group) ∷ []) before
     ∙ ap (λ (n : ℕ). map f (keys_of (take i subs)) ++ (n, group) ∷ []) numbered
     ∙ ap (λ (g : Group). map f (keys_of (take i subs)) ++ (one.0, g) ∷ []) new

@@ -163,10 +163,11 @@ module _ (number : ℕ) (which : Which) (max : Option ℕ) (quota : Quota) where
 
 -- ---- what isn't refused
 
-create-free : (quota : Quota) (live : List ℕ) (group : ℕ) → change_refusal (Some quota) live (command.GroupCreate group)
+create-free : (quota : Quota) (subvolumes : List ℕ) (group : ℕ)
+    → change_refusal (Some quota) subvolumes (command.GroupCreate group)
     ≡ None
     → ((level_of_group group == 0) ≡ false) × (length quota.groups < most_groups)
-create-free quota live group none =
+create-free quota subvolumes group none =
     let off : Option Refusal = is_off (Some quota) in
     let level : Option Refusal = refuse (not (not (level_of_group group == 0))) why.Level in
     let there : Option Refusal = refuse (has_number group (keys_of quota.groups)) why.GroupThere in
@@ -183,23 +184,23 @@ create-free quota live group none =
       not-true true is = absurd (true≢false is)
       not-true false is = refl
 
-destroy-free : (quota : Quota) (live : List ℕ) (group : ℕ)
-    → change_refusal (Some quota) live (command.GroupDestroy group) ≡ None → has_number group live ≡ false
-destroy-free quota live group none =
+destroy-free : (quota : Quota) (subvolumes : List ℕ) (group : ℕ)
+    → change_refusal (Some quota) subvolumes (command.GroupDestroy group) ≡ None → has_number group subvolumes ≡ false
+destroy-free quota subvolumes group none =
     let off : Option Refusal = is_off (Some quota) in
     let missing : Option Refusal = is_missing (Some quota) group in
     let busy : Option Refusal =
-    refuse (list_any (λ pair. pair.1 == group) quota.pairs || has_number group live) why.Busy in
+    refuse (list_any (λ pair. pair.1 == group) quota.pairs || has_number group subvolumes) why.Busy in
     let one = none-of off (missing ∷ busy ∷ []) none in
     let two = none-of missing (busy ∷ []) one.1 in
-    (neither (list_any (λ pair. pair.1 == group) quota.pairs) (has_number group live)
-    (refused-not (list_any (λ pair. pair.1 == group) quota.pairs || has_number group live) why.Busy
+    (neither (list_any (λ pair. pair.1 == group) quota.pairs) (has_number group subvolumes)
+    (refused-not (list_any (λ pair. pair.1 == group) quota.pairs || has_number group subvolumes) why.Busy
     (none-of busy [] two.1).0)).1
 
-assign-free : (quota : Quota) (live : List ℕ) (member parent : ℕ)
-    → change_refusal (Some quota) live (command.Assign member parent) ≡ None
+assign-free : (quota : Quota) (subvolumes : List ℕ) (member parent : ℕ)
+    → change_refusal (Some quota) subvolumes (command.Assign member parent) ≡ None
     → length quota.pairs < most_relations
-assign-free quota live member parent none =
+assign-free quota subvolumes member parent none =
     let off : Option Refusal = is_off (Some quota) in
     let level : Option Refusal = refuse (not (nat_lt (level_of_group member) (level_of_group parent))) why.Level in
     let lower : Option Refusal = is_missing (Some quota) member in
@@ -216,15 +217,15 @@ assign-free quota live member parent none =
 
 -- ---- after a command of groups
 
-module _ (stamp : ℕ) (live : List ℕ) (quota : Quota) where
+module _ (stamp : ℕ) (subvolumes : List ℕ) (quota : Quota) where
   -- no more groups than an image can have
-  pub few-after : (given : Command) → change_refusal (Some quota) live given ≡ None
+  pub few-after : (given : Command) → change_refusal (Some quota) subvolumes given ≡ None
       → IsStrictlySortedBy nat_cmp (keys_of quota.groups)
       → length quota.groups ≤ most_groups → length (group_changed stamp given quota).groups ≤ most_groups
   few-after (command.GroupCreate group) none ascend few =
       one-more (length (with_value group (new_group stamp) quota.groups)) (length quota.groups) most_groups
       (length-put group (new_group stamp) quota.groups)
-      (create-free quota live group none).1
+      (create-free quota subvolumes group none).1
   few-after (command.GroupDestroy group) none ascend few =
       no-more (length (without_key group quota.groups)) (length quota.groups) most_groups
       (left-few (λ (entry : ℕ × Group). not (entry.0 == group)) quota.groups) few
@@ -244,7 +245,7 @@ module _ (stamp : ℕ) (live : List ℕ) (quota : Quota) where
   few-after _ none ascend few = few
 
   -- no more relations
-  pub pairs-after : (given : Command) → change_refusal (Some quota) live given ≡ None
+  pub pairs-after : (given : Command) → change_refusal (Some quota) subvolumes given ≡ None
       → length quota.pairs ≤ most_relations
       → length (group_changed stamp given quota).pairs ≤ most_relations
   pairs-after (command.GroupCreate group) none few = few
@@ -254,7 +255,7 @@ module _ (stamp : ℕ) (live : List ℕ) (quota : Quota) where
   pairs-after (command.Assign member parent) none few =
       one-more (length (with_pair (member, parent) quota.pairs)) (length quota.pairs) most_relations
       (pairs-put (member, parent) quota.pairs)
-      (assign-free quota live member parent none)
+      (assign-free quota subvolumes member parent none)
   pairs-after (command.Remove member parent) none few =
       no-more (length (filter (λ pair. not (same_pair pair (member, parent))) quota.pairs))
       (length quota.pairs) most_relations
@@ -264,12 +265,13 @@ module _ (stamp : ℕ) (live : List ℕ) (quota : Quota) where
   pairs-after _ none few = few
 
   -- each group's number may be one
-  pub numbers-after : (given : Command) → change_refusal (Some quota) live given ≡ None
+  pub numbers-after : (given : Command) → change_refusal (Some quota) subvolumes given ≡ None
       → All (λ entry. IsTrue (is_group_number entry.0)) quota.groups
       → All (λ entry. IsTrue (is_group_number entry.0)) (group_changed stamp given quota).groups
   numbers-after (command.GroupCreate group) none all =
       all-put (λ (entry : ℕ × Group). IsTrue (is_group_number entry.0)) group (new_group stamp) quota.groups
-      (ap (λ (b : Bool). not b || is_subvolume_number (id_of_group group)) (create-free quota live group none).0) all
+      (ap (λ (b : Bool). not b || is_subvolume_number (id_of_group group))
+      (create-free quota subvolumes group none).0) all
   numbers-after (command.GroupDestroy group) none all =
       All-filter (λ (entry : ℕ × Group). not (entry.0 == group))
       (λ (entry : ℕ × Group). IsTrue (is_group_number entry.0)) quota.groups all
@@ -283,30 +285,32 @@ module _ (stamp : ℕ) (live : List ℕ) (quota : Quota) where
   numbers-after _ none all = all
 
   -- each subvolume still has its group
-  pub own-after : (given : Command) → change_refusal (Some quota) live given ≡ None
-      → All (λ sub. IsTrue (has_key sub quota.groups)) live
-      → All (λ sub. IsTrue (has_key sub (group_changed stamp given quota).groups)) live
+  pub own-after : (given : Command) → change_refusal (Some quota) subvolumes given ≡ None
+      → All (λ sub. IsTrue (has_key sub quota.groups)) subvolumes
+      → All (λ sub. IsTrue (has_key sub (group_changed stamp given quota).groups)) subvolumes
   own-after (command.GroupCreate group) none all =
       All-weaker (λ (sub : ℕ). IsTrue (has_key sub quota.groups))
       (λ (sub : ℕ). IsTrue (has_key sub (with_value group (new_group stamp) quota.groups)))
-      (λ sub has. key-kept group (new_group stamp) sub quota.groups has) live all
-  own-after (command.GroupDestroy group) none all = others live (destroy-free quota live group none) all where
-    others : (subs : List ℕ) → has_number group subs ≡ false → All (λ sub. IsTrue (has_key sub quota.groups)) subs
-        → All (λ sub. IsTrue (has_key sub (without_key group quota.groups))) subs
-    others [] absent every = λ k d inside. absurd (omega (arith, inside))
-    others (sub ∷ subs) absent every =
-        let parts = neither (sub == group) (has_number group subs) absent in
-        All-cons (λ (s : ℕ). IsTrue (has_key s (without_key group quota.groups))) sub subs
-        (key-left group sub quota.groups parts.0 (All-head (λ (s : ℕ). IsTrue (has_key s quota.groups)) sub subs every))
-        (others subs parts.1 (All-tail (λ (s : ℕ). IsTrue (has_key s quota.groups)) sub subs every))
+      (λ sub has. key-kept group (new_group stamp) sub quota.groups has) subvolumes all
+  own-after (command.GroupDestroy group) none all =
+      others subvolumes (destroy-free quota subvolumes group none) all where
+        others : (subs : List ℕ) → has_number group subs ≡ false → All (λ sub. IsTrue (has_key sub quota.groups)) subs
+            → All (λ sub. IsTrue (has_key sub (without_key group quota.groups))) subs
+        others [] absent every = λ k d inside. absurd (omega (arith, inside))
+        others (sub ∷ subs) absent every =
+            let parts = neither (sub == group) (has_number group subs) absent in
+            All-cons (λ (s : ℕ). IsTrue (has_key s (without_key group quota.groups))) sub subs
+            (key-left group sub quota.groups parts.0
+            (All-head (λ (s : ℕ). IsTrue (has_key s quota.groups)) sub subs every))
+            (others subs parts.1 (All-tail (λ (s : ℕ). IsTrue (has_key s quota.groups)) sub subs every))
   own-after (command.Assign member parent) none all = all
   own-after (command.Remove member parent) none all = all
   own-after (command.Limit number which max) none all =
-      limit-kept number which max quota (λ (q : Quota). All (λ sub. IsTrue (has_key sub q.groups)) live) all
+      limit-kept number which max quota (λ (q : Quota). All (λ sub. IsTrue (has_key sub q.groups)) subvolumes) all
       (λ group found.
       All-weaker (λ (sub : ℕ). IsTrue (has_key sub quota.groups))
       (λ (sub : ℕ). IsTrue (has_key sub (with_value number (with_limit which max group) quota.groups)))
-      (λ sub has. key-kept number (with_limit which max group) sub quota.groups has) live all)
+      (λ sub has. key-kept number (with_limit which max group) sub quota.groups has) subvolumes all)
   own-after _ none all = all
 
   -- no stamp is of a later generation

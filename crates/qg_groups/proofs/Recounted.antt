@@ -60,23 +60,23 @@ pairs-recounted (Some old) None same = absurd same
 pairs-recounted (Some old) (Some new) same = pairs-same old new same
 
 -- a command of quota is refused for the same
-still : (old new : Quota) (live : List ℕ) (given : Command) → keys_of new.groups ≡ keys_of old.groups
+still : (old new : Quota) (subvolumes : List ℕ) (given : Command) → keys_of new.groups ≡ keys_of old.groups
     → new.pairs ≡ old.pairs
-    → change_refusal (Some new) live given ≡ change_refusal (Some old) live given
-still old new live command.QuotaOn keys pairs = refl
-still old new live command.QuotaOff keys pairs = refl
-still old new live (command.GroupCreate group) keys pairs =
+    → change_refusal (Some new) subvolumes given ≡ change_refusal (Some old) subvolumes given
+still old new subvolumes command.QuotaOn keys pairs = refl
+still old new subvolumes command.QuotaOff keys pairs = refl
+still old new subvolumes (command.GroupCreate group) keys pairs =
     ap (λ (ks : List ℕ). first_some
     (None ∷ refuse (not (not (level_of_group group == 0))) why.Level ∷ refuse (has_number group ks) why.GroupThere
     ∷ refuse (nat_le most_groups (length ks)) why.TooMany ∷ [])) keys
-still old new live (command.GroupDestroy group) keys pairs =
+still old new subvolumes (command.GroupDestroy group) keys pairs =
     ap (λ (ks : List ℕ). first_some
     (None ∷ refuse (not (has_number group ks)) why.NoGroup
-    ∷ refuse (list_any (λ pair. pair.1 == group) new.pairs || has_number group live) why.Busy ∷ [])) keys
+    ∷ refuse (list_any (λ pair. pair.1 == group) new.pairs || has_number group subvolumes) why.Busy ∷ [])) keys
     ∙ ap (λ (ps : List (ℕ × ℕ)). first_some
     (None ∷ refuse (not (has_number group (keys_of old.groups))) why.NoGroup
-    ∷ refuse (list_any (λ pair. pair.1 == group) ps || has_number group live) why.Busy ∷ [])) pairs
-still old new live (command.Assign member parent) keys pairs =
+    ∷ refuse (list_any (λ pair. pair.1 == group) ps || has_number group subvolumes) why.Busy ∷ [])) pairs
+still old new subvolumes (command.Assign member parent) keys pairs =
     ap (λ (ks : List ℕ). first_some
     (None ∷ refuse (not (nat_lt (level_of_group member) (level_of_group parent))) why.Level
     ∷ refuse (not (has_number member ks)) why.NoGroup
@@ -88,16 +88,17 @@ still old new live (command.Assign member parent) keys pairs =
     ∷ refuse (not (has_number parent (keys_of old.groups))) why.NoGroup
     ∷ refuse (has_pair member parent ps) why.Related ∷ refuse (nat_le most_relations (length ps)) why.TooMany ∷ []))
     pairs
-still old new live (command.Remove member parent) keys pairs =
+still old new subvolumes (command.Remove member parent) keys pairs =
     ap (λ (ps : List (ℕ × ℕ)). first_some (None ∷ refuse (not (has_pair member parent ps)) why.NotRelated ∷ [])) pairs
-still old new live (command.Limit group which max) keys pairs =
+still old new subvolumes (command.Limit group which max) keys pairs =
     ap (λ (ks : List ℕ). first_some (None ∷ refuse (not (has_number group ks)) why.NoGroup ∷ [])) keys
-still old new live _ keys pairs = refl
+still old new subvolumes _ keys pairs = refl
 
-pub refusal-recounted : (old new : Option Quota) (live : List ℕ) (given : Command) → SameButCounts old new
-    → change_refusal new live given ≡ change_refusal old live given
-refusal-recounted None None live given same = refl
-refusal-recounted None (Some new) live given same = absurd same
-refusal-recounted (Some old) None live given same = absurd same
-refusal-recounted (Some old) (Some new) live given same = still old new live given (keys-recounted old new same)
+pub refusal-recounted : (old new : Option Quota) (subvolumes : List ℕ) (given : Command) → SameButCounts old new
+    → change_refusal new subvolumes given ≡ change_refusal old subvolumes given
+refusal-recounted None None subvolumes given same = refl
+refusal-recounted None (Some new) subvolumes given same = absurd same
+refusal-recounted (Some old) None subvolumes given same = absurd same
+refusal-recounted (Some old) (Some new) subvolumes given same =
+    still old new subvolumes given (keys-recounted old new same)
     (pairs-same old new same)

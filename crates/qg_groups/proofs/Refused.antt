@@ -70,22 +70,23 @@ missing quota group = refuse (not (has_number group (keys_of quota.groups))) why
 abbrev wrong_level : ℕ → ℕ → Option Refusal
 wrong_level member parent = refuse (not (nat_lt (level_of_group member) (level_of_group parent))) why.Level
 
-pub free-change : (quota : Quota) (live : List ℕ) (given : Command) → change_refusal (Some quota) live given ≡ None
+pub free-change : (quota : Quota) (subvolumes : List ℕ) (given : Command)
+    → change_refusal (Some quota) subvolumes given ≡ None
     → change_fault (hierarchy_of quota) given ≡ None
-free-change quota live (command.GroupCreate group) none =
+free-change quota subvolumes (command.GroupCreate group) none =
     let there : Option Refusal = refuse (has_number group (keys_of quota.groups)) why.GroupThere in
     let many : Option Refusal = refuse (nat_le most_groups (length (keys_of quota.groups))) why.TooMany in
     let level = none-of (refuse (not (not (level_of_group group == 0))) why.Level) (there ∷ many ∷ []) none in
     other_answer (has_number group (keys_of quota.groups)) why.GroupThere fault.GroupThere
     (none-of there (many ∷ []) level.1).0
-free-change quota live (command.GroupDestroy group) none =
+free-change quota subvolumes (command.GroupDestroy group) none =
     let members : Bool = has_members (hierarchy_of quota) group in
-    let busy : Option Refusal = refuse (members || has_number group live) why.Busy in
+    let busy : Option Refusal = refuse (members || has_number group subvolumes) why.Busy in
     let absent = none-of (missing quota group) (busy ∷ []) none in
     first_two (no_group (hierarchy_of quota) group) (then_some members fault.Busy)
     (other_answer (not (has_number group (keys_of quota.groups))) why.NoGroup fault.NoGroup absent.0)
-    (one_answer members (has_number group live) why.Busy fault.Busy (none-of busy [] absent.1).0)
-free-change quota live (command.Assign member parent) none =
+    (one_answer members (has_number group subvolumes) why.Busy fault.Busy (none-of busy [] absent.1).0)
+free-change quota subvolumes (command.Assign member parent) none =
     let related : Option Refusal = refuse (has_pair member parent quota.pairs) why.Related in
     let many : Option Refusal = refuse (nat_le most_relations (length quota.pairs)) why.TooMany in
     let level = none-of (wrong_level member parent) (missing quota member ∷ missing quota parent ∷ related ∷ many ∷ [])
@@ -100,13 +101,13 @@ free-change quota live (command.Assign member parent) none =
     (other_answer (not (has_number parent (keys_of quota.groups))) why.NoGroup fault.NoGroup above.0)
     (other_answer (has_pair member parent quota.pairs) why.Related fault.Related
     (none-of related (many ∷ []) above.1).0)
-free-change quota live (command.Remove member parent) none =
+free-change quota subvolumes (command.Remove member parent) none =
     let apart = none-of (refuse (not (has_pair member parent quota.pairs)) why.NotRelated) [] none in
     other_answer (not (has_pair member parent quota.pairs)) why.NotRelated fault.NotRelated apart.0
-free-change quota live (command.Limit group which max) none =
+free-change quota subvolumes (command.Limit group which max) none =
     let absent = none-of (missing quota group) [] none in
     other_answer (not (has_number group (keys_of quota.groups))) why.NoGroup fault.NoGroup absent.0
-free-change quota live _ none = refl
+free-change quota subvolumes _ none = refl
 
 -- ---- refusals of the machine
 
@@ -138,7 +139,7 @@ refused state None (command.Limit group which max) is = refl
 refused state (Some quota) (command.Limit group which max) is = refl
 refused state quota _ is = absurd (true≢false (sym is))
 
--- a command of quota is refused by quota and the live subvolumes, and then by the room for its commit
+-- a command of quota is refused by quota and the subvolumes, and then by the room for its commit
 pub refusal-is : (state : State) (given : Command) → is_group_command given ≡ true
     → refusal state given ≡ first_some (change_refusals state.quota (keys_of state.subvolumes) given
     ++ no_commit state given ∷ [])

@@ -16,7 +16,7 @@ use Rattle.qg_hier.specs.Groups.{has_number}
 use Rattle.qg_groups.specs.Changing.{is_missing}
 use Rattle.qg_groups.specs.OnOrOff.{parents_refusal, snap_refusal}
 
--- ---- live subvolumes
+-- ---- numbers of subvolumes
 
 -- a number is among the keys exactly if some entry has it
 pub keys-any : {A : Type 0} (n : ℕ) (table : List (ℕ × A))

@@ -90,29 +90,29 @@ is_off quota = refuse (not (is_some quota)) why.NoQuota
 abbrev pub is_missing : Option Quota → ℕ → Option Refusal
 is_missing quota group = refuse (not (has_number group (groups_in quota))) why.NoGroup
 
--- what a command of quota may be refused for before the room for its commit is looked at, in order, where these
--- subvolumes live
+-- what a command of quota may be refused for before the room for its commit is looked at, in order, where these are the
+-- subvolumes, whether they live or not
 abbrev pub change_refusals : Option Quota → List ℕ → Command → List (Option Refusal)
-change_refusals quota live command.QuotaOn =
-    refuse (is_some quota) why.QuotaOn ∷ refuse (nat_lt most_groups (length live)) why.TooMany ∷ []
-change_refusals quota live command.QuotaOff = is_off quota ∷ []
-change_refusals quota live (command.GroupCreate group) =
+change_refusals quota subvolumes command.QuotaOn =
+    refuse (is_some quota) why.QuotaOn ∷ refuse (nat_lt most_groups (length subvolumes)) why.TooMany ∷ []
+change_refusals quota subvolumes command.QuotaOff = is_off quota ∷ []
+change_refusals quota subvolumes (command.GroupCreate group) =
     is_off quota ∷ refuse (not (not (level_of_group group == 0))) why.Level
     ∷ refuse (has_number group (groups_in quota)) why.GroupThere
     ∷ refuse (nat_le most_groups (length (groups_in quota))) why.TooMany ∷ []
-change_refusals quota live (command.GroupDestroy group) =
+change_refusals quota subvolumes (command.GroupDestroy group) =
     is_off quota ∷ is_missing quota group ∷ refuse (list_any (λ pair. pair.1 == group) (pairs_in quota)
-    || has_number group live) why.Busy ∷ []
-change_refusals quota live (command.Assign member parent) =
+    || has_number group subvolumes) why.Busy ∷ []
+change_refusals quota subvolumes (command.Assign member parent) =
     is_off quota ∷ refuse (not (nat_lt (level_of_group member) (level_of_group parent))) why.Level
     ∷ is_missing quota member ∷ is_missing quota parent
     ∷ refuse (has_pair member parent (pairs_in quota)) why.Related
     ∷ refuse (nat_le most_relations (length (pairs_in quota))) why.TooMany ∷ []
-change_refusals quota live (command.Remove member parent) =
+change_refusals quota subvolumes (command.Remove member parent) =
     is_off quota ∷ refuse (not (has_pair member parent (pairs_in quota))) why.NotRelated ∷ []
-change_refusals quota live (command.Limit group which max) = is_off quota ∷ is_missing quota group ∷ []
-change_refusals quota live _ = []
+change_refusals quota subvolumes (command.Limit group which max) = is_off quota ∷ is_missing quota group ∷ []
+change_refusals quota subvolumes _ = []
 
 -- the first of them that holds
 abbrev pub change_refusal : Option Quota → List ℕ → Command → Option Refusal
-change_refusal quota live given = first_some (change_refusals quota live given)
+change_refusal quota subvolumes given = first_some (change_refusals quota subvolumes given)

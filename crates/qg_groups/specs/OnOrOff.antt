@@ -19,12 +19,12 @@ use Rattle.qg_groups.specs.Tracked.{path_of}
 
 -- ---- commands of quota
 
--- quota after a command of quota that is done in this generation, where these subvolumes live: turned on, it has a
--- group for each of them
+-- quota after a command of quota that is done in this generation, where these are the subvolumes, whether they live or
+-- not: turned on, it has a group for each of them
 abbrev pub quota_changed : ℕ → List ℕ → Command → Option Quota → Option Quota
-quota_changed stamp live command.QuotaOn quota = Some (quota_for stamp live)
-quota_changed stamp live command.QuotaOff quota = None
-quota_changed stamp live given quota = option_map (group_changed stamp given) quota
+quota_changed stamp subvolumes command.QuotaOn quota = Some (quota_for stamp subvolumes)
+quota_changed stamp subvolumes command.QuotaOff quota = None
+quota_changed stamp subvolumes given quota = option_map (group_changed stamp given) quota
 
 -- ---- snapshots
 

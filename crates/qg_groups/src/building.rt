@@ -71,9 +71,9 @@ pub(crate) fn limits_from(alloc: Global, groups: &[(GroupId, Group)]) -> Result<
 }
 
 /// A new group for each subvolume.
-pub(crate) fn groups_of(
+pub(crate) fn groups_of<T>(
     alloc: Global,
-    subs: &[(RootId, Generation)],
+    subs: &[(RootId, T)],
     stamp: Generation,
 ) -> Result<Sequence<(GroupId, Group)>, NoMemory>
     ensures { IfOk result (λ groups. groups ≡ map (λ sub. (sub, new_group stamp)) (keys_of subs.now)) }

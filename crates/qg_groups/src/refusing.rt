@@ -1,4 +1,4 @@
-// Why commands of quota and lists of snapshots are refused, by quota and the live subvolumes alone.
+// Why commands of quota and lists of snapshots are refused, by quota and the subvolumes alone.
 ghost use Rattle.std.specs.Prelude.{◌≡◌, ◌==◌, ◌||◌, ℕ, [], ◌∷◌, length, not, IfOk, IfSome, None, OnOk, Some};
 ghost use Rattle.std.specs.List.{list_any};
 ghost use Rattle.qg_num.specs.declared.command.Command.TheVariants.{Assign, GroupCreate, GroupDestroy, QuotaOn, Remove};
@@ -15,7 +15,7 @@ ghost use Rattle.qg_groups.specs.Tracked.{IsTracked, quota_of};
 
 use crate::QuotaState;
 use crate::groups::find_group;
-use qg_num::{Command, Generation, GroupId, NoMemory, Refusal, RootId};
+use qg_num::{Command, GroupId, NoMemory, Refusal, RootId};
 use std::alloc::Global;
 use std::collections::BTreeSet;
 
@@ -24,19 +24,19 @@ const MOST_GROUPS: usize = 4096;
 
 const MOST_RELATIONS: usize = 16384;
 
-/// Why a command of quota is refused, before the room for its commit is looked at, where these subvolumes live. Of any
-/// other command nothing is asked here.
-pub fn refusal_of(
+/// Why a command of quota is refused, before the room for its commit is looked at, where these are the subvolumes,
+/// whether they live or not. Of any other command nothing is asked here.
+pub fn refusal_of<T>(
     quota: &Option<QuotaState>,
-    live: &[(RootId, Generation)],
+    subvolumes: &[(RootId, T)],
     command: &Command,
 ) -> Option<Refusal>
     requires { IfSome quota.now IsTracked }
-    ensures { result ≡ change_refusal (quota_of quota.now) (keys_of live.now) command.now }
+    ensures { result ≡ change_refusal (quota_of quota.now) (keys_of subvolumes.now) command.now }
 {
     match quota {
-        None => refusal_while_off(live, command),
-        Some(state) => refusal_while_on(state, live, command),
+        None => refusal_while_off(subvolumes, command),
+        Some(state) => refusal_while_on(state, subvolumes, command),
     }
 }
 
@@ -55,12 +55,12 @@ pub fn refusal_of_parents(
     }
 }
 
-// While quota is off, it can be turned on, where no more subvolumes live than an image can have groups.
-fn refusal_while_off(live: &[(RootId, Generation)], command: &Command) -> Option<Refusal>
-    ensures { result ≡ change_refusal None (keys_of live.now) command.now }
+// While quota is off, it can be turned on, where there are no more subvolumes than an image can have groups.
+fn refusal_while_off<T>(subvolumes: &[(RootId, T)], command: &Command) -> Option<Refusal>
+    ensures { result ≡ change_refusal None (keys_of subvolumes.now) command.now }
 {
     match command {
-        Command::QuotaOn => refusal_of_on(live),
+        Command::QuotaOn => refusal_of_on(subvolumes),
         Command::QuotaOff => Some(Refusal::NoQuota),
         Command::GroupCreate { .. } => Some(Refusal::NoQuota),
         Command::GroupDestroy { .. } => Some(Refusal::NoQuota),
@@ -71,30 +71,30 @@ fn refusal_while_off(live: &[(RootId, Generation)], command: &Command) -> Option
     }
 }
 
-// More subvolumes live than an image can have groups.
-fn refusal_of_on(live: &[(RootId, Generation)]) -> Option<Refusal>
-    ensures { result ≡ change_refusal None (keys_of live.now) QuotaOn }
+// There are more subvolumes than an image can have groups.
+fn refusal_of_on<T>(subvolumes: &[(RootId, T)]) -> Option<Refusal>
+    ensures { result ≡ change_refusal None (keys_of subvolumes.now) QuotaOn }
 {
-    if live.len() > MOST_GROUPS {
+    if subvolumes.len() > MOST_GROUPS {
         return Some(Refusal::TooMany);
     }
     None
 }
 
 // While quota is on, each command of groups has its own.
-fn refusal_while_on(
+fn refusal_while_on<T>(
     state: &QuotaState,
-    live: &[(RootId, Generation)],
+    subvolumes: &[(RootId, T)],
     command: &Command,
 ) -> Option<Refusal>
     requires { IsTracked state.now }
-    ensures { result ≡ change_refusal (Some state.now.quota) (keys_of live.now) command.now }
+    ensures { result ≡ change_refusal (Some state.now.quota) (keys_of subvolumes.now) command.now }
 {
     match command {
         Command::QuotaOn => Some(Refusal::QuotaOn),
         Command::QuotaOff => None,
         Command::GroupCreate { group } => refusal_of_create(state, *group),
-        Command::GroupDestroy { group } => refusal_of_destroy(state, live, *group),
+        Command::GroupDestroy { group } => refusal_of_destroy(state, subvolumes, *group),
         Command::Assign { member, parent } => refusal_of_assign(state, *member, *parent),
         Command::Remove { member, parent } => refusal_of_remove(state, *member, *parent),
         Command::Limit { group, .. } => refusal_of_limit(state, *group),
@@ -119,19 +119,19 @@ fn refusal_of_create(state: &QuotaState, group: GroupId) -> Option<Refusal>
     None
 }
 
-// A group that goes is there, has no members, and is no live subvolume's.
-fn refusal_of_destroy(
+// A group that goes is there, has no members, and is no subvolume's.
+fn refusal_of_destroy<T>(
     state: &QuotaState,
-    live: &[(RootId, Generation)],
+    subvolumes: &[(RootId, T)],
     group: GroupId,
 ) -> Option<Refusal>
     requires { IsTracked state.now }
-    ensures { result ≡ change_refusal (Some state.now.quota) (keys_of live.now) (GroupDestroy group) }
+    ensures { result ≡ change_refusal (Some state.now.quota) (keys_of subvolumes.now) (GroupDestroy group) }
 {
     if !has_group(state, group) {
         return Some(Refusal::NoGroup);
     }
-    if has_members(state.quota.pairs.as_slice(), group) || is_live(live, group) {
+    if has_members(state.quota.pairs.as_slice(), group) || is_subvolume(subvolumes, group) {
         return Some(Refusal::Busy);
     }
     None
@@ -265,18 +265,18 @@ fn are_related(pairs: &[(GroupId, GroupId)], member: GroupId, parent: GroupId) -
     false
 }
 
-// Whether a group has the number of a live subvolume.
-fn is_live(live: &[(RootId, Generation)], group: GroupId) -> bool
-    ensures { result ≡ has_number group (keys_of live.now) }
+// Whether a group has the number of a subvolume.
+fn is_subvolume<T>(subvolumes: &[(RootId, T)], group: GroupId) -> bool
+    ensures { result ≡ has_number group (keys_of subvolumes.now) }
 {
-    has_entry(live, group)
+    has_entry(subvolumes, group)
 }
 
 // Whether one of some subvolumes has the number of a group.
-fn has_entry(live: &[(RootId, Generation)], group: GroupId) -> bool
-    ensures { result ≡ list_any (λ entry. entry.0 == group) live.now }
+fn has_entry<T>(subvolumes: &[(RootId, T)], group: GroupId) -> bool
+    ensures { result ≡ list_any (λ entry. entry.0 == group) subvolumes.now }
 {
-    for entry in live {
+    for entry in subvolumes {
         if entry.0.value() == group.number() {
             return true;
         }

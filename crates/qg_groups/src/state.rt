@@ -57,9 +57,9 @@ impl QuotaState {
     }
 
     /// Quota as it is turned on in a generation: a group for each subvolume, of which nothing is counted.
-    pub fn of_subvolumes(
+    pub fn of_subvolumes<T>(
         alloc: Global,
-        subs: &[(RootId, Generation)],
+        subs: &[(RootId, T)],
         stamp: Generation,
     ) -> Result<QuotaState, NoMemory>
         requires { IsStrictlySortedBy nat_cmp (keys_of subs.now) }

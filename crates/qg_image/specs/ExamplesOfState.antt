@@ -18,7 +18,8 @@ use Rattle.qg_image.specs.declared.file.File.{File}
 use Rattle.qg_image.specs.ItemMeaning.{file_part, root_part, extent_part, quota_part, is_subvolume_number}
 use Rattle.qg_image.specs.declared.quota.Group.{Group}
 use Rattle.qg_image.specs.declared.quota.Quota.{Quota}
-use Rattle.qg_image.specs.State.{State, Subvolume, Placed, layout_of}
+use Rattle.qg_image.specs.State.{State, Subvolume, Placed, blank_state, blank_subvolume, blank_quota, nothing_held}
+use Rattle.qg_image.specs.State.{layout_of}
 use Rattle.qg_image.specs.Reach.{pieces_of, reach_of_root, reach, owners}
 use Rattle.qg_image.specs.Members.{Hierarchy, leads, is_below, members, next_subvolume}
 use Rattle.qg_image.specs.Counts.{reach_of_group, is_reached_outside, referenced, exclusive}
@@ -27,6 +28,7 @@ use Rattle.qg_image.specs.Space.{present_extents, is_free_run, is_free_slot, fre
 use Rattle.qg_image.specs.Owed.{owed_by_node, owed, owed_count, layout_extents}
 use Rattle.qg_image.specs.Record.{RootOf, NodeOf, ReferenceTo, Status, InfoOf, LimitOf, record_named}
 use Rattle.qg_image.specs.Need.{present_records, held_records, weight, file_copies, file_need, structural_need}
+use Rattle.qg_image.specs.Need.{commit_room}
 
 -- ---- making states
 
@@ -69,7 +71,7 @@ leaf address owner files = (
 
 -- a subvolume whose tree is one leaf
 abbrev pub subvolume : ℕ → List (ℕ × File) → Subvolume
-subvolume root files = record { files = files; root = root; last_snapshot = 0 }
+subvolume root files = record (blank_subvolume root) { files = files }
 
 abbrev pub group : Group
 group = record { counters = record { rfer = 0; excl = 0 }; max_rfer = None; max_excl = None; stamp = 1 }
@@ -78,14 +80,11 @@ abbrev pub small : Sizes
 small = record { nodesize = 16384; slots = 64; sectors = 1024 }
 
 abbrev pub state_of : List (ℕ × Subvolume) → List (ℕ × Placed) → List ℕ → List (ℕ × ℕ) → State
-state_of subvolumes layout groups pairs = record {
-  sizes = small;
+state_of subvolumes layout groups pairs = record (blank_state small) {
   generation = 2;
   subvolumes = subvolumes;
   layout = layout;
-  quota = Some (record { groups = map (λ g. (g, group)) groups; pairs = pairs });
-  pending = [];
-  held = record { nodes = []; others = []; extents = [] };
+  quota = Some (record blank_quota { groups = map (λ g. (g, group)) groups; pairs = pairs });
 }
 
 abbrev pub groups_of : List ℕ → List (ℕ × ℕ) → Hierarchy
@@ -298,8 +297,7 @@ fresh_others =
     ∷ []
 
 abbrev pub fresh : State
-fresh = record {
-  sizes = small;
+fresh = record (blank_state small) {
   generation = 1;
   subvolumes = (5, subvolume 1097728 []) ∷ [];
   layout = (
@@ -309,7 +307,7 @@ fresh = record {
       full = false;
     },
   ) ∷ [];
-  quota = Some (record {
+  quota = Some (record blank_quota {
     groups = (
       5,
       record {
@@ -319,13 +317,10 @@ fresh = record {
         stamp = 1;
       },
     ) ∷ [];
-    pairs = [];
   });
-  pending = [];
-  held = record {
+  held = record nothing_held {
     nodes = 1048576 ∷ 1064960 ∷ 1081344 ∷ 1097728 ∷ [];
     others = fresh_others;
-    extents = [];
   };
 }
 
@@ -351,6 +346,9 @@ fresh-write_need = rw fresh-weight refl
 fresh-structural_need : structural_need fresh 18 ≡ 276
 fresh-structural_need = rw fresh-weight refl
 
+fresh-commit_room : commit_room fresh ≡ 45
+fresh-commit_room = rw fresh-weight refl
+
 fresh-first_run : first_run fresh 4096 ≡ Some 67174400
 unfolding first_run least is_free_run is_run present_extents
 fresh-first_run = refl
@@ -368,7 +366,7 @@ fresh-next_subvolume = refl
 -- ---- limits: a reservation that reaches a limit is accepted, one byte more is not
 
 abbrev pub limited : ℕ → Quota
-limited max = record {
+limited max = record blank_quota {
   groups = (
     5,
     record {
@@ -378,7 +376,6 @@ limited max = record {
       stamp = 1;
     },
   ) ∷ [];
-  pairs = [];
 }
 
 equality_is_accepted : over (limited 36864) [] 5 20480 ≡ None

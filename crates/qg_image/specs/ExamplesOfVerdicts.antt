@@ -23,7 +23,7 @@ use Rattle.qg_image.specs.Walk.{root_expected, node_failure, way_failure}
 use Rattle.qg_image.specs.Failure.{unless}
 use Rattle.qg_image.specs.ImageState.{is_full_record, placed}
 use Rattle.qg_image.specs.Verdict.{are_mirrored, is_quota, space_failure, counts_failure}
-use Rattle.qg_image.specs.State.{layout_of}
+use Rattle.qg_image.specs.State.{blank_quota, layout_of}
 use Rattle.qg_image.specs.IsFresh.{fresh_state}
 
 abbrev pub small : Sizes
@@ -123,7 +123,7 @@ limit_that_is_not_set = refl
 -- ---- counts
 
 fresh_counts : counts_failure (layout_of (fresh_state small [] 1064960))
-    (Some (record {
+    (Some (record blank_quota {
       groups = (
         5,
         record {
@@ -133,7 +133,6 @@ fresh_counts : counts_failure (layout_of (fresh_state small [] 1064960))
           stamp = 1;
         },
       ) ∷ [];
-      pairs = [];
     })) ≡ None
 unfolding counts_failure referenced exclusive is_reached_outside reach_of_group members is_below leads reach
     reach_of_root pieces_of
@@ -141,7 +140,7 @@ fresh_counts = refl
 
 -- referenced bytes stored as 0
 stored_as_zero : counts_failure (layout_of (fresh_state small [] 1064960))
-    (Some (record {
+    (Some (record blank_quota {
       groups = (
         5,
         record {
@@ -151,7 +150,6 @@ stored_as_zero : counts_failure (layout_of (fresh_state small [] 1064960))
           stamp = 1;
         },
       ) ∷ [];
-      pairs = [];
     })) ≡ Some (Differs 5 Rfer 0 16384)
 unfolding counts_failure referenced exclusive is_reached_outside reach_of_group members is_below leads reach
     reach_of_root pieces_of

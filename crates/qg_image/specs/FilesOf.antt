@@ -1,8 +1,8 @@
 -- The files that the items of a subvolume's tree stand for (on-disk format, INODE_ITEM and EXTENT_DATA).
 --
 -- Positions, lengths and sizes are in bytes.
-use Rattle.std.specs.Prelude.{ℕ, ◌+◌, ◌%◌, ◌^◌, Bool, true, ◌&&◌, List, [], ◌∷◌, map, Option, Some, None, ◌==◌, nat_le}
-use Rattle.std.specs.Prelude.{nat_lt}
+use Rattle.std.specs.Prelude.{◌≡◌, ℕ, ◌+◌, ◌%◌, ◌^◌, Bool, true, ◌&&◌, List, [], ◌∷◌, map, Option, Some, None, ◌==◌}
+use Rattle.std.specs.Prelude.{nat_le, nat_lt, unwrap_or}
 use Rattle.std.specs.Bool.{then_some}
 use Rattle.std.specs.List.{filter_map, list_all, sum_by}
 use Rattle.qg_num.specs.declared.piece.Piece.{Piece}
@@ -118,3 +118,11 @@ are_files parts = list_all (is_owned parts) parts && list_all (is_inode parts) (
 unfoldable pub files_of : ℕ → List Item → Option (List (ℕ × File))
 files_of generation items =
     then_some (list_all (is_file_item generation) items && are_files (file_parts items)) (files_in (file_parts items))
+
+-- what the items of a subvolume's tree stand for: they tell these files, and no generation past this one
+abbrev pub AreItemsOfFiles : ℕ → List Item → List (ℕ × File) → Type 0
+AreItemsOfFiles generation items files = files_of generation items ≡ Some files
+
+-- the files that items stand for; none where they stand for none
+abbrev pub files_told : ℕ → List Item → List (ℕ × File)
+files_told generation items = unwrap_or (files_of generation items) []

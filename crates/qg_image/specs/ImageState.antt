@@ -21,7 +21,7 @@ use Rattle.qg_image.specs.declared.part.ExtentPart.TheVariants.{DataRecord, Node
 use Rattle.qg_image.specs.declared.part.QuotaPart.{QuotaPart}
 use Rattle.qg_image.specs.declared.part.QuotaPart.TheVariants.{Status, Info, Limits, Relation}
 use Rattle.qg_image.specs.ItemMeaning.{is_subvolume_number, root_part, extent_part, quota_part}
-use Rattle.qg_image.specs.FilesOf.{files_of}
+use Rattle.qg_image.specs.declared.file.File.{File}
 use Rattle.qg_image.specs.declared.failure.Failure.{Failure}
 use Rattle.qg_image.specs.declared.tree.Tree.{Tree}
 use Rattle.qg_image.specs.declared.tree.Tree.TheVariants.{Roots, Extents, Quotas, Files}
@@ -30,9 +30,10 @@ use Rattle.qg_image.specs.Walk.{root_expected, root_told, node_found}
 use Rattle.qg_image.specs.ItemsUnder.{items_under, nodes_under}
 use Rattle.qg_image.specs.declared.quota.Group.{Group}
 use Rattle.qg_image.specs.declared.quota.Quota.{Quota}
-use Rattle.qg_image.specs.State.{State, Subvolume, Placed, Committed}
+use Rattle.qg_image.specs.State.{State, Subvolume, Placed, Committed, blank_state, blank_subvolume, blank_quota}
 use Rattle.qg_image.specs.Members.{level_of_group}
 use Rattle.qg_image.specs.Space.{present_extents}
+use Rattle.qg_image.specs.FilesOf.{files_told}
 
 -- ---- superblocks
 
@@ -129,13 +130,14 @@ layout_in super image =
 
 -- ---- subvolumes
 
+-- the subvolume with these files and this ROOT_ITEM
+abbrev pub subvolume_told : List (ℕ × File) → RootItem → Subvolume
+subvolume_told files root = record (blank_subvolume root.bytenr) { files = files; last_snapshot = root.last_snapshot }
+
 -- the subvolume with this ROOT_ITEM
 abbrev pub subvolume_in : Super → List ℕ → RootItem → Subvolume
-subvolume_in super image root = record {
-  files = unwrap_or (files_of super.generation (items_of_root Files super image root)) [];
-  root = root.bytenr;
-  last_snapshot = root.last_snapshot;
-}
+subvolume_in super image root =
+    subvolume_told (files_told super.generation (items_of_root Files super image root)) root
 
 -- the subvolumes by number
 unfoldable pub subvolumes_in : Super → List ℕ → List (ℕ × Subvolume)
@@ -184,7 +186,7 @@ group_told info limit = record {
 
 -- the groups and relations that items tell
 unfoldable pub quota_told : List QuotaPart → Quota
-quota_told parts = record {
+quota_told parts = record blank_quota {
   groups = map (λ entry. (entry.0, group_told entry.1 (value_at entry.0 (filter_map limit_told parts))))
       (filter_map info_told parts);
   pairs = filter_map pair_told parts;
@@ -220,12 +222,9 @@ as_committed others state = record state { held = committed_by others state }
 
 -- the state of the image with this superblock: nothing is pending, and the last commit is the state itself
 unfoldable pub state_in : Super → List ℕ → State
-state_in super image = as_committed (other_nodes super image) (record {
-  sizes = sizes_of super;
+state_in super image = as_committed (other_nodes super image) (record (blank_state (sizes_of super)) {
   generation = super.generation;
   subvolumes = subvolumes_in super image;
   layout = layout_in super image;
   quota = quota_in super image;
-  pending = [];
-  held = record { nodes = []; others = []; extents = [] };
 })

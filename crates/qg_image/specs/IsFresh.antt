@@ -8,7 +8,7 @@ use Rattle.qg_items.specs.declared.tree.TheConstants.{ROOT_TREE, EXTENT_TREE, TO
 use Rattle.qg_super.specs.declared.sizes.Sizes.{Sizes}
 use Rattle.qg_super.specs.Places.{is_slot}
 use Rattle.qg_image.specs.declared.quota.Group.{Group}
-use Rattle.qg_image.specs.State.{State}
+use Rattle.qg_image.specs.State.{State, blank_state, blank_subvolume, blank_quota}
 use Rattle.qg_image.specs.ImageState.{as_committed}
 use Rattle.qg_image.specs.OtherTrees.{AreOtherTrees}
 
@@ -28,14 +28,11 @@ fresh_leaf owner address items = Leaf (record { address = address; generation = 
 -- generation 1, quota on, the top-level subvolume an empty leaf at an address, its group with its counts and no limit;
 -- the root, extent and quota trees have these nodes
 abbrev pub fresh_state : Sizes → List Node → ℕ → State
-fresh_state sizes others root = as_committed others (record {
-  sizes = sizes;
+fresh_state sizes others root = as_committed others (record (blank_state sizes) {
   generation = 1;
-  subvolumes = (TOP_LEVEL, record { files = []; root = root; last_snapshot = 0 }) ∷ [];
+  subvolumes = (TOP_LEVEL, blank_subvolume root) ∷ [];
   layout = (root, record { node = fresh_leaf TOP_LEVEL root []; full = false }) ∷ [];
-  quota = Some (record { groups = (TOP_LEVEL, fresh_group sizes) ∷ []; pairs = [] });
-  pending = [];
-  held = record { nodes = []; others = []; extents = [] };
+  quota = Some (record blank_quota { groups = (TOP_LEVEL, fresh_group sizes) ∷ [] });
 })
 
 -- the state is fresh for the sizes: each of its four trees is one leaf, in any slots that are apart

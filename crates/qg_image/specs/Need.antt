@@ -11,7 +11,7 @@ use Rattle.qg_image.specs.declared.file.File.{File}
 use Rattle.qg_image.specs.Record.{Record, RootOf, ExtentOf, NodeOf, ReferenceTo, Status, InfoOf, LimitOf, RelationOf}
 use Rattle.qg_image.specs.Record.{record_named, records_bytes}
 use Rattle.qg_image.specs.declared.quota.Quota.{Quota}
-use Rattle.qg_image.specs.State.{State, Layout, Accepted, Committed, layout_of}
+use Rattle.qg_image.specs.State.{State, Layout, Accepted, Committed, layout_of, subvolume_numbers}
 use Rattle.qg_image.specs.Owed.{owed, layout_extents}
 use Rattle.qg_image.specs.Space.{free_slots}
 
@@ -26,7 +26,7 @@ quota_records (Some quota) =
 
 -- what the root tree would name: the extent tree, the subvolumes, and the quota tree while quota is on
 abbrev pub root_records : State → List Record
-root_records state = RootOf EXTENT_TREE ∷ map RootOf (keys_of state.subvolumes) ++ quota_root state.quota where
+root_records state = RootOf EXTENT_TREE ∷ map RootOf (subvolume_numbers state) ++ quota_root state.quota where
   quota_root : Option Quota → List Record
   quota_root None = []
   quota_root (Some quota) = RootOf QUOTA_TREE ∷ []
@@ -74,10 +74,19 @@ file_need state copies = 10 * copies + 8 * nodes_filled state.sizes.nodesize (we
 abbrev pub structural_need : State → ℕ → ℕ
 structural_need state copies = 10 * copies + 16 * nodes_filled state.sizes.nodesize (weight state) + 80
 
--- the slots that the commit to come may take are there: those needed, less those that the last accepted command may
--- have taken
+-- the slots that a commit of what is pending may want, for the root, extent and quota trees
+abbrev pub commit_room : State → ℕ
+commit_room state = 5 * nodes_filled state.sizes.nodesize (weight state) + 40
+
+-- The slots that the commit to come may want are free behind the file command that was accepted last: those that this
+-- command needed when it was accepted, less those that it may have taken; and those that a commit may want now
+pub record HasReserve (state : State) (last : Accepted) : Type 0 where
+  pub left : last.need - last.copies ≤ free_slots state
+  pub room : commit_room state ≤ free_slots state
+
+-- nothing is pending, or the slots that the commit to come may want are free
 abbrev pub IsReserved : State → Type 0
 IsReserved state = is_enough state.pending where
   is_enough : List Accepted → Type 0
   is_enough [] = Unit {0}
-  is_enough (last ∷ before) = last.need - last.copies ≤ free_slots state
+  is_enough (last ∷ before) = HasReserve state last

@@ -38,7 +38,7 @@ use Rattle.qg_image.specs.ImageState.{quota_parts, info_told, limit_told, max_rf
 
 -- ---- limits of the store
 
--- the most subvolumes that live at once
+-- the most subvolumes that are there at once
 abbrev pub most_subvolumes : ℕ
 most_subvolumes = 4096
 

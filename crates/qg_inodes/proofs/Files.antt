@@ -19,7 +19,7 @@ use Rattle.qg_image.proofs.Pieces.{WholeFile-is_file}
 use Rattle.qg_image.specs.ItemMeaning.{file_part}
 use Rattle.qg_image.specs.FilesOf.{are_files, are_pieces, file_in, file_parts, files_in, files_of, inodes_end}
 use Rattle.qg_image.specs.FilesOf.{inodes_in, is_file, is_file_item, is_inode, is_owned, largest_size, least_inode}
-use Rattle.qg_image.specs.FilesOf.{piece_in, pieces_bytes, pieces_in}
+use Rattle.qg_image.specs.FilesOf.{piece_in, pieces_bytes, pieces_in, AreItemsOfFiles}
 use Rattle.qg_image.specs.Table.{has_key, value_at}
 use Rattle.qg_machine.specs.FileChange.{pieces_or_none}
 use Rattle.qg_parts.specs.Keys.{key_with}
@@ -38,7 +38,7 @@ pub record AreTold (generation : ℕ) (items : List Item) (files : List (ℕ × 
   pub inodes : list_all (is_inode (file_parts items)) (inodes_in (file_parts items)) ≡ true
   pub told : files_in (file_parts items) ≡ files
 
-pub are-told : (generation : ℕ) (items : List Item) (files : List (ℕ × File)) → files_of generation items ≡ Some files
+pub are-told : (generation : ℕ) (items : List Item) (files : List (ℕ × File)) → AreItemsOfFiles generation items files
     → AreTold generation items files
 unfolding files_of are_files
 are-told generation items files is =

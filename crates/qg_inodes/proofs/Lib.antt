@@ -11,3 +11,4 @@ pub mod Judging
 pub mod Answered
 pub mod PiecesRead
 pub mod Whole
+pub mod Stopped

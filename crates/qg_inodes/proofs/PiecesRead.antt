@@ -1,7 +1,7 @@
 -- What the reading of pieces answers. Positions and lengths are in bytes.
 use Rattle.std.proofs.Common.{◌≡◌, ℕ, ◌+◌, ◌*◌, ◌-◌, ◌<◌, ◌≤◌, true, List, [], ◌∷◌, ◌++◌, length, Some, None, refl, sym}
 use Rattle.std.proofs.Common.{ap, subst, ◌∙◌, arith, append-nil, length-append, inl, inr}
-use Rattle.std.specs.Prelude.{◌&&◌, ⊤, Err, IfOk, IsErrAnd, IsTrue, Ok, Option, Result, is_none, nat_lt}
+use Rattle.std.specs.Prelude.{◌&&◌, ⊤, Err, IfOk, IsTrue, Ok, Option, Result, is_none, nat_lt}
 use Rattle.std.specs.List.{filter_map, list_any}
 use Rattle.std.proofs.Math.Nat.{mul-add, mul-le-mul_left}
 use Rattle.qg_device.specs.History.{Event, History, Recorded}
@@ -16,6 +16,7 @@ use Rattle.qg_image.specs.declared.file.File.{File}
 use Rattle.qg_image.specs.FilesOf.{are_pieces, file_parts, files_of, largest_size, piece_end, pieces_in}
 use Rattle.qg_image.specs.declared.tree.Tree.TheVariants.{Files}
 use Rattle.qg_parts.specs.Keys.{key_with}
+pub use Rattle.qg_blocks.proofs.Broken.{handed}
 use Rattle.qg_blocks.specs.Held.{Draft, Held}
 use Rattle.qg_blocks.specs.Told.{BreaksNone}
 use Rattle.qg_blocks.specs.Writing.{ArePlaced}
@@ -292,12 +293,6 @@ steps-met root old new before after bytes left read ino from to first second thi
     in
     spent (root.height + 1) first second third (length items) (length (pieces_met from to (pieces_at ino files))) one
     (more tells.items there) (items-few root old.draft before files tells ino from to some items same)
-
--- what a fault that is handed on answers
-pub handed : {A : Type 0} (result : Result A BlockFault) (fault : BlockFault) → IsErrAnd result (λ given. given ≡ fault)
-    → result ≡ Err fault
-handed (Ok x) fault is = absurd is
-handed (Err given) fault is = ap (λ (f : BlockFault). Err f) is
 
 -- ---- where an item says nothing
 

@@ -8,7 +8,7 @@ ghost use Rattle.qg_blocks.specs.Told.{BreaksNone};
 ghost use Rattle.qg_descent.specs.Way.{HasRead, IsReadable};
 ghost use Rattle.qg_files.specs.Apart.{AreApart};
 ghost use Rattle.qg_inodes.specs.Pieces.{pieces_at};
-ghost use Rattle.qg_inodes.specs.Told.{FailsOnPieces, TellsFiles};
+ghost use Rattle.qg_inodes.specs.Told.{FailsOnPieces, StopsOnPieces, TellsFiles};
 
 use crate::inode::inode_of;
 use crate::pieces::pieces_meeting;
@@ -42,6 +42,7 @@ pub fn file_of<D: Disk, L: Ledger>(
         → BreaksNone result }
     ensures broken { (events : List Event) → D.history disk.old ≡ Recorded events
         → FailsOnPieces tree.now blocks.old.draft events ino result }
+    ensures stops { StopsOnPieces result tree.now blocks.old.draft (D.size disk.old) }
     ensures apart { IfOk result (λ file. IfSome file (λ file. AreApart file.pieces)) }
     ensures readable { IsReadable blocks.new (D.history disk.new) (D.size disk.new) }
     ensures read { HasRead blocks.old blocks.new (D.history disk.old) (D.history disk.new) (D.size disk.old)

@@ -8,7 +8,7 @@ ghost use Rattle.qg_image.specs.Table.{value_at};
 ghost use Rattle.qg_contents.specs.Written.{inode_of};
 ghost use Rattle.qg_blocks.specs.Told.{BreaksNone};
 ghost use Rattle.qg_descent.specs.Way.{HasRead, IsReadable};
-ghost use Rattle.qg_inodes.specs.Told.{FailsOnFile, TellsFiles};
+ghost use Rattle.qg_inodes.specs.Told.{FailsOnFile, StopsOnPieces, TellsFiles};
 
 use crate::item::{inode_key, unread};
 use qg_blocks::Blocks;
@@ -40,6 +40,7 @@ pub fn inode_of<D: Disk, L: Ledger>(
         → BreaksNone result }
     ensures broken { (events : List Event) → D.history disk.old ≡ Recorded events
         → FailsOnFile tree.now blocks.old.draft events ino result }
+    ensures stops { StopsOnPieces result tree.now blocks.old.draft (D.size disk.old) }
     ensures readable { IsReadable blocks.new (D.history disk.new) (D.size disk.new) }
     ensures read { HasRead blocks.old blocks.new (D.history disk.old) (D.history disk.new) (D.size disk.old)
         (D.size disk.new) }

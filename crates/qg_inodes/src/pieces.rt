@@ -9,7 +9,7 @@ ghost use Rattle.qg_descent.specs.Way.{HasRead, IsReadable};
 ghost use Rattle.qg_files.specs.Apart.{AreApart};
 ghost use Rattle.qg_file_items.specs.Pieces.{pieces_met};
 ghost use Rattle.qg_inodes.specs.Pieces.{BeginsBy, piece_met, pieces_at};
-ghost use Rattle.qg_inodes.specs.Told.{FailsOnPieces, TellsFiles};
+ghost use Rattle.qg_inodes.specs.Told.{FailsOnPieces, StopsOnPieces, TellsFiles};
 
 use crate::apart::judged;
 use crate::item::{add_pieces, own_piece, piece_key};
@@ -44,6 +44,7 @@ pub fn pieces_meeting<D: Disk, L: Ledger>(
         → BreaksNone result }
     ensures broken { (events : List Event) → D.history disk.old ≡ Recorded events
         → FailsOnPieces tree.now blocks.old.draft events ino result }
+    ensures stops { StopsOnPieces result tree.now blocks.old.draft (D.size disk.old) }
     ensures apart { IfOk result (λ pieces. AreApart pieces) }
     ensures readable { IsReadable blocks.new (D.history disk.new) (D.size disk.new) }
     ensures read { HasRead blocks.old blocks.new (D.history disk.old) (D.history disk.new) (D.size disk.old)
@@ -97,6 +98,7 @@ fn parted<D: Disk, L: Ledger>(
         → BreaksNone result }
     ensures broken { (events : List Event) → D.history disk.old ≡ Recorded events
         → FailsOnPieces tree.now blocks.old.draft events ino result }
+    ensures stops { StopsOnPieces result tree.now blocks.old.draft (D.size disk.old) }
     ensures apart { IfOk result (λ pieces. AreApart pieces) }
     ensures readable { IsReadable blocks.new (D.history disk.new) (D.size disk.new) }
     ensures read { HasRead blocks.old blocks.new (D.history disk.old) (D.history disk.new) (D.size disk.old)

@@ -8,10 +8,11 @@ use Rattle.qg_super.specs.declared.sizes.Sizes.{Sizes}
 use Rattle.qg_image.specs.declared.file.File.{File}
 use Rattle.qg_image.specs.ItemMeaning.{some_passes}
 use Rattle.qg_image.specs.Table.{has_key, value_at}
-use Rattle.qg_image.specs.State.{State, Subvolume, file_at, files_in_sub, has_subvolume}
+use Rattle.qg_image.specs.State.{State, file_at, files_in_sub, has_subvolume}
 use Rattle.qg_machine.specs.Refusals.{most_pending, no_file, no_source, no_sub, refuse, too_many_pending}
 use Rattle.qg_kept.specs.declared.kept.Kept.{Kept}
-use Rattle.qg_kept.specs.Keeping.{IsFitted, IsKeptOf}
+use Rattle.qg_kept.specs.declared.kept.KeptSubvolume.{KeptSubvolume}
+use Rattle.qg_kept.specs.Keeping.{IsFitted, IsKeptOf, kept_subvolume}
 use Rattle.qg_kept.proofs.Tables.{key-mapped, key-of-value}
 
 module _ (kept : Kept) (state : State) (history : History) (keeps : IsKeptOf kept state history) where
@@ -25,8 +26,8 @@ module _ (kept : Kept) (state : State) (history : History) (keeps : IsKeptOf kep
 
   pub sub-known : (sub : ℕ) → has_subvolume state sub ≡ has_key sub kept.snapshots
   sub-known sub =
-      sym (key-mapped (λ (subvolume : Subvolume). subvolume.last_snapshot) sub state.subvolumes)
-      ∙ ap (λ (table : List (ℕ × ℕ)). has_key sub table) keeps.snapshots
+      sym (key-mapped kept_subvolume sub state.subvolumes)
+      ∙ ap (λ (table : List (ℕ × KeptSubvolume)). has_key sub table) keeps.snapshots
 
   hand_known : has_subvolume state kept.fs.tree.owner ≡ true
   hand_known = key-of-value kept.fs.tree.owner state.subvolumes keeps.mine keeps.keeps.there

@@ -39,6 +39,7 @@ pub use Rattle.qg_fs_laws.proofs.Verdicts
 pub use Rattle.qg_fs_laws.proofs.Ways
 pub use Rattle.qg_fs_laws.proofs.Weight
 pub use Rattle.qg_inodes.proofs.PiecesRead
+pub use Rattle.qg_inodes.proofs.Stopped as InodesStopped
 pub use Rattle.qg_inodes.proofs.Whole
 pub mod Tables
 pub mod Looked
@@ -48,6 +49,8 @@ pub mod KnownBook
 pub mod Early
 pub mod Settled
 pub mod Room
+pub mod Reserve
 pub mod Known
 pub mod Stepped
 pub mod Changed
+pub mod Stopped

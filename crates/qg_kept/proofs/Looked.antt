@@ -41,8 +41,9 @@ use Rattle.qg_groups.specs.Tracked.{quota_of}
 use Rattle.qg_fs_laws.specs.Keeping.{KeepsState, other_names}
 use Rattle.qg_fs_laws.proofs.KeptStill.{kept-still}
 use Rattle.qg_kept.specs.declared.kept.Kept.{Kept}
+use Rattle.qg_kept.specs.declared.kept.KeptSubvolume.{KeptSubvolume}
 use Rattle.qg_kept.specs.Editing.{HasReadNodes}
-use Rattle.qg_kept.specs.Keeping.{HoldsPending, IsFitted, IsKept, IsKeptWith, commit_need}
+use Rattle.qg_kept.specs.Keeping.{HoldsPending, IsFitted, IsKept, IsKeptWith, kept_subvolume, commit_room_of}
 
 -- ---- what may be done
 
@@ -56,9 +57,10 @@ tree-listed kept fits tree among =
 pub tree-numbered : (kept : Kept) → IsFitted kept → (tree : Root) → Contains (trees_of kept.fs) tree
     → IsTrue (is_subvolume_number tree.owner)
 tree-numbered kept fits tree among =
-    let entry = from-mapped (λ (entry : ℕ × ℕ). entry.0) kept.snapshots tree.owner (tree-listed kept fits tree among) in
+    let entry = from-mapped (λ (entry : ℕ × KeptSubvolume). entry.0) kept.snapshots tree.owner
+    (tree-listed kept fits tree among) in
     subst (λ (n : ℕ). IsTrue (is_subvolume_number n)) entry.2
-    (All-contains (λ (entry : ℕ × ℕ). IsTrue (is_subvolume_number entry.0)) kept.snapshots entry.0
+    (All-contains (λ (entry : ℕ × KeptSubvolume). IsTrue (is_subvolume_number entry.0)) kept.snapshots entry.0
     fits.subvolumes.numbers entry.1)
 
 pub hand-among : (fs : FsTree) → Contains (trees_of fs) fs.tree
@@ -249,7 +251,7 @@ module _ (old new : Kept) (before after : History) (bytes left : ℕ) (state : S
       (subst (λ (kept : Kept). KeepsState kept.fs before state keeps.mine keeps.files) (sym looked.same)
       (keeps-clean old.fs new.fs.land.blocks.clean before state keeps.mine keeps.files keeps.keeps))
 
-  pub snapshots-looked : map (λ (entry : ℕ × Subvolume). (entry.0, entry.1.last_snapshot)) state.subvolumes
+  pub snapshots-looked : map (λ (entry : ℕ × Subvolume). (entry.0, kept_subvolume entry.1)) state.subvolumes
       ≡ new.snapshots
   snapshots-looked = keeps.snapshots ∙ ap (λ (kept : Kept). kept.snapshots) (sym looked.same)
 
@@ -266,9 +268,9 @@ module _ (old new : Kept) (before after : History) (bytes left : ℕ) (state : S
   pub recorded-looked : IsRecorded state new.fs.refs.held
   recorded-looked = subst (λ (kept : Kept). IsRecorded state kept.fs.refs.held) (sym looked.same) keeps.recorded
 
-  pub reserved-looked : 0 < new.pending → commit_need new ≤ free_slots new.fs.land.space
+  pub reserved-looked : 0 < new.pending → commit_room_of new ≤ free_slots new.fs.land.space
   reserved-looked =
-      subst (λ (kept : Kept). 0 < kept.pending → commit_need kept ≤ free_slots kept.fs.land.space) (sym looked.same)
+      subst (λ (kept : Kept). 0 < kept.pending → commit_room_of kept ≤ free_slots kept.fs.land.space) (sym looked.same)
       keeps.reserved
 
   pub idle-looked : new.pending ≡ 0 → names ≡ other_names state
@@ -291,5 +293,6 @@ module _ (old new : Kept) (before after : History) (bytes left : ℕ) (state : S
     recorded = recorded-looked;
     others = keeps.others;
     reserved = reserved-looked;
+    reserve = keeps.reserve;
     idle = idle-looked;
   }

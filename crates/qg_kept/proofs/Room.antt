@@ -77,9 +77,8 @@ left-none copies filled free enough = omega (arith, enough)
 
 -- ---- a change
 
--- A change that fills at most so many nodes more, and takes at most so many slots, leaves what a commit may take
-pub left-second : (copies filled filled_now k took need free left : ℕ) → 10 * copies + 11 * filled + 67 ≤ free
-    → filled_now ≤ filled + k → need ≤ 5 * filled_now + 13 → free ≤ left + took
-    → 5 * k + took + 13 ≤ 10 * copies + 67 → need ≤ left
-left-second copies filled filled_now k took need free left enough more few taken small =
-    omega (arith, enough, more, few, taken, small)
+-- A change that fills at most so many nodes more, and takes at most so many slots, leaves what a commit may want
+pub left-second : (copies filled filled_now k took free left : ℕ) → 10 * copies + 11 * filled + 67 ≤ free
+    → filled_now ≤ filled + k → free ≤ left + took → 5 * k + took + 40 ≤ 10 * copies + 67 → 5 * filled_now + 40 ≤ left
+left-second copies filled filled_now k took free left enough more taken small =
+    omega (arith, enough, more, taken, small)

@@ -1,7 +1,6 @@
 -- What the machine does where nothing changes, and where files are edited, by what is kept. Weights are in bytes.
-use Rattle.std.proofs.Common.{◌≡◌, ℕ, ◌+◌, ◌*◌, ◌≤◌, true, List, [], ◌∷◌, None, Some, Option, map, refl, sym, ap, subst}
-use Rattle.std.proofs.Common.{◌∙◌}
-use Rattle.std.proofs.Common.{arith}
+use Rattle.std.proofs.Common.{◌≡◌, ℕ, ◌+◌, ◌-◌, ◌*◌, ◌≤◌, true, List, [], ◌∷◌, ◌++◌, None, Some, Option, map, refl, sym}
+use Rattle.std.proofs.Common.{ap, subst, ◌∙◌, arith}
 use Rattle.std.specs.Prelude.{IfSome, MatchOption, length, nat_lt}
 use Rattle.std.specs.List.{All, Contains}
 use Rattle.std.specs.List.Sorted.{IsStrictlyIncreasing}
@@ -19,14 +18,14 @@ use Rattle.qg_image.specs.ItemMeaning.{is_subvolume_number}
 use Rattle.qg_image.specs.Table.{keys_of, value_at, with_value}
 use Rattle.qg_image.specs.declared.quota.Quota.{Quota}
 use Rattle.qg_image.specs.Members.{hierarchy_of}
-use Rattle.qg_image.specs.Need.{file_copies, held_records, nodes_filled, weight}
-use Rattle.qg_image.specs.Record.{Record}
-use Rattle.qg_image.specs.State.{Accepted, Committed, State, Subvolume}
+use Rattle.qg_image.specs.Need.{HasReserve, commit_room, file_copies, held_records, nodes_filled, weight}
+use Rattle.qg_image.specs.Record.{Record, records_bytes}
+use Rattle.qg_image.specs.State.{Accepted, Committed, State, Subvolume, layout_of}
 use Rattle.qg_image.specs.Space as present
 use Rattle.qg_machine.specs.FileChange.{FileChange, file_change}
 use Rattle.qg_machine.specs.Layout.{CopiesOnWrite}
 use Rattle.qg_machine.specs.Refusals.{change_copies, change_need, no_nodes_for, refusal, refuse, root_level}
-use Rattle.qg_machine.specs.Step.{ChangesFiles, Step, accepted, file_answer, with_tree}
+use Rattle.qg_machine.specs.Step.{ChangesFiles, Step, accepted, file_answer, with_change, with_tree}
 use Rattle.qg_machine.specs.Step as machine
 use Rattle.qg_space.specs.Holding.{free_slots}
 use Rattle.qg_hier.specs.Groups.{IsSound}
@@ -42,7 +41,8 @@ use Rattle.qg_fs_laws.proofs.Lists.{has-mapped}
 use Rattle.qg_fs_laws.specs.Laying.{nodes_in}
 use Rattle.qg_fs_laws.specs.Editable.{AreGroups, AreGroupsOf}
 use Rattle.qg_fs_laws.specs.Trees.{quota_tree_bytes, root_tree_bytes}
-use Rattle.qg_fs_laws.specs.Keeping.{FollowsCommand, NamesOthers, mine_after, other_names, other_weight, state_after}
+use Rattle.qg_fs_laws.specs.Keeping.{FollowsCommand, KeepsState, NamesOthers, mine_after, other_names, other_weight}
+use Rattle.qg_fs_laws.specs.Keeping.{state_after}
 use Rattle.qg_fs_laws.specs.Keeping as step
 use Rattle.qg_fs_laws.proofs.Free.{space-told}
 use Rattle.qg_fs_laws.proofs.Kept.{level-told}
@@ -50,10 +50,11 @@ use Rattle.qg_fs_laws.proofs.OtherWeight.{others-weigh}
 use Rattle.qg_fs_laws.proofs.Others.{weight-told}
 use Rattle.qg_fs_laws.specs.Committing.{AreShort, IsShort}
 use Rattle.qg_kept.specs.declared.kept.Kept.{Kept}
+use Rattle.qg_kept.specs.declared.kept.KeptSubvolume.{KeptSubvolume}
 use Rattle.qg_kept.specs.Answering.{Answered}
 use Rattle.qg_kept.specs.Editing.{slots_refusal}
-use Rattle.qg_kept.specs.Keeping.{HoldsPending, IsFitted, IsKept, IsKeptOf, IsKeptWith, book_weight, commit_need}
-use Rattle.qg_kept.specs.Keeping.{need_of, quota_weight, root_weight}
+use Rattle.qg_kept.specs.Keeping.{HoldsPending, IsFitted, IsKept, IsKeptOf, IsKeptWith, book_weight, need_of}
+use Rattle.qg_kept.specs.Keeping.{quota_weight, root_weight, kept_subvolume, commit_room_of}
 use Rattle.qg_kept.proofs.Looked.{is-near, is-subvolume}
 use Rattle.qg_kept.proofs.Tables.{all-of, all-put, keys-mapped, map-put}
 
@@ -68,6 +69,7 @@ does_nothing kept state history command reason keeps refused = record {
   step = subst (λ (found : Option Refusal). MatchOption found (machine.Does state command (Refused reason) [] state)
       (λ other. (Refused reason ≡ Refused other) × (machine.Stays state [] state))) (sym refused) (refl, (refl, refl));
   keeps = keeps;
+  reserved = keeps.reserve;
 }
 
 -- ---- what the root and the quota tree name
@@ -98,8 +100,8 @@ module _ (kept : Kept) (state : State) (history : History) (names : List Record)
     (keeps : IsKeptWith kept state history names) where
   pub keys-kept : keys_of state.subvolumes ≡ keys_of kept.snapshots
   keys-kept =
-      sym (keys-mapped (λ (subvolume : Subvolume). subvolume.last_snapshot) state.subvolumes)
-      ∙ ap (λ (table : List (ℕ × ℕ)). keys_of table) keeps.snapshots
+      sym (keys-mapped kept_subvolume state.subvolumes)
+      ∙ ap (λ (table : List (ℕ × KeptSubvolume)). keys_of table) keeps.snapshots
 
   pub ascend-kept : IsStrictlyIncreasing (keys_of state.subvolumes)
   ascend-kept = subst (λ (keys : List ℕ). IsStrictlyIncreasing keys) (sym keys-kept) fits.subvolumes.ascending
@@ -107,15 +109,16 @@ module _ (kept : Kept) (state : State) (history : History) (names : List Record)
   pub numbers-kept : All (λ (entry : ℕ × Subvolume). is_subvolume_number entry.0 ≡ true) state.subvolumes
   numbers-kept = all-of (λ (entry : ℕ × Subvolume). is_subvolume_number entry.0 ≡ true) state.subvolumes
       (λ entry has.
-      let listed = subst (λ (table : List (ℕ × ℕ)). Contains table (entry.0, entry.1.last_snapshot)) keeps.snapshots
-      (has-mapped (λ (entry : ℕ × Subvolume). (entry.0, entry.1.last_snapshot)) state.subvolumes entry has) in
-      All-contains (λ (entry : ℕ × ℕ). is_subvolume_number entry.0 ≡ true) kept.snapshots
-      (entry.0, entry.1.last_snapshot) fits.subvolumes.numbers listed)
+      let listed = subst (λ (table : List (ℕ × KeptSubvolume)). Contains table (entry.0, kept_subvolume entry.1))
+      keeps.snapshots
+      (has-mapped (λ (entry : ℕ × Subvolume). (entry.0, kept_subvolume entry.1)) state.subvolumes entry has) in
+      All-contains (λ (entry : ℕ × KeptSubvolume). is_subvolume_number entry.0 ≡ true) kept.snapshots
+      (entry.0, kept_subvolume entry.1) fits.subvolumes.numbers listed)
 
   pub many-kept : length state.subvolumes ≡ length kept.snapshots
   many-kept =
-      sym (length-map state.subvolumes (λ (entry : ℕ × Subvolume). (entry.0, entry.1.last_snapshot)))
-      ∙ ap (λ (table : List (ℕ × ℕ)). length table) keeps.snapshots
+      sym (length-map state.subvolumes (λ (entry : ℕ × Subvolume). (entry.0, kept_subvolume entry.1)))
+      ∙ ap (λ (table : List (ℕ × KeptSubvolume)). length table) keeps.snapshots
 
   -- groups and relations are in order, while quota is on
   pub groups-kept : (quota : Quota) → state.quota ≡ Some quota
@@ -210,16 +213,19 @@ pub reserves-so : (old : Kept) (quota : Option QuotaState) (amount other : ℕ) 
     → Reserves old quota amount → Reserves old quota other
 reserves-so old quota amount other same reserves = subst (λ (n : ℕ). Reserves old quota n) same reserves
 
--- what a commit needs asks of quota only what the quota tree tells
-needs-same : (old : Kept) (fs : FsTree) (quota : Option QuotaState) → quota_of quota ≡ quota_of old.quota
-    → commit_need (edited old fs quota) ≡ commit_need (edited old fs old.quota)
-needs-same old fs quota same = λ i.
-    5 * (nodes_filled old.superblock.nodesize (book_weight (edited old fs old.quota))
-    + nodes_filled old.superblock.nodesize (root_tree_bytes (length old.snapshots) (same i))
-    + nodes_filled old.superblock.nodesize (quota_tree_bytes (same i))) + 3
+-- what a commit may want asks of quota only what the quota tree tells
+rooms-same : (old : Kept) (fs : FsTree) (quota : Option QuotaState) → quota_of quota ≡ quota_of old.quota
+    → commit_room_of (edited old fs quota) ≡ commit_room_of (edited old fs old.quota)
+rooms-same old fs quota same = λ i.
+    5 * nodes_filled old.superblock.nodesize (book_weight (edited old fs old.quota)
+    + root_tree_bytes (length old.snapshots) (same i) + quota_tree_bytes (same i)) + 40
+
+less-taken : (need copies free : ℕ) → need ≤ free + copies → need - copies ≤ free
+less-taken need copies free enough = omega (arith, enough)
 
 -- A command changed the tree at hand: it follows the state by copy on write, it is the same subvolume's still, what the
--- last commit recorded stays, and a commit finds its slots
+-- last commit recorded stays, and the slots are free that a commit may want, and those that the command needed, but for
+-- what it may have taken
 pub record Follows (old : Kept) (fs : FsTree) (state : State) (mine : Subvolume) (history : History)
     (files : List (ℕ × File)) (pieces : ℕ) : Type 0 where
   pub copied : (last : Accepted) → FollowsCommand fs history state (state_after state files fs history last)
@@ -227,7 +233,10 @@ pub record Follows (old : Kept) (fs : FsTree) (state : State) (mine : Subvolume)
   pub owner : fs.tree.owner ≡ old.fs.tree.owner
   pub short : AreShort files
   pub held : fs.refs.held ≡ old.fs.refs.held
-  pub reserved : commit_need (edited old fs old.quota) ≤ free_slots fs.land.space
+  pub reserved : commit_room_of (edited old fs old.quota) ≤ free_slots fs.land.space
+  pub needed : need_of old pieces ≤ free_slots fs.land.space + file_copies old.fs.tree.height pieces
+  pub bytes : ℕ
+  pub tree : step.IsKept fs history bytes
 
 tree_is : (state : State) (sub : ℕ) (mine : Subvolume) (files : List (ℕ × File)) (root : ℕ)
     → value_at sub state.subvolumes ≡ Some mine
@@ -244,8 +253,12 @@ module _ (old : Kept) (fs : FsTree) (before after : History) (bytes : ℕ) (stat
   abbrev own : ℕ
   own = old.fs.tree.owner
 
+  abbrev change_now : FileChange
+  change_now = change_to own files amount pieces
+
   abbrev last : Accepted
-  last = accepted state command (change_to own files amount pieces) 0
+  last = accepted state command change_now
+      (layout_of (with_change state change_now fs.tree.address (nodes_in fs before)))
 
   abbrev pub state_now : State
   state_now = state_after state files fs before last
@@ -262,16 +275,15 @@ module _ (old : Kept) (fs : FsTree) (before after : History) (bytes : ℕ) (stat
   held-now : state_now.held ≡ state.held
   held-now = ap (λ (s : State). s.held) tree-now
 
-  copied-now : CopiesOnWrite state state_now own (change_copies state (change_to own files amount pieces))
+  copied-now : CopiesOnWrite state state_now own (change_copies state change_now)
   copied-now =
       subst (λ (level : ℕ). CopiesOnWrite state state_now own (file_copies level pieces))
       (sym (level-kept old state before bytes fits keeps table)) (follows.copied last).copied
 
-  changes : ChangesFiles state command (change_to own files amount pieces) state_now
+  changes : ChangesFiles state command change_now state_now
   changes = record {
     root = fs.tree.address;
     layout = nodes_in fs before;
-    touched = 0;
     changed = ap (λ (sub : ℕ). let tree : State = with_tree state sub files fs.tree.address in record tree {
       layout = nodes_in fs before;
       pending = last ∷ state.pending;
@@ -304,12 +316,12 @@ module _ (old : Kept) (fs : FsTree) (before after : History) (bytes : ℕ) (stat
   ascend : IsStrictlyIncreasing (keys_of state.subvolumes)
   ascend = ascend-kept old state before (other_names state) fits.fitted keeps
 
-  snapshots-now : map (λ (entry : ℕ × Subvolume). (entry.0, entry.1.last_snapshot)) state_now.subvolumes
+  snapshots-now : map (λ (entry : ℕ × Subvolume). (entry.0, kept_subvolume entry.1)) state_now.subvolumes
       ≡ old.snapshots
   snapshots-now =
-      ap (λ (table : List (ℕ × Subvolume)). map (λ (entry : ℕ × Subvolume). (entry.0, entry.1.last_snapshot)) table)
+      ap (λ (table : List (ℕ × Subvolume)). map (λ (entry : ℕ × Subvolume). (entry.0, kept_subvolume entry.1)) table)
       subvolumes-now
-      ∙ map-put (λ (entry : ℕ × Subvolume). (entry.0, entry.1.last_snapshot)) own keeps.mine mine_now state.subvolumes
+      ∙ map-put (λ (entry : ℕ × Subvolume). (entry.0, kept_subvolume entry.1)) own keeps.mine mine_now state.subvolumes
       refl ascend keeps.keeps.there
       ∙ keeps.snapshots
 
@@ -335,6 +347,46 @@ module _ (old : Kept) (fs : FsTree) (before after : History) (bytes : ℕ) (stat
       subst (λ (names : List Record). NamesOthers state_now.held names) (sym names-now)
       (subst (λ (held : Committed). NamesOthers held (other_names state)) (sym held-now) keeps.others)
 
+  -- ---- the slots
+
+  abbrev here : KeepsState fs before state_now mine_now files
+  here = (follows.copied last).keeps
+
+  free-now : free_slots fs.land.space ≡ present.free_slots state_now
+  free-now = (space-told fs before follows.bytes state_now mine_now files follows.tree here).slots
+
+  nodesize-now : state_now.sizes.nodesize ≡ old.superblock.nodesize
+  nodesize-now =
+      ap (λ (s : State). s.sizes.nodesize) tree-now ∙ nodesize-kept old state before bytes fits keeps table
+
+  weight-now : weight state_now
+      ≡ book_weight (edited old fs old.quota) + root_weight old + quota_weight old
+  weight-now =
+      weigh-all (weight state_now) (book_weight (edited old fs old.quota))
+      (other_weight (other_names state_now) state_now) (root_weight old) (quota_weight old)
+      (weight-told fs before follows.bytes state_now mine_now files follows.tree here (other_names state_now)
+      recorded-now others-now)
+      (ap (λ (names : List Record). records_bytes (names ++ names)) names-now
+      ∙ others-kept old state before (other_names state) fits.fitted keeps)
+
+  room-now : commit_room state_now ≡ commit_room_of (edited old fs old.quota)
+  room-now = λ i. 5 * nodes_filled (nodesize-now i) (weight-now i) + 40
+
+  left-told : last.need - last.copies ≡ need_of old pieces - file_copies old.fs.tree.height pieces
+  left-told =
+      λ i. need-kept old state before bytes fits keeps table files amount pieces i
+      - file_copies (level-kept old state before bytes fits keeps table i) pieces
+
+  reserve-now : HasReserve state_now last
+  reserve-now = record {
+    left = subst (λ (n : ℕ). last.need - last.copies ≤ n) free-now
+        (subst (λ (n : ℕ). n ≤ free_slots fs.land.space) (sym left-told)
+        (less-taken (need_of old pieces) (file_copies old.fs.tree.height pieces) (free_slots fs.land.space)
+        follows.needed));
+    room = subst (λ (n : ℕ). commit_room state_now ≤ n) free-now
+        (subst (λ (n : ℕ). n ≤ free_slots fs.land.space) (sym room-now) follows.reserved);
+  }
+
   -- ---- quota
 
   module _ (quota : Option QuotaState) (reserves : Reserves old quota amount) where
@@ -344,9 +396,9 @@ module _ (old : Kept) (fs : FsTree) (before after : History) (bytes : ℕ) (stat
     holds-now : HoldsPending (edited old fs quota) state_now.pending
     holds-now = reserves.holds last state.pending refl refl keeps.holds
 
-    reserved-now : commit_need (edited old fs quota) ≤ free_slots fs.land.space
+    reserved-now : commit_room_of (edited old fs quota) ≤ free_slots fs.land.space
     reserved-now =
-        subst (λ (n : ℕ). n ≤ free_slots fs.land.space) (sym (needs-same old fs quota reserves.same)) follows.reserved
+        subst (λ (n : ℕ). n ≤ free_slots fs.land.space) (sym (rooms-same old fs quota reserves.same)) follows.reserved
 
     keeps-now : IsKeptOf (edited old fs quota) state_now before
     keeps-now = record {
@@ -361,6 +413,7 @@ module _ (old : Kept) (fs : FsTree) (before after : History) (bytes : ℕ) (stat
       recorded = recorded-now;
       others = others-now;
       reserved = λ some. reserved-now;
+      reserve = reserve-now;
       idle = λ none same. absurd (omega (arith, none));
     }
 
@@ -371,4 +424,5 @@ module _ (old : Kept) (fs : FsTree) (before after : History) (bytes : ℕ) (stat
       step = steps does;
       keeps = subst (λ (history : History). IsKeptOf (edited old fs quota) state_now history) (sym same)
           keeps-now;
+      reserved = reserve-now;
     }

@@ -45,7 +45,7 @@ use Rattle.qg_fs_laws.specs.Editable.{AreGroupsOf}
 use Rattle.qg_kept.specs.declared.kept.Kept.{Kept}
 use Rattle.qg_kept.specs.Answering.{is_unchanging}
 use Rattle.qg_kept.specs.Editing.{HasLooked, HasReadNodes}
-use Rattle.qg_kept.specs.Keeping.{AreSubvolumesBy, IsFitted, IsKept, IsKeptWith, SameButClean, commit_need}
+use Rattle.qg_kept.specs.Keeping.{AreSubvolumesBy, IsFitted, IsKept, IsKeptWith, SameButClean, commit_room_of}
 use Rattle.qg_kept.proofs.Looked.{hand-among, is-subvolume, tree-listed, tree-numbered}
 use Rattle.qg_kept.proofs.Tables.{key-listed, listed-key}
 
@@ -354,12 +354,12 @@ module _ (old : Kept) (history : History) (bytes : ℕ) (state : State) (names :
       recorded_now : IsRecorded state fs.refs.held
       recorded_now = subst (λ (refs : TreeRefs). IsRecorded state refs.held) (sym turned.refs) keeps.recorded
 
-      reserved_now : 0 < old.pending → commit_need (record old { fs = fs }) ≤ free_slots fs.land.space
+      reserved_now : 0 < old.pending → commit_room_of (record old { fs = fs }) ≤ free_slots fs.land.space
       reserved_now =
-          subst (λ (land : Ground). 0 < old.pending → commit_need (record old { fs = fs }) ≤ free_slots land.space)
+          subst (λ (land : Ground). 0 < old.pending → commit_room_of (record old { fs = fs }) ≤ free_slots land.space)
           (sym turned.land)
           (subst (λ (refs : TreeRefs). 0 < old.pending
-          → commit_need (record old { fs = record fs { refs = refs } }) ≤ free_slots old.fs.land.space)
+          → commit_room_of (record old { fs = record fs { refs = refs } }) ≤ free_slots old.fs.land.space)
           (sym turned.refs) keeps.reserved)
 
       idle_now : old.pending ≡ 0 → names ≡ other_names state
@@ -381,6 +381,7 @@ module _ (old : Kept) (history : History) (bytes : ℕ) (state : State) (names :
         recorded = recorded_now;
         others = keeps.others;
         reserved = reserved_now;
+        reserve = keeps.reserve;
         idle = idle_now;
       }
 

@@ -7,6 +7,7 @@ use Rattle.qg_num.specs.declared.command.Command.{Command}
 use Rattle.qg_num.specs.declared.command.Command.TheVariants.{Commit, Delete, Snap, SubCreate}
 use Rattle.qg_num.specs.declared.refusal.Refusal.TheVariants as why
 use Rattle.qg_image.specs.declared.quota.Quota.{Quota}
+use Rattle.qg_image.specs.Need.{IsReserved}
 use Rattle.qg_image.specs.State.{State}
 use Rattle.qg_machine.specs.Refusals.{refusal}
 use Rattle.qg_machine.specs.Step.{Step, rows_of}
@@ -15,13 +16,14 @@ use Rattle.qg_kept.specs.declared.kept.Kept.{Kept}
 use Rattle.qg_kept.specs.Keeping.{IsKeptOf}
 use Rattle.qg_kept.specs.Making.{MadeCommits, StartsCommit, StartsSecond}
 
--- the machine answers a command so with these commits, and what is kept is that of the state that it comes to, over a
--- disk with this history
+-- The machine answers a command so with these commits, what is kept is that of the state that it comes to, over a disk
+-- with this history, and there the slots that the commit to come may want are free, whatever is pending
 pub record Answered (old : State) (command : Command) (answer : Answer) (commits : List State) (kept : Kept)
     (history : History) : Type 0 where
   pub new : State
   pub step : Step old command answer commits new
   pub keeps : IsKeptOf kept new history
+  pub reserved : IsReserved new
 
 -- the machine answers a command so, and the disk was made to hold what it commits
 abbrev pub AnswersOn : State → Command → Answer → Kept → List Event → History → Type 0

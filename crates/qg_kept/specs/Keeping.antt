@@ -9,7 +9,7 @@ use Rattle.qg_super.specs.SuperText.{is_super, sizes_of}
 use Rattle.qg_image.specs.declared.file.File.{File}
 use Rattle.qg_image.specs.ItemMeaning.{is_subvolume_number}
 use Rattle.qg_image.specs.Table.{has_key, keys_of}
-use Rattle.qg_image.specs.Need.{file_copies, nodes_filled}
+use Rattle.qg_image.specs.Need.{IsReserved, file_copies, nodes_filled}
 use Rattle.qg_image.specs.Record.{Record}
 use Rattle.qg_image.specs.State.{Accepted, State, Subvolume}
 use Rattle.qg_image.specs.Verdict.{longest_extent, most_subvolumes}
@@ -26,6 +26,7 @@ use Rattle.qg_fs_laws.specs.Trees.{quota_tree_bytes, root_tree_bytes}
 use Rattle.qg_fs_laws.specs.Keeping.{KeepsState, NamesOthers, other_names}
 use Rattle.qg_fs_laws.specs.Committing.{IsShort}
 use Rattle.qg_kept.specs.declared.kept.Kept.{Kept}
+use Rattle.qg_kept.specs.declared.kept.KeptSubvolume.{KeptSubvolume}
 
 -- ---- slots that are needed
 
@@ -53,7 +54,12 @@ need_of kept pieces = 10 * file_copies kept.fs.tree.height pieces + 8 * filled_b
 abbrev pub structural_need_of : Kept → ℕ → ℕ
 structural_need_of kept copies = 10 * copies + 16 * filled_by kept + 80
 
--- by a commit, for the root, extent and quota trees: for each five times the nodes that its items fill, and one more
+-- by a commit at the most: so many are free wherever one comes
+abbrev pub commit_room_of : Kept → ℕ
+commit_room_of kept = 5 * filled_by kept + 40
+
+-- by a commit as it is planned, which is no more: for each of the root, extent and quota trees five times the nodes
+-- that its items fill, and one more
 abbrev pub commit_need : Kept → ℕ
 commit_need kept =
     5 * (nodes_filled kept.superblock.nodesize (book_weight kept)
@@ -66,14 +72,22 @@ commit_need kept =
 abbrev pub HoldsPending : Kept → List Accepted → Type 0
 HoldsPending kept pending = IfSome kept.quota (λ quota. HoldsAll quota pending)
 
--- Subvolumes by number, each with the generation of its last snapshot, which is none past this one: no more than an
--- image can have, ascending, the top-level one among them
-pub record AreSubvolumesBy (generation : ℕ) (snapshots : List (ℕ × ℕ)) : Type 0 where
+-- what is kept of a subvolume whose last snapshot is of this generation
+abbrev pub kept_at : ℕ → KeptSubvolume
+kept_at generation = record { last_snapshot = generation }
+
+-- what is kept of a subvolume of a state
+abbrev pub kept_subvolume : Subvolume → KeptSubvolume
+kept_subvolume subvolume = kept_at subvolume.last_snapshot
+
+-- Subvolumes by number, none of whose last snapshots is of a generation past this one: no more than an image can have,
+-- ascending, the top-level one among them
+pub record AreSubvolumesBy (generation : ℕ) (snapshots : List (ℕ × KeptSubvolume)) : Type 0 where
   pub few : length snapshots ≤ most_subvolumes
   pub ascending : IsStrictlyIncreasing (keys_of snapshots)
   pub numbers : All (λ entry. IsTrue (is_subvolume_number entry.0)) snapshots
   pub top_level : IsTrue (has_key TOP_LEVEL snapshots)
-  pub copied : All (λ entry. entry.1 ≤ generation) snapshots
+  pub copied : All (λ entry. entry.1.last_snapshot ≤ generation) snapshots
 
 -- the most bytes that one command reserves: those of the longest extent, and of a node of the largest size
 abbrev pub most_reserved : ℕ
@@ -125,20 +139,22 @@ KnowsNoLater kept = All (λ entry. entry.1.what.generation ≤ kept.fs.tree.next
 
 -- Over a disk with this history it is kept of a state, where the items of the last commit's root and quota trees name
 -- what is listed. The trees have the files of the state's subvolumes and are its layout; the book beside the present
--- one is what the last commit recorded; what is pending is held for its groups; where something is pending a commit
--- finds its slots, and where nothing is, and the last commit names what one now would name, no node is fresh
+-- one is what the last commit recorded; what is pending is held for its groups; where something is pending the slots
+-- that a commit may want are free, of what is kept and of the state, and where nothing is, and the last commit names
+-- what one now would name, no node is fresh
 pub record IsKeptWith (kept : Kept) (state : State) (history : History) (names : List Record) : Type 0 where
   pub files : List (ℕ × File)
   pub mine : Subvolume
   pub keeps : KeepsState kept.fs history state mine files
   pub short : IsShort state
-  pub snapshots : map (λ entry. (entry.0, entry.1.last_snapshot)) state.subvolumes ≡ kept.snapshots
+  pub snapshots : map (λ entry. (entry.0, kept_subvolume entry.1)) state.subvolumes ≡ kept.snapshots
   pub quota : state.quota ≡ quota_of kept.quota
   pub holds : HoldsPending kept state.pending
   pub pending : length state.pending ≡ kept.pending
   pub recorded : IsRecorded state kept.fs.refs.held
   pub others : NamesOthers state.held names
-  pub reserved : 0 < kept.pending → commit_need kept ≤ free_slots kept.fs.land.space
+  pub reserved : 0 < kept.pending → commit_room_of kept ≤ free_slots kept.fs.land.space
+  pub reserve : IsReserved state
   pub idle : kept.pending ≡ 0 → names ≡ other_names state
       → kept.fs.land.blocks.draft ≡ nothing_fresh kept.fs.land.blocks.draft.sizes
 

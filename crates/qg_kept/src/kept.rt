@@ -8,6 +8,13 @@ use qg_num::{Generation, RootId, Sequence};
 use qg_super::Super;
 use std::alloc::Global;
 
+/// What is kept of a subvolume beside its tree (this project's own).
+#[derive(Clone, Copy, Drop)]
+pub struct KeptSubvolume {
+    /// The generation of its last snapshot, 0 where there is none.
+    pub last_snapshot: Generation,
+}
+
 /// The last commit's superblock, the subvolumes and the groups, the subvolumes' trees as they are now, and how much is
 /// pending (this project's own).
 ///
@@ -19,8 +26,8 @@ pub struct Kept {
     pub alloc: Global,
     /// The superblock of the last commit.
     pub superblock: Super,
-    /// The generation of each subvolume's last snapshot, by the subvolume's number.
-    pub snapshots: Sequence<(RootId, Generation)>,
+    /// The subvolumes, by number.
+    pub snapshots: Sequence<(RootId, KeptSubvolume)>,
     /// Quota, with the counters of the last commit and what is held for what is pending; none while it is off.
     pub quota: Option<QuotaState>,
     /// The trees of the subvolumes, one of them at hand.

@@ -6,7 +6,7 @@ mod kept;
 mod need;
 mod turning;
 
-pub use kept::{Kept, count_pending};
+pub use kept::{Kept, KeptSubvolume, count_pending};
 pub use need::{commit_need, no_nodes, structural_need};
 pub use qg_fs_laws::{
     check, file_edits, fs_tree, image_commit, other_trees, standing, tree_commit, tree_refs,

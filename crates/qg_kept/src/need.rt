@@ -81,8 +81,8 @@ pub fn structural_need(kept: &Kept, copies: u64) -> Result<u64, NoMemory>
     Ok(10 * copies + 16 * filled + 80)
 }
 
-/// The slots that a commit may take for the root, extent and quota trees. More items than take 2^61 bytes are told in
-/// no memory.
+/// The slots that a commit plans for the root, extent and quota trees. More items than take 2^61 bytes are told in no
+/// memory.
 pub fn commit_need(kept: &Kept) -> Result<u64, NoMemory>
     requires size { IsNodeSize kept.now.superblock.nodesize }
     ensures { IfOk result (λ need. need ≡ commit_need kept.now) }

@@ -34,7 +34,8 @@ use Rattle.qg_groups.specs.Tracked.{HoldsAtMost, quota_of}
 use Rattle.qg_groups.proofs.Snapped.{group-free}
 use Rattle.qg_kept.specs.Editable.{AreGroups, AreGroupsOf}
 use Rattle.qg_kept.specs.declared.kept.Kept.{Kept}
-use Rattle.qg_kept.specs.Keeping.{AreSubvolumesBy, IsFitted, most_reserved}
+use Rattle.qg_kept.specs.declared.kept.KeptSubvolume.{KeptSubvolume}
+use Rattle.qg_kept.specs.Keeping.{AreSubvolumesBy, IsFitted, most_reserved, kept_at}
 use Rattle.qg_kept_changes.specs.Changing.{number_next, too_many_refusal}
 use Rattle.qg_kept_changes.proofs.GroupAdded.{AddsGroup, IsWithGroup, IsWithGroupIn, bounded-still, length-put}
 use Rattle.qg_kept_changes.proofs.GroupAdded.{sound-tracked}
@@ -192,10 +193,10 @@ pub record IsAdded (old new : Kept) (relations sub snapshot : ℕ) (tree : Root)
   pub others : new.fs.others.items ≡ old.fs.others.items ++ tree ∷ []
   pub owner : tree.owner ≡ sub
   pub next : tree.next ≡ old.fs.tree.next
-  pub earlier : List (ℕ × ℕ)
+  pub earlier : List (ℕ × KeptSubvolume)
   pub keys : keys_of earlier ≡ keys_of old.snapshots
-  pub copied : All (λ entry. entry.1 ≤ old.fs.tree.next) earlier
-  pub snapshots : new.snapshots ≡ earlier ++ (sub, snapshot) ∷ []
+  pub copied : All (λ entry. entry.1.last_snapshot ≤ old.fs.tree.next) earlier
+  pub snapshots : new.snapshots ≡ earlier ++ (sub, kept_at snapshot) ∷ []
   pub dated : snapshot ≤ old.fs.tree.next
   pub groups : AddsGroup old new sub relations
   pub pending : new.pending ≡ old.pending
@@ -213,18 +214,18 @@ module _ (old new : Kept) (relations sub snapshot : ℕ) (tree : Root) (fits : I
 
   number_known : (number : ℕ) → Contains (keys_of old.snapshots) number → is_subvolume_number number ≡ true
   number_known number has =
-      let entry = from-mapped (λ (e : ℕ × ℕ). e.0) old.snapshots number has in
+      let entry = from-mapped (λ (e : ℕ × KeptSubvolume). e.0) old.snapshots number has in
       subst (λ (n : ℕ). is_subvolume_number n ≡ true) entry.2
-      (All-contains (λ (e : ℕ × ℕ). is_subvolume_number e.0 ≡ true) old.snapshots entry.0 fits.subvolumes.numbers
-      entry.1)
+      (All-contains (λ (e : ℕ × KeptSubvolume). is_subvolume_number e.0 ≡ true) old.snapshots entry.0
+      fits.subvolumes.numbers entry.1)
 
-  earlier_less : (entry : ℕ × ℕ) → Contains added.earlier entry → entry.0 < sub
+  earlier_less : (entry : ℕ × KeptSubvolume) → Contains added.earlier entry → entry.0 < sub
   earlier_less entry has =
       greater entry.0 (subst (λ (keys : List ℕ). Contains keys entry.0) added.keys
-      (has-mapped (λ (e : ℕ × ℕ). e.0) added.earlier entry has))
+      (has-mapped (λ (e : ℕ × KeptSubvolume). e.0) added.earlier entry has))
 
-  snapshots_put : new.snapshots ≡ with_value sub snapshot added.earlier
-  snapshots_put = added.snapshots ∙ sym (put-last sub snapshot added.earlier earlier_less)
+  snapshots_put : new.snapshots ≡ with_value sub (kept_at snapshot) added.earlier
+  snapshots_put = added.snapshots ∙ sym (put-last sub (kept_at snapshot) added.earlier earlier_less)
 
   next_is : new.fs.tree.next ≡ old.fs.tree.next
   next_is = ap (λ (t : Root). t.next) added.hand
@@ -232,22 +233,22 @@ module _ (old new : Kept) (relations sub snapshot : ℕ) (tree : Root) (fits : I
   earlier_up : IsStrictlyIncreasing (keys_of added.earlier)
   earlier_up = subst (λ (ns : List ℕ). IsStrictlyIncreasing ns) (sym added.keys) fits.subvolumes.ascending
 
-  earlier_listed : (entry : ℕ × ℕ) → Contains added.earlier entry → Contains (keys_of old.snapshots) entry.0
+  earlier_listed : (entry : ℕ × KeptSubvolume) → Contains added.earlier entry → Contains (keys_of old.snapshots) entry.0
   earlier_listed entry has =
       subst (λ (keys : List ℕ). Contains keys entry.0) added.keys
-      (has-mapped (λ (e : ℕ × ℕ). e.0) added.earlier entry has)
+      (has-mapped (λ (e : ℕ × KeptSubvolume). e.0) added.earlier entry has)
 
-  entry_cases : (entry : ℕ × ℕ) → Contains new.snapshots entry
-      → ((sub, snapshot) ≡ entry) ⊎ Contains added.earlier entry
+  entry_cases : (entry : ℕ × KeptSubvolume) → Contains new.snapshots entry
+      → ((sub, kept_at snapshot) ≡ entry) ⊎ Contains added.earlier entry
   entry_cases entry has =
-      put-into sub snapshot added.earlier entry
-      (subst (λ (table : List (ℕ × ℕ)). Contains table entry) snapshots_put has)
+      put-into sub (kept_at snapshot) added.earlier entry
+      (subst (λ (table : List (ℕ × KeptSubvolume)). Contains table entry) snapshots_put has)
 
   -- the numbers
   pub keys-added : keys_of new.snapshots ≡ keys_of old.snapshots ++ sub ∷ []
   keys-added =
-      ap (λ (table : List (ℕ × ℕ)). keys_of table) added.snapshots
-      ∙ map-append (λ (e : ℕ × ℕ). e.0) added.earlier ((sub, snapshot) ∷ [])
+      ap (λ (table : List (ℕ × KeptSubvolume)). keys_of table) added.snapshots
+      ∙ map-append (λ (e : ℕ × KeptSubvolume). e.0) added.earlier ((sub, kept_at snapshot) ∷ [])
       ∙ ap (λ (ns : List ℕ). ns ++ sub ∷ []) added.keys
 
   key_kept : (number : ℕ) → Contains (keys_of old.snapshots) number → Contains (keys_of new.snapshots) number
@@ -257,8 +258,8 @@ module _ (old new : Kept) (relations sub snapshot : ℕ) (tree : Root) (fits : I
 
   many_less : length new.snapshots ≤ most_subvolumes
   many_less =
-      let first = length-map new.snapshots (λ (e : ℕ × ℕ). e.0) in
-      let second = length-map old.snapshots (λ (e : ℕ × ℕ). e.0) in
+      let first = length-map new.snapshots (λ (e : ℕ × KeptSubvolume). e.0) in
+      let second = length-map old.snapshots (λ (e : ℕ × KeptSubvolume). e.0) in
       let all = ap (λ (ns : List ℕ). length ns) keys-added in
       let parts = length-append (keys_of old.snapshots) (sub ∷ []) in
       let fewer = few-subvolumes old relations sub comes few in
@@ -267,26 +268,28 @@ module _ (old new : Kept) (relations sub snapshot : ℕ) (tree : Root) (fits : I
   pub subvolumes-added : AreSubvolumesBy new.fs.tree.next new.snapshots
   subvolumes-added = record {
     few = many_less;
-    ascending = subst (λ (table : List (ℕ × ℕ)). IsStrictlyIncreasing (keys_of table)) (sym snapshots_put)
-        (increasing-with sub added.earlier earlier_up snapshot);
-    numbers = all-of (λ (e : ℕ × ℕ). is_subvolume_number e.0 ≡ true) new.snapshots
+    ascending = subst (λ (table : List (ℕ × KeptSubvolume)). IsStrictlyIncreasing (keys_of table)) (sym snapshots_put)
+        (increasing-with sub added.earlier earlier_up (kept_at snapshot));
+    numbers = all-of (λ (e : ℕ × KeptSubvolume). is_subvolume_number e.0 ≡ true) new.snapshots
         (λ entry has. elim (entry_cases entry has) [
-          | inl own ↦ subst (λ (e : ℕ × ℕ). is_subvolume_number e.0 ≡ true) own
+          | inl own ↦ subst (λ (e : ℕ × KeptSubvolume). is_subvolume_number e.0 ≡ true) own
               (number-good old relations sub comes few)
           | inr there ↦ number_known entry.0 (earlier_listed entry there)
         ]);
     top_level = listed-key TOP_LEVEL new.snapshots
         (key_kept TOP_LEVEL (key-listed TOP_LEVEL old.snapshots fits.subvolumes.top_level));
-    copied = all-of (λ (e : ℕ × ℕ). e.1 ≤ new.fs.tree.next) new.snapshots (λ entry has. elim (entry_cases entry has) [
-      | inl own ↦ let same = ap (λ (e : ℕ × ℕ). e.1) own in
-          let dated = added.dated in
-          let next = next_is in
-          omega (arith, same, dated, next)
-      | inr there ↦
-          let dated = All-contains (λ (e : ℕ × ℕ). e.1 ≤ old.fs.tree.next) added.earlier entry added.copied there in
-          let next = next_is in
-          omega (arith, dated, next)
-    ]);
+    copied = all-of (λ (e : ℕ × KeptSubvolume). e.1.last_snapshot ≤ new.fs.tree.next) new.snapshots
+        (λ entry has. elim (entry_cases entry has) [
+          | inl own ↦ let same = ap (λ (e : ℕ × KeptSubvolume). e.1.last_snapshot) own in
+              let dated = added.dated in
+              let next = next_is in
+              omega (arith, same, dated, next)
+          | inr there ↦
+              let dated = All-contains (λ (e : ℕ × KeptSubvolume). e.1.last_snapshot ≤ old.fs.tree.next)
+              added.earlier entry added.copied there in
+              let next = next_is in
+              omega (arith, dated, next)
+        ]);
   }
 
   pub trees-added : IsPermutation (map (λ (t : Root). t.owner) (trees_of new.fs)) (keys_of new.snapshots)

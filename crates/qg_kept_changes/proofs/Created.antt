@@ -19,7 +19,7 @@ use Rattle.qg_image.specs.declared.quota.Quota.{Quota}
 use Rattle.qg_image.specs.Need.{held_records, quota_records}
 use Rattle.qg_image.specs.Record.{Record, RootOf}
 use Rattle.qg_image.specs.Space.{is_free_slot}
-use Rattle.qg_image.specs.State.{Accepted, Committed, Placed, State, Subvolume, next_generation}
+use Rattle.qg_image.specs.State.{Accepted, Committed, Placed, State, Subvolume, next_generation, blank_subvolume}
 use Rattle.qg_image.proofs.Contained.{contains_cases, contains_later, none_contained}
 use Rattle.qg_rules.specs.Writable.{IsFileBy, IsWritableFile}
 use Rattle.qg_machine.specs.Step.{CreatesSubvolume, empty_leaf}
@@ -42,12 +42,14 @@ use Rattle.qg_kept.specs.FsLawsCommitting.{AreShort, IsShort}
 use Rattle.qg_kept.specs.FsLawsKeeping.{AreTreesOf, AreYoung, KeepsState, NamesOthers, OthersHaveFiles, other_names}
 use Rattle.qg_kept.proofs.HeldStands.{held-kept}
 use Rattle.qg_kept.specs.declared.kept.Kept.{Kept}
-use Rattle.qg_kept.specs.Keeping.{HoldsPending, IsKept, IsKeptOf, IsKeptWith}
+use Rattle.qg_kept.specs.declared.kept.KeptSubvolume.{KeptSubvolume}
+use Rattle.qg_kept.specs.Keeping.{HoldsPending, IsKept, IsKeptOf, IsKeptWith, kept_subvolume}
 use Rattle.qg_kept_changes.proofs.Added.{put-last}
 use Rattle.qg_kept_changes.proofs.Grown.{files-grown, free-none, layout-grown, old-none-fresh, still-grown, tree-grown}
 use Rattle.qg_kept.proofs.Early.{early-known}
 use Rattle.qg_kept.proofs.KnownBook.{none-later}
 use Rattle.qg_kept.proofs.Looked.{hand-among, is-near, is-subvolume}
+use Rattle.qg_kept.proofs.Reserve.{reserve-none}
 use Rattle.qg_kept.proofs.Tables.{all-put, key-of-value}
 use Rattle.qg_kept_changes.proofs.Trees.{numbers-others, told-by-number, tree-is, without-none}
 use Rattle.qg_kept.proofs.Turned.{tree-sub}
@@ -65,11 +67,8 @@ pub record AddsSubvolume (old new : State) (sub : ℕ) (made : Subvolume) (place
   pub held : new.held ≡ old.held
 
 -- one without files, with an empty leaf
-abbrev pub made_empty : ℕ → Subvolume
-made_empty address = record { files = []; root = address; last_snapshot = 0 }
-
 pub adds-created : (state after : State) (sub : ℕ) (creates : CreatesSubvolume state sub after)
-    → AddsSubvolume state after sub (made_empty creates.address)
+    → AddsSubvolume state after sub (blank_subvolume creates.address)
     (empty_leaf (next_generation state) sub creates.address)
 adds-created state after sub creates = record {
   free = creates.free;
@@ -126,7 +125,7 @@ module _ (old new : Kept) (history : History) (bytes : ℕ) (state after : State
     (is : tree ≡ tree_of after sub) (hand : new.fs.tree ≡ old.fs.tree)
     (others : new.fs.others.items ≡ old.fs.others.items ++ tree ∷ [])
     (book : new.fs.refs.tree ≡ old.fs.tree.owner) (same_held : new.fs.refs.held ≡ old.fs.refs.held)
-    (snapshots : new.snapshots ≡ old.snapshots ++ (sub, made.last_snapshot) ∷ [])
+    (snapshots : new.snapshots ≡ old.snapshots ++ (sub, kept_subvolume made) ∷ [])
     (quota : after.quota ≡ quota_of new.quota) (groups_held : HoldsPending new after.pending)
     (pending : new.pending ≡ old.pending)
   where
@@ -281,12 +280,13 @@ module _ (old new : Kept) (history : History) (bytes : ℕ) (state after : State
         (all-put (λ (entry : ℕ × Subvolume). AreShort entry.1.files) sub made state.subvolumes
         short keeps.short)
 
-    snapshots_then : map (λ (entry : ℕ × Subvolume). (entry.0, entry.1.last_snapshot)) after.subvolumes ≡ new.snapshots
+    snapshots_then : map (λ (entry : ℕ × Subvolume). (entry.0, kept_subvolume entry.1)) after.subvolumes ≡ new.snapshots
     snapshots_then =
-        ap (λ (table : List (ℕ × Subvolume)). map (λ (entry : ℕ × Subvolume). (entry.0, entry.1.last_snapshot)) table)
+        ap (λ (table : List (ℕ × Subvolume)). map (λ (entry : ℕ × Subvolume). (entry.0, kept_subvolume entry.1)) table)
         subs_last
-        ∙ map-append (λ (entry : ℕ × Subvolume). (entry.0, entry.1.last_snapshot)) state.subvolumes ((sub, made) ∷ [])
-        ∙ ap (λ (table : List (ℕ × ℕ)). table ++ (sub, made.last_snapshot) ∷ []) keeps.snapshots ∙ sym snapshots
+        ∙ map-append (λ (entry : ℕ × Subvolume). (entry.0, kept_subvolume entry.1)) state.subvolumes ((sub, made) ∷ [])
+        ∙ ap (λ (table : List (ℕ × KeptSubvolume)). table ++ (sub, kept_subvolume made) ∷ []) keeps.snapshots
+        ∙ sym snapshots
 
     recorded_then : IsRecorded after new.fs.refs.held
     recorded_then =
@@ -328,6 +328,8 @@ module _ (old new : Kept) (history : History) (bytes : ℕ) (state after : State
       others = subst (λ (committed : Committed). NamesOthers committed (other_names state)) (sym held_same)
           keeps.others;
       reserved = λ some. absurd (omega (arith, some, none, pending));
+      reserve = reserve-none after
+          (ap (λ (pending : List Accepted). length pending) adds.pending ∙ keeps.pending ∙ none);
       idle = λ idle same. absurd (names_differ same);
     }
 

@@ -15,7 +15,7 @@ use Rattle.qg_super.specs.Places.{capacity, total_bytes}
 use Rattle.qg_super.specs.SuperText.{sizes_of}
 use Rattle.qg_image.specs.declared.file.File.{File}
 use Rattle.qg_image.specs.Table.{keys_of, value_at}
-use Rattle.qg_image.specs.State.{Accepted, State, Subvolume, has_subvolume, next_generation}
+use Rattle.qg_image.specs.State.{Accepted, State, Subvolume, has_subvolume, next_generation, blank_subvolume}
 use Rattle.qg_machine.specs.GroupChange.{new_group, with_group}
 use Rattle.qg_machine.specs.Refusals.{number_to_come}
 use Rattle.qg_machine.specs.Step.{CreatesSubvolume, empty_leaf}
@@ -42,12 +42,13 @@ use Rattle.qg_kept.proofs.Lists.{has-mapped}
 use Rattle.qg_kept.specs.FsLawsCommitting.{AreShortPieces}
 use Rattle.qg_kept.specs.FsLawsKeeping.{other_names}
 use Rattle.qg_kept.specs.declared.kept.Kept.{Kept}
+use Rattle.qg_kept.specs.declared.kept.KeptSubvolume.{KeptSubvolume}
 use Rattle.qg_kept.specs.Keeping.{HoldsPending, IsFitted, IsKept, IsKeptOf, IsKeptWith, book_weight, quota_weight}
-use Rattle.qg_kept.specs.Keeping.{root_weight}
+use Rattle.qg_kept.specs.Keeping.{root_weight, kept_at}
 use Rattle.qg_kept_changes.specs.Changing.{HasRoom, IsChanged, number_next, too_many_refusal}
 use Rattle.qg_kept_changes.proofs.Added.{IsAdded, fitted-added, greater}
-use Rattle.qg_kept_changes.proofs.Fitting.{large}
-use Rattle.qg_kept_changes.proofs.Created.{adds-created, at-leaf, empty-files, keeps-added, made_empty, young-added}
+use Rattle.qg_kept_changes.proofs.Created.{adds-created, at-leaf, empty-files, keeps-added, young-added}
+use Rattle.qg_kept.proofs.Reserve.{large}
 use Rattle.qg_kept_changes.proofs.GroupAdded.{AddsGroup, holds-still, room-grown, weighs-more}
 use Rattle.qg_kept.proofs.Known.{sub-known}
 use Rattle.qg_kept_changes.proofs.Numbered.{next-greater, next-some}
@@ -74,7 +75,7 @@ module _ (old new : Kept) (land : Ground) (book : TreeRefs) (before after : Hist
     (few : too_many_refusal old 0 ≡ None) (rests : LeavesBe old.fs.land land before after bytes left old.fs.tree.next)
     (tree_is : tree ≡ record { address = tree.address; height = 0; owner = sub; next = old.fs.tree.next })
     (others : new.fs.others.items ≡ old.fs.others.items ++ tree ∷ [])
-    (snapshots : new.snapshots ≡ old.snapshots ++ (tree.owner, 0) ∷ [])
+    (snapshots : new.snapshots ≡ old.snapshots ++ (tree.owner, kept_at 0) ∷ [])
     (quota : quota_of new.quota ≡ option_map (with_group sub (new_group old.fs.tree.next)) (quota_of old.quota))
     (groups : AddsGroup old new sub 0)
     (rest : new ≡ record old {
@@ -101,7 +102,7 @@ module _ (old new : Kept) (land : Ground) (book : TreeRefs) (before after : Hist
     earlier = old.snapshots;
     keys = refl;
     copied = fits.fitted.subvolumes.copied;
-    snapshots = snapshots ∙ ap (λ (n : ℕ). old.snapshots ++ (n, 0) ∷ []) owner;
+    snapshots = snapshots ∙ ap (λ (n : ℕ). old.snapshots ++ (n, kept_at 0) ∷ []) owner;
     dated = omega arith;
     groups = groups;
     pending = pending;
@@ -154,9 +155,9 @@ module _ (old new : Kept) (land : Ground) (book : TreeRefs) (before after : Hist
     place : tree.address ≡ creates.address
     place =
         ap (λ (t : Root). t.address) is
-        ∙ root_of-value next sub (record { files = []; root = creates.address; last_snapshot = 0 })
+        ∙ root_of-value next sub (blank_subvolume creates.address)
         (ap (λ (s : State). value_at sub s.subvolumes) creates.created
-        ∙ value_at-with_same sub (record { files = []; root = creates.address; last_snapshot = 0 }) state.subvolumes)
+        ∙ value_at-with_same sub (blank_subvolume creates.address) state.subvolumes)
 
     -- the leaf is told where it lies
     told_leaf : nodes_of new.fs before tree.address ≡ Some (empty_leaf (next_generation state) sub tree.address).node
@@ -190,8 +191,8 @@ module _ (old new : Kept) (land : Ground) (book : TreeRefs) (before after : Hist
 
     many : length new.snapshots ≤ length old.snapshots + 1
     many =
-        let all = ap (λ (t : List (ℕ × ℕ)). length t) snapshots in
-        let parts = length-append old.snapshots ((tree.owner, 0) ∷ []) in
+        let all = ap (λ (t : List (ℕ × KeptSubvolume)). length t) snapshots in
+        let parts = length-append old.snapshots ((tree.owner, kept_at 0) ∷ []) in
         omega (arith, all, parts)
 
     weighs : root_weight new + quota_weight new ≤ root_weight old + quota_weight old + (594 + 50 * 0)
@@ -223,12 +224,12 @@ module _ (old new : Kept) (land : Ground) (book : TreeRefs) (before after : Hist
     changed-created =
         let number : sub ≡ number_to_come state = comes ∙ sym (number-told old state before fits.fitted keeps) in
         let young = young-added old new before bytes state next sub tree fits keeps none table kept_then
-        (made_empty creates.address) (empty_leaf (next_generation state) sub creates.address)
+        (blank_subvolume creates.address) (empty_leaf (next_generation state) sub creates.address)
         (adds-created state next sub creates) refl refl held_then is
         (λ at reached. inl (at-leaf new.fs before tree at low reached ∙ place)) added.hand others known_then in
         let empty = empty-files new.fs before tree (next_generation state) sub low told_leaf in
         let keeps_now = keeps-added old new before bytes state next sub tree fits keeps none kept_then table_new less
-        large_number (made_empty creates.address) (empty_leaf (next_generation state) sub creates.address)
+        large_number (blank_subvolume creates.address) (empty_leaf (next_generation state) sub creates.address)
         (adds-created state next sub creates) held_then (All-nil (λ (file : ℕ × File). AreShortPieces file.1.pieces))
         empty
         young is added.hand others
@@ -244,6 +245,6 @@ module _ (old new : Kept) (land : Ground) (book : TreeRefs) (before after : Hist
               let wide = large old fits.fitted in
               let few_bytes : node_bytes + (594 + 50 * 0) ≤ 1 * capacity old.superblock.nodesize =
               omega (arith, wide) in
-              room-grown old new 18 1 1 node_bytes (594 + 50 * 0) fits.fitted kept_then.fitted room superblock weight
+              room-grown old new 18 1 1 node_bytes (594 + 50 * 0) fits.fitted room superblock weight
               weighs few_bytes (let same = space_same in omega (arith, slots, same)) (omega arith);
         }

@@ -50,10 +50,11 @@ use Rattle.qg_kept.specs.FsLawsCommitting.{AreShort, IsShort}
 use Rattle.qg_kept.specs.FsLawsKeeping.{AreTreesOf, AreYoung, KeepsState, OthersHaveFiles, other_names}
 use Rattle.qg_kept.proofs.HeldStands.{held-kept}
 use Rattle.qg_kept.specs.declared.kept.Kept.{Kept}
+use Rattle.qg_kept.specs.declared.kept.KeptSubvolume.{KeptSubvolume}
 use Rattle.qg_kept.specs.Keeping.{HoldsPending, IsKept, IsKeptOf, IsKeptWith, SameButClean, book_weight, quota_weight}
-use Rattle.qg_kept.specs.Keeping.{root_weight}
+use Rattle.qg_kept.specs.Keeping.{root_weight, kept_subvolume}
 use Rattle.qg_kept_changes.specs.Changing.{HasRoom, IsChanged, without_tree}
-use Rattle.qg_kept_changes.proofs.Fitting.{large}
+use Rattle.qg_kept.proofs.Reserve.{large, reserve-none}
 use Rattle.qg_kept_changes.proofs.Created.{dated-before, names-are, quota_names}
 use Rattle.qg_kept_changes.proofs.Dropped.{still-left, value-left}
 use Rattle.qg_kept_changes.proofs.Gone.{IsGone, fitted-gone, other-left, others-gone}
@@ -270,15 +271,15 @@ module _ (old new : Kept) (land : Ground) (book : TreeRefs) (before after : Hist
     have tree mine among value =
         let is = other_in tree among in files_then tree is.0 is.1 mine value
 
-    snapshots_then : map (λ (entry : ℕ × Subvolume). (entry.0, entry.1.last_snapshot)) stay ≡ new.snapshots
+    snapshots_then : map (λ (entry : ℕ × Subvolume). (entry.0, kept_subvolume entry.1)) stay ≡ new.snapshots
     snapshots_then =
-        sym (without-mapped (λ (subvolume : Subvolume). subvolume.last_snapshot) sub state.subvolumes)
-        ∙ ap (λ (entries : List (ℕ × ℕ)). without_key sub entries) keeps.snapshots ∙ sym gone.snapshots
+        sym (without-mapped kept_subvolume sub state.subvolumes)
+        ∙ ap (λ (entries : List (ℕ × KeptSubvolume)). without_key sub entries) keeps.snapshots ∙ sym gone.snapshots
 
     keys_then : keys_of new.snapshots ≡ keys_of stay
     keys_then =
-        sym (ap (λ (entries : List (ℕ × ℕ)). keys_of entries) snapshots_then)
-        ∙ keys-mapped (λ (subvolume : Subvolume). subvolume.last_snapshot) stay
+        sym (ap (λ (entries : List (ℕ × KeptSubvolume)). keys_of entries) snapshots_then)
+        ∙ keys-mapped kept_subvolume stay
 
     numbers_then : map (λ (t : Root). t.owner) new.fs.others.items ≡ keys_of (without_key own stay)
     numbers_then =
@@ -367,6 +368,7 @@ module _ (old new : Kept) (land : Ground) (book : TreeRefs) (before after : Hist
       recorded = recorded_then;
       others = keeps.others;
       reserved = λ some. let pending = ap (λ (k : Kept). k.pending) rest in absurd (omega (arith, some, none, pending));
+      reserve = reserve-none next (keeps.pending ∙ none);
       idle = λ idle same. absurd (names_differ same);
     }
 
@@ -386,7 +388,7 @@ module _ (old new : Kept) (land : Ground) (book : TreeRefs) (before after : Hist
 
     many : length new.snapshots ≤ length old.snapshots + 1
     many =
-        let all = ap (λ (entries : List (ℕ × ℕ)). length entries) gone.snapshots in
+        let all = ap (λ (entries : List (ℕ × KeptSubvolume)). length entries) gone.snapshots in
         let mine = value-there sub old.snapshots there in
         let less = shorter sub mine.0 old.snapshots mine.1 in
         omega (arith, all, less)
@@ -419,6 +421,6 @@ module _ (old new : Kept) (land : Ground) (book : TreeRefs) (before after : Hist
       keeps = subst (λ (h : History). IsKeptWith new next h (other_names state)) (sym same_history)
           keeps_now;
       room = room-grown old new copies (nodes_reached state sub + 1) 0
-          (nodes_reached state sub * capacity old.superblock.nodesize) 594 fits.fitted kept_then.fitted room superblock
+          (nodes_reached state sub * capacity old.superblock.nodesize) 594 fits.fitted room superblock
           weight weighs few_bytes slots (omega (arith, count));
     }

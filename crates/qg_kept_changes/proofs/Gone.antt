@@ -23,6 +23,7 @@ use Rattle.qg_groups.specs.declared.state.QuotaState.{QuotaState}
 use Rattle.qg_groups.specs.Tracked.{HoldsAtMost, IsTracked, quota_of}
 use Rattle.qg_kept.specs.Editable.{AreGroupsOf}
 use Rattle.qg_kept.specs.declared.kept.Kept.{Kept}
+use Rattle.qg_kept.specs.declared.kept.KeptSubvolume.{KeptSubvolume}
 use Rattle.qg_kept.specs.Keeping.{AreSubvolumesBy, IsFitted, most_reserved}
 use Rattle.qg_kept_changes.specs.Changing.{without_tree}
 use Rattle.qg_kept.proofs.Looked.{hand-among, tree-listed}
@@ -84,8 +85,8 @@ module _ (old new : Kept) (sub : ℕ) (fits : IsFitted old) (top : old.fs.tree.o
 
   keys_left : keys_of new.snapshots ≡ filter (λ (n : ℕ). not (n == sub)) (keys_of old.snapshots)
   keys_left =
-      ap (λ (table : List (ℕ × ℕ)). keys_of table) gone.snapshots
-      ∙ numbers-without (λ (e : ℕ × ℕ). e.0) sub old.snapshots
+      ap (λ (table : List (ℕ × KeptSubvolume)). keys_of table) gone.snapshots
+      ∙ numbers-without (λ (e : ℕ × KeptSubvolume). e.0) sub old.snapshots
 
   listed_before : (n : ℕ) → Contains (keys_of new.snapshots) n → Contains (keys_of old.snapshots) n × (n ≢ sub)
   listed_before n has =
@@ -104,25 +105,26 @@ module _ (old new : Kept) (sub : ℕ) (fits : IsFitted old) (top : old.fs.tree.o
 
   many_less : length new.snapshots ≤ length old.snapshots
   many_less =
-      let all = ap (λ (table : List (ℕ × ℕ)). length table) gone.snapshots in
-      let count = length-filter (λ (e : ℕ × ℕ). not (e.0 == sub)) old.snapshots in
-      let less = count_by-le-length (λ (e : ℕ × ℕ). not (e.0 == sub)) old.snapshots in
+      let all = ap (λ (table : List (ℕ × KeptSubvolume)). length table) gone.snapshots in
+      let count = length-filter (λ (e : ℕ × KeptSubvolume). not (e.0 == sub)) old.snapshots in
+      let less = count_by-le-length (λ (e : ℕ × KeptSubvolume). not (e.0 == sub)) old.snapshots in
       omega (arith, all, count, less)
 
-  all_left : (P : ℕ × ℕ → Type 0) → All P old.snapshots → All P new.snapshots
-  all_left P all = subst (λ (table : List (ℕ × ℕ)). All P table) (sym gone.snapshots)
-      (All-filter (λ (e : ℕ × ℕ). not (e.0 == sub)) P old.snapshots all)
+  all_left : (P : ℕ × KeptSubvolume → Type 0) → All P old.snapshots → All P new.snapshots
+  all_left P all = subst (λ (table : List (ℕ × KeptSubvolume)). All P table) (sym gone.snapshots)
+      (All-filter (λ (e : ℕ × KeptSubvolume). not (e.0 == sub)) P old.snapshots all)
 
   subvolumes_gone : AreSubvolumesBy new.fs.tree.next new.snapshots
   subvolumes_gone = record {
     few = let less = many_less in let few = fits.subvolumes.few in omega (arith, less, few);
     ascending = keys_up;
-    numbers = all_left (λ (e : ℕ × ℕ). is_subvolume_number e.0 ≡ true) fits.subvolumes.numbers;
+    numbers = all_left (λ (e : ℕ × KeptSubvolume). is_subvolume_number e.0 ≡ true) fits.subvolumes.numbers;
     top_level = listed-key TOP_LEVEL new.snapshots
         (listed_still TOP_LEVEL (key-listed TOP_LEVEL old.snapshots fits.subvolumes.top_level)
         (λ same. other (sym same)));
-    copied = all_left (λ (e : ℕ × ℕ). e.1 ≤ new.fs.tree.next)
-        (subst (λ (n : ℕ). All (λ (e : ℕ × ℕ). e.1 ≤ n) old.snapshots) (sym next_is) fits.subvolumes.copied);
+    copied = all_left (λ (e : ℕ × KeptSubvolume). e.1.last_snapshot ≤ new.fs.tree.next)
+        (subst (λ (n : ℕ). All (λ (e : ℕ × KeptSubvolume). e.1.last_snapshot ≤ n) old.snapshots) (sym next_is)
+        fits.subvolumes.copied);
   }
 
   -- ---- the trees

@@ -30,10 +30,10 @@ use Rattle.qg_ground.specs.declared.ground.Ground.{Ground}
 use Rattle.qg_kept.specs.Types.{TreeRefs}
 use Rattle.qg_kept.specs.Trees.{quota_tree_bytes, root_tree_bytes}
 use Rattle.qg_kept.specs.declared.kept.Kept.{Kept}
-use Rattle.qg_kept.specs.Keeping.{HoldsPending, IsFitted, book_weight, commit_need, filled_by, quota_weight}
+use Rattle.qg_kept.specs.Keeping.{HoldsPending, IsFitted, book_weight, commit_room_of, filled_by, quota_weight}
 use Rattle.qg_kept.specs.Keeping.{root_weight}
 use Rattle.qg_kept_changes.specs.Changing.{HasRoom, SameHeldIn}
-use Rattle.qg_kept_changes.proofs.Fitting.{large, need-few}
+use Rattle.qg_kept.proofs.Reserve.{large, none-listed}
 use Rattle.qg_kept.proofs.Room.{fills-more, left-second}
 
 -- ---- what is tracked
@@ -71,11 +71,6 @@ bounded-still old new bound held most = bounded_as bound old.quota new.quota hel
 -- and nothing where nothing was
 pub none-still : (old new : Kept) → SameHeldIn old new → HoldsPending old [] → HoldsPending new []
 none-still old new held holds = holds_as old.quota new.quota held holds
-
--- commands of which there are none
-pub none-listed : (pending : List Accepted) → length pending ≡ 0 → pending ≡ []
-none-listed [] none = refl
-none-listed (given ∷ pending) none = absurd (omega (arith, none))
 
 -- where nothing is pending, what is held stays what is reserved
 pub holds-still : (old new : Kept) (pending : List Accepted) → length pending ≡ 0 → SameHeldIn old new
@@ -189,13 +184,13 @@ weighs-same many more before after subs is =
 
 -- What a change leaves, which makes the extent tree's items so much heavier at the most, and those of the root and
 -- quota trees so much, and takes so many slots
-pub room-grown : (old new : Kept) (copies k took more others : ℕ) → IsFitted old → IsFitted new → HasRoom old copies
+pub room-grown : (old new : Kept) (copies k took more others : ℕ) → IsFitted old → HasRoom old copies
     → new.superblock ≡ old.superblock → book_weight new ≤ book_weight old + more
     → root_weight new + quota_weight new ≤ root_weight old + quota_weight old + others
     → more + others ≤ k * capacity old.superblock.nodesize
-    → free_slots old.fs.land.space ≤ free_slots new.fs.land.space + took → 5 * k + took + 13 ≤ 10 * copies + 67
-    → commit_need new ≤ free_slots new.fs.land.space
-room-grown old new copies k took more others fits fits_new room same heavier weighs few taken small =
+    → free_slots old.fs.land.space ≤ free_slots new.fs.land.space + took → 5 * k + took + 40 ≤ 10 * copies + 67
+    → commit_room_of new ≤ free_slots new.fs.land.space
+room-grown old new copies k took more others fits room same heavier weighs few taken small =
     let bytes : book_weight new + root_weight new + quota_weight new
     ≤ book_weight old + root_weight old + quota_weight old + k * capacity old.superblock.nodesize =
     sums (book_weight old) (book_weight new) (root_weight old) (root_weight new) (quota_weight old)
@@ -207,8 +202,8 @@ room-grown old new copies k took more others fits fits_new room same heavier wei
     (book_weight new + root_weight new + quota_weight new) k (large old fits) bytes in
     let size = ap (λ (s : Super). nodes_filled s.nodesize (book_weight new + root_weight new + quota_weight new))
     same in
-    left-second copies (filled_by old) (filled_by new) k took (commit_need new) (free_slots old.fs.land.space)
-    (free_slots new.fs.land.space) room.free (omega (arith, filled, size)) (need-few new fits_new) taken small where
+    left-second copies (filled_by old) (filled_by new) k took (free_slots old.fs.land.space)
+    (free_slots new.fs.land.space) room.free (omega (arith, filled, size)) taken small where
       sums : (a b c d e f more others all : ℕ) → b ≤ a + more → d + f ≤ c + e + others → more + others ≤ all
           → b + d + f ≤ a + c + e + all
       sums a b c d e f more others all first second fits = omega (arith, first, second, fits)

@@ -20,10 +20,12 @@ use Rattle.qg_kept.specs.Editable.{AreGroupsOf}
 use Rattle.qg_kept.specs.FsLawsCommitting.{AreShort}
 use Rattle.qg_kept.specs.FsLawsKeeping.{KeepsState, NamesOthers, other_names}
 use Rattle.qg_kept.specs.declared.kept.Kept.{Kept}
-use Rattle.qg_kept.specs.Keeping.{IsFitted, IsKept, IsKeptOf}
+use Rattle.qg_kept.specs.declared.kept.KeptSubvolume.{KeptSubvolume}
+use Rattle.qg_kept.specs.Keeping.{IsFitted, IsKept, IsKeptOf, kept_subvolume, kept_at}
 use Rattle.qg_kept_changes.proofs.Added.{key-still}
 use Rattle.qg_kept.proofs.Changed.{short-files}
 use Rattle.qg_kept.proofs.Looked.{hand-among, tree-listed, tree-numbered}
+use Rattle.qg_kept.proofs.Reserve.{reserve-none}
 use Rattle.qg_kept.proofs.Stepped.{ascend-kept, names-same}
 use Rattle.qg_kept.proofs.Tables.{all-put, listed-key, map-put, value-there}
 
@@ -52,36 +54,38 @@ mapped-put f n value (entry ∷ table) =
 
 -- what is kept with this generation as that of the last snapshot of the subvolume at hand
 abbrev pub marked : Kept → ℕ → Kept
-marked kept stamp = record kept { snapshots = with_value kept.fs.tree.owner stamp kept.snapshots }
+marked kept stamp = record kept { snapshots = with_value kept.fs.tree.owner (kept_at stamp) kept.snapshots }
 
 module _ (old : Kept) (stamp : ℕ) (fits : IsFitted old) (dated : stamp ≤ old.fs.tree.next) where
   abbrev own : ℕ
   own = old.fs.tree.owner
 
-  before : (snapshot : ℕ) × (value_at own old.snapshots ≡ Some snapshot)
+  before : (snapshot : KeptSubvolume) × (value_at own old.snapshots ≡ Some snapshot)
   before =
       value-there own old.snapshots
       (listed-key own old.snapshots (tree-listed old fits old.fs.tree (hand-among old.fs)))
 
-  pub keys-marked : keys_of (with_value own stamp old.snapshots) ≡ keys_of old.snapshots
+  pub keys-marked : keys_of (with_value own (kept_at stamp) old.snapshots) ≡ keys_of old.snapshots
   keys-marked =
-      map-put (λ (e : ℕ × ℕ). e.0) own before.0 stamp old.snapshots refl fits.subvolumes.ascending before.1
+      map-put (λ (e : ℕ × KeptSubvolume). e.0) own before.0 (kept_at stamp) old.snapshots refl
+      fits.subvolumes.ascending before.1
 
-  pub many-marked : length (with_value own stamp old.snapshots) ≡ length old.snapshots
+  pub many-marked : length (with_value own (kept_at stamp) old.snapshots) ≡ length old.snapshots
   many-marked =
-      sym (length-map (with_value own stamp old.snapshots) (λ (e : ℕ × ℕ). e.0))
-      ∙ ap (λ (keys : List ℕ). length keys) keys-marked ∙ length-map old.snapshots (λ (e : ℕ × ℕ). e.0)
+      sym (length-map (with_value own (kept_at stamp) old.snapshots) (λ (e : ℕ × KeptSubvolume). e.0))
+      ∙ ap (λ (keys : List ℕ). length keys) keys-marked ∙ length-map old.snapshots (λ (e : ℕ × KeptSubvolume). e.0)
 
   pub fitted-marked : IsFitted (marked old stamp)
   fitted-marked = record {
     superblock = fits.superblock;
     subvolumes = record {
       few = let same = many-marked in let few = fits.subvolumes.few in omega (arith, same, few);
-      ascending = increasing-with own old.snapshots fits.subvolumes.ascending stamp;
-      numbers = all-put (λ (e : ℕ × ℕ). is_subvolume_number e.0 ≡ true) own stamp old.snapshots
+      ascending = increasing-with own old.snapshots fits.subvolumes.ascending (kept_at stamp);
+      numbers = all-put (λ (e : ℕ × KeptSubvolume). is_subvolume_number e.0 ≡ true) own (kept_at stamp) old.snapshots
           (tree-numbered old fits old.fs.tree (hand-among old.fs)) fits.subvolumes.numbers;
-      top_level = key-still own TOP_LEVEL stamp old.snapshots fits.subvolumes.top_level;
-      copied = all-put (λ (e : ℕ × ℕ). e.1 ≤ old.fs.tree.next) own stamp old.snapshots dated fits.subvolumes.copied;
+      top_level = key-still own TOP_LEVEL (kept_at stamp) old.snapshots fits.subvolumes.top_level;
+      copied = all-put (λ (e : ℕ × KeptSubvolume). e.1.last_snapshot ≤ old.fs.tree.next) own (kept_at stamp)
+          old.snapshots dated fits.subvolumes.copied;
     };
     trees = subst (λ (keys : List ℕ). IsPermutation (map (λ (t : Root). t.owner) (trees_of old.fs)) keys)
         (sym keys-marked) fits.trees;
@@ -157,13 +161,14 @@ module _ (old : Kept) (stamp : ℕ) (history : History) (bytes : ℕ) (state : S
     keeps = state_kept;
     short = all-put (λ (e : ℕ × Subvolume). AreShort e.1.files) own_number mine_marked state.subvolumes
         (short-files state own_number keeps.mine keeps.short keeps.keeps.there) keeps.short;
-    snapshots = mapped-put (λ (subvolume : Subvolume). subvolume.last_snapshot) own_number mine_marked state.subvolumes
-        ∙ ap (λ (table : List (ℕ × ℕ)). with_value own_number stamp table) keeps.snapshots;
+    snapshots = mapped-put kept_subvolume own_number mine_marked state.subvolumes
+        ∙ ap (λ (table : List (ℕ × KeptSubvolume)). with_value own_number (kept_at stamp) table) keeps.snapshots;
     quota = keeps.quota;
     holds = keeps.holds;
     pending = keeps.pending;
     recorded = record { kept = keeps.recorded.kept; same = keeps.recorded.same };
     others = subst (λ (names : List Record). NamesOthers state.held names) (sym names_same) keeps.others;
     reserved = λ some. absurd (omega (arith, some, none));
+    reserve = reserve-none state_marked (keeps.pending ∙ none);
     idle = λ none same. keeps.idle none refl;
   }

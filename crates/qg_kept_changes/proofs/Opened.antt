@@ -17,7 +17,7 @@ use Rattle.qg_image.specs.Space.{present_extents}
 use Rattle.qg_image.specs.State.{Accepted, State, Subvolume}
 use Rattle.qg_image.specs.declared.tree.Tree.TheVariants.{Files}
 use Rattle.qg_image.specs.ImageState.{addresses_of, extent_parts, nodes_of_root, quota_in, roots_in, state_in}
-use Rattle.qg_image.specs.ImageState.{subvolume_in, subvolume_roots, subvolumes_in, super_of}
+use Rattle.qg_image.specs.ImageState.{subvolume_in, subvolume_roots, subvolumes_in, super_of, subvolume_told}
 use Rattle.qg_image.specs.StateOf.{StateOf}
 use Rattle.qg_image.specs.Verdict.{extent_set}
 use Rattle.qg_reach.specs.Sets.{HaveSame}
@@ -37,16 +37,18 @@ use Rattle.qg_kept.specs.IsImage.{IsEditable, IsImage, IsSubvolumeOf}
 use Rattle.qg_descent.specs.Tree.{Root}
 use Rattle.qg_kept.specs.StandingOpening.{IsOpened, IsSoundImage, opened_nodes, opened_tree, opened_trees}
 use Rattle.qg_kept.specs.FsLawsKeeping.{KeepsState, NamesOthers, other_names}
-use Rattle.qg_kept.specs.Opening.{AreBytes, HasBytes, HoldsCommit, HoldsOthers, IsOf, mine_opened}
+use Rattle.qg_kept.specs.Opening.{AreBytes, HasBytes, HoldsCommit, HoldsOthers, IsOf}
 use Rattle.qg_kept.proofs.OpenedKept.{opened-kept}
 use Rattle.qg_kept.proofs.OpenedNames.{opened-names}
 use Rattle.qg_kept.proofs.OpenedRecords.{opened-recorded}
 use Rattle.qg_kept.proofs.SoundImage.{image-known, others-known}
 use Rattle.qg_kept.proofs.Short.{spaced-short}
 use Rattle.qg_kept.specs.declared.kept.Kept.{Kept}
-use Rattle.qg_kept.specs.Keeping.{HoldsPending, IsKeptOf}
+use Rattle.qg_kept.specs.declared.kept.KeptSubvolume.{KeptSubvolume}
+use Rattle.qg_kept.specs.Keeping.{HoldsPending, IsKeptOf, kept_subvolume}
 use Rattle.qg_kept_changes.specs.Opened.{snapshot_of}
 use Rattle.qg_kept.proofs.Settled.{settled-holds}
+use Rattle.qg_kept.proofs.Reserve.{reserve-none}
 use Rattle.qg_kept_changes.proofs.OpenedFits.{IsMadeOf, settled}
 
 -- what failed is not there
@@ -81,14 +83,14 @@ unfolding state_in
 pending_none super bytes = refl
 
 copied_roots : (super : Super) (bytes : List ℕ) (roots : List (ℕ × RootItem))
-    → map (λ (entry : ℕ × Subvolume). (entry.0, entry.1.last_snapshot))
+    → map (λ (entry : ℕ × Subvolume). (entry.0, kept_subvolume entry.1))
     (map (λ (entry : ℕ × RootItem). (entry.0, subvolume_in super bytes entry.1)) roots) ≡ map snapshot_of roots
 copied_roots super bytes [] = refl
 copied_roots super bytes (entry ∷ roots) =
-    ap (λ (table : List (ℕ × ℕ)). (entry.0, entry.1.last_snapshot) ∷ table) (copied_roots super bytes roots)
+    ap (λ (table : List (ℕ × KeptSubvolume)). snapshot_of entry ∷ table) (copied_roots super bytes roots)
 
 snapshots_there : (super : Super) (bytes : List ℕ)
-    → map (λ (entry : ℕ × Subvolume). (entry.0, entry.1.last_snapshot)) (state_in super bytes).subvolumes
+    → map (λ (entry : ℕ × Subvolume). (entry.0, kept_subvolume entry.1)) (state_in super bytes).subvolumes
     ≡ map snapshot_of (subvolume_roots (roots_in super bytes))
 unfolding state_in subvolumes_in
 snapshots_there super bytes = copied_roots super bytes (subvolume_roots (roots_in super bytes))
@@ -253,7 +255,7 @@ module _ (kept : Kept) (image : Image) (made : IsMadeOf kept image) (holds : Hol
     are = top.told;
   }
 
-  state_there : KeepsState kept.fs (Recorded events) state (mine_opened files root) files
+  state_there : KeepsState kept.fs (Recorded events) state (subvolume_told files root) files
   state_there =
       opened-kept kept.fs image.superblock events root files table_there sound opened commit have_bytes is_of
 
@@ -288,7 +290,7 @@ module _ (kept : Kept) (image : Image) (made : IsMadeOf kept image) (holds : Hol
   kept_there : IsKeptOf kept state (Recorded events)
   kept_there = record {
     files = files;
-    mine = mine_opened files root;
+    mine = subvolume_told files root;
     keeps = state_there;
     short = spaced-short (sizes_of image.superblock) state sound.space;
     snapshots = snapshots_there image.superblock (content events) ∙ ap (map snapshot_of) is.kept.roots
@@ -299,6 +301,7 @@ module _ (kept : Kept) (image : Image) (made : IsMadeOf kept image) (holds : Hol
     recorded = recorded;
     others = named;
     reserved = λ some. let none = made.idle in absurd (omega (arith, some, none));
+    reserve = reserve-none state (ap (λ (pending : List Accepted). length pending) none_pending);
     idle = λ none same. made.trees.draft
         ∙ ap nothing_fresh (sym (ap (λ (draft : Draft). draft.sizes) made.trees.draft));
   }

@@ -41,6 +41,7 @@ use Rattle.qg_groups.specs.declared.state.QuotaState.{QuotaState}
 use Rattle.qg_groups.specs.Tracked.{HoldsAll, IsTracked, quota_of}
 use Rattle.qg_kept.specs.Editable.{AreGroupsOf}
 use Rattle.qg_kept.specs.declared.kept.Kept.{Kept}
+use Rattle.qg_kept.specs.declared.kept.KeptSubvolume.{KeptSubvolume}
 use Rattle.qg_kept.specs.Keeping.{AreSubvolumesBy, IsFitted, most_reserved}
 use Rattle.qg_kept_changes.specs.Opened.{AreTreesIn, snapshot_of, tree_for}
 use Rattle.qg_kept.proofs.Early.{All-from-contains, key_by, later-of}
@@ -148,29 +149,32 @@ module _ (kept : Kept) (image : Image) (made : IsMadeOf kept image) (fits : IsEd
   later = let next = next-made in omega (arith, next)
 
   keys_made : keys_of kept.snapshots ≡ keys_of image.roots
-  keys_made = ap (λ (table : List (ℕ × ℕ)). keys_of table) made.snapshots ∙ keys_snapshots image.roots
+  keys_made = ap (λ (table : List (ℕ × KeptSubvolume)). keys_of table) made.snapshots ∙ keys_snapshots image.roots
 
   subvolumes_made : AreSubvolumesBy kept.fs.tree.next kept.snapshots
-  subvolumes_made = subst (λ (table : List (ℕ × ℕ)). AreSubvolumesBy kept.fs.tree.next table) (sym made.snapshots)
+  subvolumes_made =
+      subst (λ (table : List (ℕ × KeptSubvolume)). AreSubvolumesBy kept.fs.tree.next table) (sym made.snapshots)
       (record {
         few = let many = length-map image.roots snapshot_of in
             let few = fits.roots.few in
             omega (arith, many, few);
         ascending = subst (λ (ns : List ℕ). IsStrictlyIncreasing ns) (sym (keys_snapshots image.roots))
             fits.roots.ascending;
-        numbers = All-from-contains (λ (e : ℕ × ℕ). IsTrue (is_subvolume_number e.0)) (map snapshot_of image.roots)
+        numbers = All-from-contains (λ (e : ℕ × KeptSubvolume). IsTrue (is_subvolume_number e.0))
+            (map snapshot_of image.roots)
             (λ entry has. let root = one_mapped snapshot_of image.roots entry has in
-            subst (λ (n : ℕ). IsTrue (is_subvolume_number n)) (ap (λ (e : ℕ × ℕ). e.0) root.2)
+            subst (λ (n : ℕ). IsTrue (is_subvolume_number n)) (ap (λ (e : ℕ × KeptSubvolume). e.0) root.2)
             (All-contains (λ (e : ℕ × RootItem). IsTrue (is_subvolume_number e.0)) image.roots root.0
             fits.roots.numbers root.1));
         top_level = key_by TOP_LEVEL (map snapshot_of image.roots)
             ∙ ap (λ (ns : List ℕ). list_any (λ m. m == TOP_LEVEL) ns) (keys_snapshots image.roots)
             ∙ sym (key_by TOP_LEVEL image.roots) ∙ fits.roots.top_level;
-        copied = All-from-contains (λ (e : ℕ × ℕ). e.1 ≤ kept.fs.tree.next) (map snapshot_of image.roots)
+        copied = All-from-contains (λ (e : ℕ × KeptSubvolume). e.1.last_snapshot ≤ kept.fs.tree.next)
+            (map snapshot_of image.roots)
             (λ entry has. let root = one_mapped snapshot_of image.roots entry has in
             let by = (All-contains (λ (e : ℕ × RootItem). IsRootBy image.superblock.generation e.1) image.roots root.0
             fits.roots.by root.1).copied in
-            let last = ap (λ (e : ℕ × ℕ). e.1) root.2 in
+            let last = ap (λ (e : ℕ × KeptSubvolume). e.1.last_snapshot) root.2 in
             let after = later in
             omega (arith, by, last, after));
       })

@@ -48,12 +48,14 @@ use Rattle.qg_kept.specs.Editable.{AreGroups, AreGroupsOf}
 use Rattle.qg_kept.specs.Trees.{quota_tree_bytes, root_tree_bytes}
 use Rattle.qg_kept.specs.FsLawsKeeping.{KeepsState, other_names}
 use Rattle.qg_kept.specs.declared.kept.Kept.{Kept}
+use Rattle.qg_kept.specs.declared.kept.KeptSubvolume.{KeptSubvolume}
 use Rattle.qg_kept.specs.Answering.{comes_to_disk, is_structural}
-use Rattle.qg_kept.specs.Keeping.{HoldsPending, IsFitted, IsKept, IsKeptOf, IsKeptWith, commit_need, most_reserved}
+use Rattle.qg_kept.specs.Keeping.{HoldsPending, IsFitted, IsKept, IsKeptOf, IsKeptWith, commit_room_of}
+use Rattle.qg_kept.specs.Keeping.{most_reserved}
 use Rattle.qg_kept.specs.Keeping.{quota_weight, root_weight}
 use Rattle.qg_kept_changes.specs.Changing.{HasRoom, IsChanged, group_copies}
-use Rattle.qg_kept_changes.proofs.Fitting.{large}
-use Rattle.qg_kept_changes.proofs.GroupAdded.{length-put, none-listed, room-grown, sound-tracked}
+use Rattle.qg_kept.proofs.Reserve.{large, none-listed, reserve-none}
+use Rattle.qg_kept_changes.proofs.GroupAdded.{length-put, room-grown, sound-tracked}
 use Rattle.qg_kept_changes.proofs.Numbered.{number-below}
 use Rattle.qg_kept.proofs.Stepped.{keys-kept}
 use Rattle.qg_kept.proofs.Tables.{all-of, listed-key}
@@ -109,12 +111,12 @@ copies-other kept given on = refl
 
 -- ---- why it is refused, as it was asked
 
-pub asked-so : (kept : Kept) (quota : Option Quota) (seen : List (ℕ × ℕ)) (given : Command)
+pub asked-so : (kept : Kept) (quota : Option Quota) (seen : List (ℕ × KeptSubvolume)) (given : Command)
     (found answer : Option Refusal)
     → seen ≡ kept.snapshots → found ≡ change_refusal quota (keys_of seen) given → found ≡ answer
     → change_refusal quota (keys_of kept.snapshots) given ≡ answer
 asked-so kept quota seen given found answer same asked is =
-    ap (λ (table : List (ℕ × ℕ)). change_refusal quota (keys_of table) given) (sym same) ∙ sym asked ∙ is
+    ap (λ (table : List (ℕ × KeptSubvolume)). change_refusal quota (keys_of table) given) (sym same) ∙ sym asked ∙ is
 
 -- ---- all but quota is as it was
 
@@ -333,7 +335,7 @@ fits_more command.QuotaOn many room wide enough = fits_on many room wide enough
 fits_more _ many room wide enough = omega (arith, wide)
 
 few_more : (kept : Kept) (given : Command)
-    → 5 * nodes_more given (length kept.snapshots) + 0 + 13 ≤ 10 * group_copies kept given + 67
+    → 5 * nodes_more given (length kept.snapshots) + 0 + 40 ≤ 10 * group_copies kept given + 67
 few_more kept command.QuotaOn = omega arith
 few_more kept _ = omega arith
 
@@ -372,10 +374,10 @@ module _ (old : Kept) (given : Command) (quota : Option QuotaState) (fits : IsFi
     numbers : All (λ sub. is_subvolume_number sub ≡ true) (keys_of old.snapshots)
     numbers =
         all-of (λ (sub : ℕ). is_subvolume_number sub ≡ true) (keys_of old.snapshots) (λ sub has.
-        let entry = from-mapped (λ (e : ℕ × ℕ). e.0) old.snapshots sub has in
+        let entry = from-mapped (λ (e : ℕ × KeptSubvolume). e.0) old.snapshots sub has in
         subst (λ (n : ℕ). is_subvolume_number n ≡ true) entry.2
-        (All-contains (λ (e : ℕ × ℕ). is_subvolume_number e.0 ≡ true) old.snapshots entry.0 fits.subvolumes.numbers
-        entry.1))
+        (All-contains (λ (e : ℕ × KeptSubvolume). is_subvolume_number e.0 ≡ true) old.snapshots entry.0
+        fits.subvolumes.numbers entry.1))
 
     sound_now : (made : Quota) → quota_changed old.fs.tree.next (keys_of old.snapshots) given (quota_of old.quota)
         ≡ Some made
@@ -413,7 +415,7 @@ module _ (old : Kept) (given : Command) (quota : Option QuotaState) (fits : IsFi
         ≤ root_weight old + quota_weight old + weight_more given (length old.snapshots)
     weighs =
         let many : length (keys_of old.snapshots) ≡ length old.snapshots =
-        length-map old.snapshots (λ (e : ℕ × ℕ). e.0) in
+        length-map old.snapshots (λ (e : ℕ × KeptSubvolume). e.0) in
         subst (λ (made : Option Quota). root_tree_bytes (length old.snapshots) made + quota_tree_bytes made
         ≤ root_weight old + quota_weight old + weight_more given (length old.snapshots)) (sym regrouped.changed)
         (subst (λ (n : ℕ). root_tree_bytes n changed_now + quota_tree_bytes changed_now
@@ -421,13 +423,13 @@ module _ (old : Kept) (given : Command) (quota : Option QuotaState) (fits : IsFi
         (weighs-regrouped old.fs.tree.next (keys_of old.snapshots) given (quota_of old.quota)))
 
     pub room-regrouped : HasRoom old (group_copies old given)
-        → commit_need (with_tracked old quota) ≤ free_slots old.fs.land.space
+        → commit_room_of (with_tracked old quota) ≤ free_slots old.fs.land.space
     room-regrouped room =
         let wide = large old fits in
         let some : 521 ≤ capacity old.superblock.nodesize = omega (arith, wide) in
         let each : 130 ≤ capacity old.superblock.nodesize = omega (arith, wide) in
         room-grown old (with_tracked old quota) (group_copies old given) (nodes_more given (length old.snapshots)) 0 0
-        (weight_more given (length old.snapshots)) fits fitted-regrouped room refl (omega arith) weighs
+        (weight_more given (length old.snapshots)) fits room refl (omega arith) weighs
         (fits_more given (length old.snapshots) (capacity old.superblock.nodesize) some each) (omega arith)
         (few_more old given)
 
@@ -483,6 +485,7 @@ module _ (old : Kept) (given : Command) (quota : Option QuotaState) (fits : IsFi
         recorded = record { kept = keeps.recorded.kept; same = keeps.recorded.same };
         others = keeps.others;
         reserved = λ some. absurd (omega (arith, some, none));
+        reserve = reserve-none changed (keeps.pending ∙ none);
         idle = λ idle same. keeps.idle none refl;
       }
 

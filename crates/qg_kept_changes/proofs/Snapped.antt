@@ -15,7 +15,7 @@ use Rattle.qg_image.specs.ItemMeaning.{is_subvolume_number}
 use Rattle.qg_image.specs.Table.{with_value}
 use Rattle.qg_image.specs.Space.{is_free_slot}
 use Rattle.qg_image.specs.State.{Placed, State, Subvolume, next_generation}
-use Rattle.qg_machine.specs.Step.{Snapshots, copy_of}
+use Rattle.qg_machine.specs.Step.{Snapshots, copy_of, subvolume_copy}
 use Rattle.qg_descent.specs.Tree.{Reaches, Root}
 use Rattle.qg_snap.proofs.CopyWalked.{copy-items}
 use Rattle.qg_kept.specs.Types.{FsTree}
@@ -23,11 +23,7 @@ use Rattle.qg_kept.specs.Standing.{items_in, nodes_of}
 use Rattle.qg_kept.specs.Files.{HasFiles}
 use Rattle.qg_kept_changes.proofs.Created.{AddsSubvolume}
 
--- the snapshot's subvolume, and its root
-abbrev pub made_copy : Subvolume → ℕ → ℕ → Subvolume
-made_copy source address generation =
-    record { files = source.files; root = address; last_snapshot = generation }
-
+-- the snapshot's root
 abbrev pub placed_copy : State → ℕ → ℕ → Node → Placed
 placed_copy state copy address root =
     record { node = copy_of (next_generation state) copy address root; full = false }
@@ -44,7 +40,7 @@ module _ (state after : State) (sub copy : ℕ) (parents : List ℕ) (snap : Sna
   free_marked = snap.free
 
   pub adds-snapped : AddsSubvolume (with_mark state sub snap.source) after copy
-      (made_copy snap.source snap.address (next_generation state))
+      (subvolume_copy (next_generation state) snap.source snap.address)
       (placed_copy state copy snap.address snap.root)
   adds-snapped = record {
     free = free_marked;

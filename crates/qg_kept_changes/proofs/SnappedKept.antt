@@ -23,7 +23,7 @@ use Rattle.qg_image.specs.Record.{Record}
 use Rattle.qg_image.specs.State.{Accepted, Placed, State, Subvolume, next_generation}
 use Rattle.qg_machine.specs.GroupChange.{inherited}
 use Rattle.qg_machine.specs.Refusals.{number_to_come}
-use Rattle.qg_machine.specs.Step.{Snapshots, copy_of}
+use Rattle.qg_machine.specs.Step.{Snapshots, copy_of, subvolume_copy}
 use Rattle.qg_reach.proofs.Layouts.{value_at-with_same}
 use Rattle.qg_blocks.specs.Told.{IsBacked}
 use Rattle.qg_groups.specs.Changing.{groups_in}
@@ -46,11 +46,13 @@ use Rattle.qg_kept.specs.Standing.{IsReachedBy, nodes_of}
 use Rattle.qg_kept.proofs.Lists.{has-mapped}
 use Rattle.qg_kept.specs.FsLawsKeeping.{AreYoung, other_names}
 use Rattle.qg_kept.specs.declared.kept.Kept.{Kept}
+use Rattle.qg_kept.specs.declared.kept.KeptSubvolume.{KeptSubvolume}
 use Rattle.qg_kept.specs.Keeping.{HoldsPending, IsKept, IsKeptOf, IsKeptWith, book_weight, quota_weight, root_weight}
+use Rattle.qg_kept.specs.Keeping.{kept_at}
 use Rattle.qg_kept_changes.specs.Changing.{HasRoom, IsChanged, number_next, too_many_refusal}
 use Rattle.qg_kept_changes.proofs.Added.{IsAdded, fitted-added, greater, number-good}
 use Rattle.qg_kept.proofs.Changed.{short-files}
-use Rattle.qg_kept_changes.proofs.Fitting.{large}
+use Rattle.qg_kept.proofs.Reserve.{large}
 use Rattle.qg_kept_changes.proofs.Created.{AddsSubvolume, keeps-added, young-added}
 use Rattle.qg_kept_changes.proofs.Grown.{files-grown, free-none, layout-grown, still-grown}
 use Rattle.qg_kept_changes.proofs.GroupAdded.{AddsGroup, holds-still, relations-room, room-grown, weighs-more}
@@ -59,7 +61,7 @@ use Rattle.qg_kept_changes.proofs.Marked.{fitted-marked, keeps-marked, keys-mark
 use Rattle.qg_kept_changes.proofs.Marked.{state_marked}
 use Rattle.qg_kept_changes.proofs.Numbered.{next-some}
 use Rattle.qg_kept_changes.proofs.HowMany.{number-told}
-use Rattle.qg_kept_changes.proofs.Snapped.{adds-snapped, copy-files, copy-reach, made_copy, placed_copy, with_mark}
+use Rattle.qg_kept_changes.proofs.Snapped.{adds-snapped, copy-files, copy-reach, placed_copy, with_mark}
 use Rattle.qg_kept.proofs.Stepped.{keys-kept}
 use Rattle.qg_kept.proofs.Tables.{all-put}
 use Rattle.qg_kept_changes.proofs.Trees.{held-for}
@@ -75,7 +77,7 @@ pub rest-snapped : (old mid new : Kept) (land : Ground) (book now : TreeRefs) (s
     → now ≡ record book { tree = sub } → old.fs.tree.owner ≡ sub
     → mid ≡ record old {
       fs = record old.fs { land = land; refs = now };
-      snapshots = with_value sub stamp old.snapshots;
+      snapshots = with_value sub (kept_at stamp) old.snapshots;
     }
     → new ≡ record mid {
       fs = record mid.fs { others = new.fs.others };
@@ -108,7 +110,8 @@ module _ (old new : Kept) (land : Ground) (book : TreeRefs) (before after : Hist
     (tree_is : tree ≡ record old.fs.tree { address = tree.address; owner = copy })
     (others : new.fs.others.items ≡ old.fs.others.items ++ tree ∷ [])
     (snapshots : new.snapshots
-    ≡ with_value old.fs.tree.owner old.fs.tree.next old.snapshots ++ (tree.owner, old.fs.tree.next) ∷ [])
+    ≡ with_value old.fs.tree.owner (kept_at old.fs.tree.next) old.snapshots
+    ++ (tree.owner, kept_at old.fs.tree.next) ∷ [])
     (quota : quota_of new.quota ≡ option_map (inherited old.fs.tree.next sub copy parents) (quota_of old.quota))
     (groups : AddsGroup old new copy (length parents))
     (rest : new ≡ record old {
@@ -136,12 +139,12 @@ module _ (old new : Kept) (land : Ground) (book : TreeRefs) (before after : Hist
     others = others;
     owner = owner;
     next = ap (λ (t : Root). t.next) tree_is;
-    earlier = with_value old.fs.tree.owner old.fs.tree.next old.snapshots;
+    earlier = with_value old.fs.tree.owner (kept_at old.fs.tree.next) old.snapshots;
     keys = keys-marked old old.fs.tree.next fits.fitted (omega arith);
-    copied = all-put (λ (e : ℕ × ℕ). e.1 ≤ old.fs.tree.next) old.fs.tree.owner old.fs.tree.next old.snapshots
-        (omega arith) fits.fitted.subvolumes.copied;
-    snapshots = snapshots ∙ ap (λ (n : ℕ). with_value old.fs.tree.owner old.fs.tree.next old.snapshots
-        ++ (n, old.fs.tree.next) ∷ []) owner;
+    copied = all-put (λ (e : ℕ × KeptSubvolume). e.1.last_snapshot ≤ old.fs.tree.next) old.fs.tree.owner
+        (kept_at old.fs.tree.next) old.snapshots (omega arith) fits.fitted.subvolumes.copied;
+    snapshots = snapshots ∙ ap (λ (n : ℕ). with_value old.fs.tree.owner (kept_at old.fs.tree.next) old.snapshots
+        ++ (n, kept_at old.fs.tree.next) ∷ []) owner;
     dated = omega arith;
     groups = groups;
     pending = pending;
@@ -199,7 +202,7 @@ module _ (old new : Kept) (land : Ground) (book : TreeRefs) (before after : Hist
     -- ---- the source, and the root of the copy
 
     abbrev made : Subvolume
-    made = made_copy snap.source snap.address (next_generation state)
+    made = subvolume_copy (next_generation state) snap.source snap.address
 
     abbrev placed : Placed
     placed = placed_copy state copy snap.address snap.root
@@ -325,9 +328,9 @@ module _ (old new : Kept) (land : Ground) (book : TreeRefs) (before after : Hist
 
     many : length new.snapshots ≤ length old.snapshots + 1
     many =
-        let front = with_value old.fs.tree.owner old.fs.tree.next old.snapshots in
-        let all = ap (λ (t : List (ℕ × ℕ)). length t) snapshots in
-        let parts = length-append front ((tree.owner, old.fs.tree.next) ∷ []) in
+        let front = with_value old.fs.tree.owner (kept_at old.fs.tree.next) old.snapshots in
+        let all = ap (λ (t : List (ℕ × KeptSubvolume)). length t) snapshots in
+        let parts = length-append front ((tree.owner, kept_at old.fs.tree.next) ∷ []) in
         let same = many-marked old old.fs.tree.next fits.fitted (omega arith) in
         omega (arith, all, parts, same)
 
@@ -370,7 +373,7 @@ module _ (old new : Kept) (land : Ground) (book : TreeRefs) (before after : Hist
         (short-files state sub snap.source keeps.short snap.there) made_files young is added.hand others
         (ap (λ (r : TreeRefs). r.tree) refs_are)
         (ap (λ (r : TreeRefs). r.held) refs_are ∙ heavier.held)
-        (added.snapshots ∙ ap (λ (n : ℕ). source_marked.snapshots ++ (copy, n) ∷ []) (sym come))
+        (added.snapshots ∙ ap (λ (n : ℕ). source_marked.snapshots ++ (copy, kept_at n) ∷ []) (sym come))
         quota_now holds_now pending
 
     pub changed-snapped : IsChanged state (Snap sub parents) (Sub copy) new after
@@ -389,7 +392,7 @@ module _ (old new : Kept) (land : Ground) (book : TreeRefs) (before after : Hist
               relations-room (length parents) (capacity old.superblock.nodesize) node_bytes (omega (arith, wide))
               (omega (arith, wide)) in
               room-grown old new (18 + length parents) (2 + length parents) 1
-              (node_bytes + capacity old.superblock.nodesize) (594 + 50 * length parents) fits.fitted kept_then.fitted
+              (node_bytes + capacity old.superblock.nodesize) (594 + 50 * length parents) fits.fitted
               room superblock weight weighs few_bytes
               (let same = space_same in omega (arith, slots, same)) (omega arith);
         }

@@ -22,7 +22,7 @@ use Rattle.qg_space.specs.Holding.{free_slots}
 use Rattle.qg_descent.specs.Tree.{Root}
 use Rattle.qg_kept.specs.FsLawsKeeping.{other_names}
 use Rattle.qg_kept.specs.declared.kept.Kept.{Kept}
-use Rattle.qg_kept.specs.Keeping.{IsKeptWith, commit_need, filled_by}
+use Rattle.qg_kept.specs.Keeping.{IsKeptWith, commit_room_of, filled_by}
 
 -- ---- what may come
 
@@ -56,7 +56,7 @@ group_copies kept _ = 18
 
 -- ---- room
 
--- So many slots are free that, once a change copied so many nodes, a commit finds its own
+-- So many slots are free that, once a change copied so many nodes, those are that a commit may want
 pub record HasRoom (kept : Kept) (copies : ℕ) : Type 0 where
   pub free : 10 * copies + 11 * filled_by kept + 67 ≤ free_slots kept.fs.land.space
 
@@ -67,10 +67,11 @@ abbrev pub without_tree : ℕ → List Root → List Root
 without_tree number trees = filter (λ tree. not (tree.owner == number)) trees
 
 -- A structural command changed what is kept of a state in which nothing is pending. What is kept then is that of a
--- state that the machine's change may leave, the last commit names what it named before, and a commit finds its slots
+-- state that the machine's change may leave, the last commit names what it named before, and the slots that a commit
+-- may want are free
 pub record IsChanged (before : State) (given : Command) (reply : Answer) (new : Kept) (history : History)
     : Type 0 where
   pub changed : State
   pub changes : Changes before given reply changed
   pub keeps : IsKeptWith new changed history (other_names before)
-  pub room : commit_need new ≤ free_slots new.fs.land.space
+  pub room : commit_room_of new ≤ free_slots new.fs.land.space

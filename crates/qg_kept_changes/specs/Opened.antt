@@ -12,10 +12,12 @@ use Rattle.qg_space.specs.Holding.{Holding}
 use Rattle.qg_weighed.specs.Weight.{Books}
 use Rattle.qg_descent.specs.Tree.{Root}
 use Rattle.qg_kept.specs.Types.{FsTree}
+use Rattle.qg_kept.specs.declared.kept.KeptSubvolume.{KeptSubvolume}
+use Rattle.qg_kept.specs.Keeping.{kept_at}
 
--- the generation of a subvolume's last snapshot, by its number
-abbrev pub snapshot_of : ℕ × RootItem → ℕ × ℕ
-snapshot_of entry = (entry.0, entry.1.last_snapshot)
+-- a subvolume by its number, as its ROOT_ITEM tells what is kept of it
+abbrev pub snapshot_of : ℕ × RootItem → ℕ × KeptSubvolume
+snapshot_of entry = (entry.0, kept_at entry.1.last_snapshot)
 
 -- the tree of a subvolume by its number and its ROOT_ITEM, for a generation to come
 abbrev pub tree_for : ℕ → ℕ × RootItem → Root

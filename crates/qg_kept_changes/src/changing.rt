@@ -14,11 +14,12 @@ ghost use Rattle.qg_image.specs.State.{State};
 ghost use Rattle.qg_image.specs.Members.{hierarchy_of, level_of_group};
 ghost use Rattle.qg_machine.specs.GroupChange.{inherited, new_group, with_group};
 ghost use Rattle.qg_machine.specs.Refusals.{nodes_reached};
+ghost use Rattle.qg_blocks.specs.Stopping.{StopsForCause};
 ghost use Rattle.qg_blocks.specs.Told.{BreaksNone};
 ghost use Rattle.qg_hier.specs.Faults.{create_fault};
 ghost use Rattle.qg_groups.specs.Changing.{AreParents};
 ghost use Rattle.qg_groups.specs.Tracked.{IsTracked, quota_of};
-ghost use Rattle.qg_kept.specs.Keeping.{IsKept, IsKeptOf};
+ghost use Rattle.qg_kept.specs.Keeping.{IsKept, IsKeptOf, kept_at};
 ghost use Rattle.qg_kept_changes.specs.Changing.{CanSnap, HasRoom, IsChanged, SameHeldIn, number_next};
 ghost use Rattle.qg_kept_changes.specs.Changing.{too_many_refusal, without_tree};
 
@@ -26,7 +27,7 @@ use crate::numbering::place_of_snapshot;
 use qg_descent::Tree;
 use qg_disk::Disk;
 use qg_items::tree::TOP_LEVEL;
-use qg_kept::{Kept, turn_to};
+use qg_kept::{Kept, KeptSubvolume, turn_to};
 use qg_num::{BlockFault, Generation, GroupId, NoMemory, RootId, Rule, Steps};
 use std::sync::ledger::Ledger;
 
@@ -51,6 +52,7 @@ pub fn create_change<D: Disk, L: Ledger>(
         → D.history disk.old ≡ Recorded events → BreaksNone result }
     ensures superblock { kept.new.superblock ≡ kept.old.superblock }
     ensures apart { (D.history disk.new ≡ D.history disk.old) × (D.size disk.new ≡ D.size disk.old) }
+    ensures stops { StopsForCause result kept.old.fs.land.blocks.draft.sizes (D.size disk.old) }
     ensures cause { HasCause BlockFault.Disk (D.faults disk.old) (D.faults disk.new) result }
 {
     let _ascending = kept.fs.refs.refs().len();
@@ -101,6 +103,7 @@ pub fn snap_change<D: Disk, L: Ledger>(
         → D.history disk.old ≡ Recorded events → BreaksNone result }
     ensures superblock { kept.new.superblock ≡ kept.old.superblock }
     ensures apart { (D.history disk.new ≡ D.history disk.old) × (D.size disk.new ≡ D.size disk.old) }
+    ensures stops { StopsForCause result kept.old.fs.land.blocks.draft.sizes (D.size disk.old) }
     ensures cause { HasCause BlockFault.Disk (D.faults disk.old) (D.faults disk.new) result }
 {
     let _ascending = kept.fs.refs.refs().len();
@@ -143,6 +146,7 @@ pub fn delete_change<D: Disk, L: Ledger>(
         → D.history disk.old ≡ Recorded events → BreaksNone result }
     ensures superblock { kept.new.superblock ≡ kept.old.superblock }
     ensures apart { (D.history disk.new ≡ D.history disk.old) × (D.size disk.new ≡ D.size disk.old) }
+    ensures stops { StopsForCause result kept.old.fs.land.blocks.draft.sizes (D.size disk.old) }
     ensures cause { HasCause BlockFault.Disk (D.faults disk.old) (D.faults disk.new) result }
 {
     turn_to(kept, RootId::new(TOP_LEVEL));
@@ -173,14 +177,17 @@ pub fn delete_change<D: Disk, L: Ledger>(
 fn mark_snapshot(kept: &mut Kept, sub: RootId, generation: Generation)
     requires there { IsTrue (has_key sub kept.old.snapshots) }
     requires ascending { IsStrictlyIncreasing (keys_of kept.old.snapshots) }
-    ensures { kept.new ≡ record kept.old { snapshots = with_value sub generation kept.old.snapshots } }
+    ensures { kept.new ≡ record kept.old { snapshots = with_value sub (kept_at generation) kept.old.snapshots } }
 {
     if let Some(place) = place_of_snapshot(kept.snapshots.as_slice(), sub) {
-        kept.snapshots.set(place, (sub, generation));
+        let marked = KeptSubvolume {
+            last_snapshot: generation,
+        };
+        kept.snapshots.set(place, (sub, marked));
     }
 }
 
-// Of a subvolume that went no snapshot is known.
+// Of a subvolume that went nothing is known.
 fn forget_snapshot(kept: &mut Kept, sub: RootId)
     requires ascending { IsStrictlyIncreasing (keys_of kept.old.snapshots) }
     ensures { kept.new ≡ record kept.old { snapshots = without_key sub kept.old.snapshots } }
@@ -190,10 +197,11 @@ fn forget_snapshot(kept: &mut Kept, sub: RootId)
     }
 }
 
-// A tree that was made goes behind the others, its number being the greatest; with it comes its snapshot.
-fn add_subvolume(kept: &mut Kept, tree: Tree, snapshot: Generation) -> Result<(), NoMemory>
+// A tree that was made goes behind the others, its number being the greatest; with it comes what is kept of it.
+fn add_subvolume(kept: &mut Kept, tree: Tree, last_snapshot: Generation) -> Result<(), NoMemory>
     ensures trees { OnOk result (kept.new.fs.others.items ≡ kept.old.fs.others.items ++ tree ∷ []) }
-    ensures snapshots { OnOk result (kept.new.snapshots ≡ kept.old.snapshots ++ (tree.owner, snapshot) ∷ []) }
+    ensures snapshots { OnOk result (kept.new.snapshots
+        ≡ kept.old.snapshots ++ (tree.owner, kept_at last_snapshot) ∷ []) }
     ensures rest { kept.new ≡ record kept.old {
       fs = record kept.old.fs { others = kept.new.fs.others };
       snapshots = kept.new.snapshots;
@@ -201,7 +209,7 @@ fn add_subvolume(kept: &mut Kept, tree: Tree, snapshot: Generation) -> Result<()
 {
     let sub = tree.owner();
     kept.fs.others.push(tree)?;
-    kept.snapshots.push((sub, snapshot))?;
+    kept.snapshots.push((sub, KeptSubvolume { last_snapshot }))?;
     Ok(())
 }
 

@@ -13,8 +13,8 @@ ghost use Rattle.qg_kept_changes.specs.Changing.{number_next};
 
 use qg_groups::QuotaState;
 use qg_image::Group;
-use qg_kept::Kept;
-use qg_num::{Generation, GroupId, RootId};
+use qg_kept::{Kept, KeptSubvolume};
+use qg_num::{GroupId, RootId};
 
 /// The most subvolumes, and the most groups, that an image can have.
 const MOST_SUBVOLUMES: usize = 4096;
@@ -37,7 +37,7 @@ pub fn number_next(kept: &Kept) -> u64
 }
 
 // The greatest of 255 and the numbers of subvolumes.
-fn last_subvolume(snapshots: &[(RootId, Generation)]) -> u64
+fn last_subvolume(snapshots: &[(RootId, KeptSubvolume)]) -> u64
     requires numbers { All (λ entry. IsTrue (is_subvolume_number entry.0)) snapshots.now }
     ensures value { result ≡ fold max 255 (keys_of snapshots.now) }
     ensures least { 255 ≤ result }
@@ -109,7 +109,7 @@ fn is_full(quota: &Option<QuotaState>, relations: usize) -> bool
 }
 
 /// The place of a subvolume; none exactly where there is none.
-pub(crate) fn place_of_snapshot(snapshots: &[(RootId, Generation)], sub: RootId) -> Option<usize>
+pub(crate) fn place_of_snapshot(snapshots: &[(RootId, KeptSubvolume)], sub: RootId) -> Option<usize>
     ensures inside { IfSome result (λ place. place < length snapshots.now) }
     ensures at { IfSome result (λ place. HoldsAt (λ entry. entry.0 ≡ sub) snapshots.now place) }
     ensures none { IfNone result (All (λ entry. entry.0 ≢ sub) snapshots.now) }

@@ -18,10 +18,10 @@ use qg_descent::Tree;
 use qg_ground::Ground;
 use qg_items::RootItem;
 use qg_items::tree::TOP_LEVEL;
-use qg_kept::Kept;
 use qg_kept::check::Image;
 use qg_kept::fs_tree::FsTree;
 use qg_kept::tree_refs::TreeRefs;
+use qg_kept::{Kept, KeptSubvolume};
 use qg_num::{Generation, NoMemory, RootId, Sequence};
 use qg_rules::root_of;
 use qg_space::Space;
@@ -108,16 +108,17 @@ fn others_of(
     Ok(trees)
 }
 
-// The generation of each subvolume's last snapshot, by number.
+// What is kept of each subvolume, by number.
 fn snapshots_of(
     alloc: Global,
     roots: &[(RootId, RootItem)],
-) -> Result<Sequence<(RootId, Generation)>, AllocError>
+) -> Result<Sequence<(RootId, KeptSubvolume)>, AllocError>
     ensures { IfOk result (λ snapshots. snapshots ≡ map snapshot_of roots.now) }
 {
     let mut snapshots = Sequence::new(alloc);
     for entry in roots {
-        snapshots.push((entry.0, entry.1.last_snapshot))?;
+        let last_snapshot = entry.1.last_snapshot;
+        snapshots.push((entry.0, KeptSubvolume { last_snapshot }))?;
     }
     Ok(snapshots)
 }

@@ -33,7 +33,8 @@ use Rattle.qg_kept.proofs.Trees.{next-same, root-level, tree-subvolume}
 use Rattle.qg_survey.specs.Surveying.{trees_of as trees_of_state}
 use Rattle.qg_kept.specs.FsLawsKeeping as step
 use Rattle.qg_kept.specs.declared.kept.Kept.{Kept}
-use Rattle.qg_kept.specs.Keeping.{IsFitted, IsKept, IsKeptWith}
+use Rattle.qg_kept.specs.declared.kept.KeptSubvolume.{KeptSubvolume}
+use Rattle.qg_kept.specs.Keeping.{IsFitted, IsKept, IsKeptWith, kept_subvolume}
 use Rattle.qg_kept_commit.specs.Planning.{numbers_of, root_of_tree}
 use Rattle.qg_kept_commit.proofs.Cleaned.{tree-now}
 
@@ -134,7 +135,7 @@ each_of f (tree ∷ trees) each =
     λ i. first i ∷ rest i
 
 keys_copied : (table : List (ℕ × Subvolume))
-    → keys_of (map (λ (entry : ℕ × Subvolume). (entry.0, entry.1.last_snapshot)) table) ≡ keys_of table
+    → keys_of (map (λ (entry : ℕ × Subvolume). (entry.0, kept_subvolume entry.1)) table) ≡ keys_of table
 keys_copied [] = refl
 keys_copied (entry ∷ table) = ap (λ (ns : List ℕ). entry.0 ∷ ns) (keys_copied table)
 
@@ -142,7 +143,7 @@ keys_copied (entry ∷ table) = ap (λ (ns : List ℕ). entry.0 ∷ ns) (keys_co
 pub keys-kept : (kept : Kept) (state : State) (history : History) (names : List Record)
     → IsKeptWith kept state history names → keys_of kept.snapshots ≡ keys_of state.subvolumes
 keys-kept kept state history names keeps =
-    ap (λ (table : List (ℕ × ℕ)). keys_of table) (sym keeps.snapshots) ∙ keys_copied state.subvolumes
+    ap (λ (table : List (ℕ × KeptSubvolume)). keys_of table) (sym keeps.snapshots) ∙ keys_copied state.subvolumes
 
 -- the trees in order are those of the state's subvolumes
 pub trees-are : (kept : Kept) (history : History) (bytes : ℕ) (state : State) (names : List Record)

@@ -37,6 +37,7 @@ use Rattle.qg_kept.specs.Trees.{AreEnough, nodes_of_trees, quota_tree_bytes, roo
 use Rattle.qg_kept.specs.FsLawsKeeping.{group_after, quota_after, quota_laid}
 use Rattle.qg_kept.specs.FsLawsCommitting.{IsRootNow}
 use Rattle.qg_kept.specs.declared.kept.Kept.{Kept}
+use Rattle.qg_kept.specs.declared.kept.KeptSubvolume.{KeptSubvolume}
 use Rattle.qg_kept_commit.specs.declared.planning.Plan.{Plan}
 use Rattle.qg_kept_commit.specs.Committing.{AreRootsOf, IsPlanOf}
 use Rattle.qg_kept.specs.Keeping.{IsFitted, book_weight, quota_weight, root_weight}
@@ -87,9 +88,9 @@ module _ (kept : Kept) (fits : IsFitted kept) (roots : List (ℕ × RootItem)) (
 
   -- the snapshot of a ROOT_ITEM's number
   snapshot_at : (entry : ℕ × RootItem) → Contains roots entry
-      → (snapshot : ℕ × ℕ) × Contains kept.snapshots snapshot × (snapshot.0 ≡ entry.0)
+      → (snapshot : ℕ × KeptSubvolume) × Contains kept.snapshots snapshot × (snapshot.0 ≡ entry.0)
   snapshot_at entry has =
-      one_mapped (λ (e : ℕ × ℕ). e.0) kept.snapshots entry.0
+      one_mapped (λ (e : ℕ × KeptSubvolume). e.0) kept.snapshots entry.0
       (subst (λ (ns : List ℕ). Contains ns entry.0) are.numbers
       (contains_map (λ (e : ℕ × RootItem). e.0) roots entry has))
 
@@ -104,8 +105,8 @@ module _ (kept : Kept) (fits : IsFitted kept) (roots : List (ℕ × RootItem)) (
       (IsPermutation-sym (map (λ (t : Root). t.owner) (trees_of kept.fs)) (keys_of kept.snapshots) fits.trees) among)
 
   pub root-now : (entry : ℕ × RootItem) → Contains roots entry
-      → (tree : Root) × (snapshot : ℕ × ℕ) × Contains kept.snapshots snapshot × (snapshot.0 ≡ entry.0)
-      × IsRootNow kept.fs tree snapshot.1 entry.1
+      → (tree : Root) × (snapshot : ℕ × KeptSubvolume) × Contains kept.snapshots snapshot × (snapshot.0 ≡ entry.0)
+      × IsRootNow kept.fs tree snapshot.1.last_snapshot entry.1
   root-now entry has =
       let tree = tree_at entry has in
       let snapshot = snapshot_at entry has in
@@ -119,9 +120,9 @@ module _ (kept : Kept) (fits : IsFitted kept) (roots : List (ℕ × RootItem)) (
       → (entry.1.refs ≡ 1) × IsRootBy kept.fs.tree.next entry.1
   each-by entry has =
       let now = root-now entry has in
-      let early = All-contains (λ (e : ℕ × ℕ). e.1 ≤ kept.fs.tree.next) kept.snapshots now.1 fits.subvolumes.copied
-      now.2 in
-      (ap (λ (r : RootItem). r.refs) now.4.root_is, root_by now.0 now.1.1 entry.1 now.4 early)
+      let early = All-contains (λ (e : ℕ × KeptSubvolume). e.1.last_snapshot ≤ kept.fs.tree.next) kept.snapshots now.1
+      fits.subvolumes.copied now.2 in
+      (ap (λ (r : RootItem). r.refs) now.4.root_is, root_by now.0 now.1.1.last_snapshot entry.1 now.4 early)
 
   same_key : (n : ℕ) → has_key n roots ≡ has_key n kept.snapshots
   same_key n = key_by n roots ∙ ap (λ (ns : List ℕ). list_any (λ m. m == n) ns) are.numbers
@@ -132,14 +133,14 @@ module _ (kept : Kept) (fits : IsFitted kept) (roots : List (ℕ × RootItem)) (
   named-subvolumes = record {
     few = let many = ap (λ (ns : List ℕ). length ns) are.numbers in
         let mine = length-map roots (λ (e : ℕ × RootItem). e.0) in
-        let theirs = length-map kept.snapshots (λ (e : ℕ × ℕ). e.0) in
+        let theirs = length-map kept.snapshots (λ (e : ℕ × KeptSubvolume). e.0) in
         let few = fits.subvolumes.few in
         omega (arith, many, mine, theirs, few);
     ascending = ascending;
     numbers = All-from-contains (λ (e : ℕ × RootItem). IsTrue (is_subvolume_number e.0)) roots
         (λ entry has. let snapshot = snapshot_at entry has in
         subst (λ (n : ℕ). IsTrue (is_subvolume_number n)) snapshot.2
-        (All-contains (λ (e : ℕ × ℕ). IsTrue (is_subvolume_number e.0)) kept.snapshots snapshot.0
+        (All-contains (λ (e : ℕ × KeptSubvolume). IsTrue (is_subvolume_number e.0)) kept.snapshots snapshot.0
         fits.subvolumes.numbers snapshot.1));
     top_level = same_key TOP_LEVEL ∙ fits.subvolumes.top_level;
     counted = All-from-contains (λ (e : ℕ × RootItem). e.1.refs ≡ 1) roots (λ entry has. (each-by entry has).0);
@@ -225,7 +226,7 @@ module _ (kept : Kept) (plan : Plan) (fits : IsFitted kept) (so : IsPlanSo kept 
   root_count =
       let many = ap (λ (ns : List ℕ). length ns) is.roots.numbers in
       let mine = length-map plan.roots (λ (e : ℕ × RootItem). e.0) in
-      let theirs = length-map kept.snapshots (λ (e : ℕ × ℕ). e.0) in
+      let theirs = length-map kept.snapshots (λ (e : ℕ × KeptSubvolume). e.0) in
       omega (arith, many, mine, theirs)
 
   root_bytes : root_tree_bytes (length plan.roots) plan.quota ≡ root_weight kept

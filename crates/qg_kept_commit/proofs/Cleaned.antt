@@ -53,6 +53,7 @@ keeps_clean kept clean history state names keeps = record {
   recorded = keeps.recorded;
   others = keeps.others;
   reserved = keeps.reserved;
+  reserve = keeps.reserve;
   idle = keeps.idle;
 }
 

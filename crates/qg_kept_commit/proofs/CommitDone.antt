@@ -38,27 +38,28 @@ use Rattle.qg_kept.specs.FsLawsCommitting as kept_by
 use Rattle.qg_kept.proofs.CommitKept.{commit-kept}
 use Rattle.qg_kept.proofs.SoundCommit.{sound-commit}
 use Rattle.qg_kept.specs.declared.kept.Kept.{Kept}
+use Rattle.qg_kept.specs.declared.kept.KeptSubvolume.{KeptSubvolume}
 use Rattle.qg_kept_commit.specs.declared.planning.Plan.{Plan}
 use Rattle.qg_kept_commit.specs.Committing.{IsLaidBy, KeepsCommit}
-use Rattle.qg_kept.specs.Keeping.{IsKept, IsKeptOf, IsKeptWith}
+use Rattle.qg_kept.specs.Keeping.{IsKept, IsKeptOf, IsKeptWith, kept_subvolume}
 use Rattle.qg_kept.specs.Making.{BringsTo}
 use Rattle.qg_kept_commit.specs.Planning.{CommitsOn, IsPlanTold, CommitsOfSoFar}
 use Rattle.qg_kept_commit.proofs.ByNumber.{keys-kept}
 use Rattle.qg_kept_commit.proofs.Cleaned.{tree-now}
 use Rattle.qg_kept.proofs.Settled.{settled-holds}
 
--- the generation of a subvolume's last snapshot
-abbrev copied : ℕ × Subvolume → ℕ × ℕ
-copied entry = (entry.0, entry.1.last_snapshot)
+-- a state's subvolume, as it is kept
+abbrev copied : ℕ × Subvolume → ℕ × KeptSubvolume
+copied entry = (entry.0, kept_subvolume entry.1)
 
 copied_value : (n : ℕ) (table : List (ℕ × Subvolume))
-    → value_at n (map copied table) ≡ option_map (λ (s : Subvolume). s.last_snapshot) (value_at n table)
+    → value_at n (map copied table) ≡ option_map kept_subvolume (value_at n table)
 copied_value n [] = refl
 copied_value n (entry ∷ table) = from (entry.0 == n) (copied_value n table) where
   from : (b : Bool) → value_at n (map copied table)
-      ≡ option_map (λ (s : Subvolume). s.last_snapshot) (value_at n table)
-      → cond b (Some entry.1.last_snapshot) (value_at n (map copied table))
-      ≡ option_map (λ (s : Subvolume). s.last_snapshot) (cond b (Some entry.1) (value_at n table))
+      ≡ option_map kept_subvolume (value_at n table)
+      → cond b (Some (kept_subvolume entry.1)) (value_at n (map copied table))
+      ≡ option_map kept_subvolume (cond b (Some entry.1) (value_at n table))
   from true rest = refl
   from false rest = rest
 
@@ -77,17 +78,17 @@ module _ (old : Kept) (plan : Plan) (trees : OtherTrees) (events : List Event) (
   planned = so.is.quota ∙ ap (quota_laid old.fs.tree.next so.counters) (sym keeps.quota)
 
   snapshot_there : (tree : Root) (subvolume : Subvolume) → value_at tree.owner state.subvolumes ≡ Some subvolume
-      → value_at tree.owner old.snapshots ≡ Some subvolume.last_snapshot
+      → value_at tree.owner old.snapshots ≡ Some (kept_subvolume subvolume)
   snapshot_there tree subvolume there =
-      ap (λ (table : List (ℕ × ℕ)). value_at tree.owner table) (sym keeps.snapshots)
+      ap (λ (table : List (ℕ × KeptSubvolume)). value_at tree.owner table) (sym keeps.snapshots)
       ∙ copied_value tree.owner state.subvolumes
-      ∙ ap (option_map (λ (s : Subvolume). s.last_snapshot)) there
+      ∙ ap (option_map kept_subvolume) there
 
   roots-are : AreRootsNow old.fs state plan.roots
   roots-are = record {
     numbers = so.is.roots.numbers ∙ keys-kept old state (Recorded events) names keeps;
     each = λ tree subvolume root among there named_so.
-        so.is.roots.each tree subvolume.last_snapshot root among (snapshot_there tree subvolume there) named_so;
+        so.is.roots.each tree (kept_subvolume subvolume) root among (snapshot_there tree subvolume there) named_so;
   }
 
   laying : IsLaying old.fs.land.space.sizes old.fs.tree.next plan.roots old.fs.refs.refs quota_then plan.slots
@@ -186,6 +187,7 @@ module _ (old : Kept) (plan : Plan) (trees : OtherTrees) (events : List Event) (
       recorded = kept-now.recorded;
       others = kept-now.others;
       reserved = λ some. let none = becomes.pending in absurd (omega (arith, some, none));
+      reserve = tt;
       idle = λ none same. becomes.fs.draft
           ∙ ap nothing_fresh (sym (ap (λ (draft : Draft). draft.sizes) becomes.fs.draft));
     }

@@ -27,6 +27,7 @@ use Rattle.qg_kept.specs.Writing.{IsLaying, fresh_nodes}
 use Rattle.qg_kept.proofs.OnDisk.{is-flushed}
 use Rattle.qg_kept.specs.FsLawsKeeping.{quota_laid}
 use Rattle.qg_kept.specs.declared.kept.Kept.{Kept}
+use Rattle.qg_kept.specs.declared.kept.KeptSubvolume.{KeptSubvolume}
 use Rattle.qg_kept_commit.specs.declared.planning.Plan.{Plan}
 use Rattle.qg_kept_commit.specs.Committing.{IsLaidBy, IsPlanOf, KeepsCommit}
 use Rattle.qg_kept.specs.Keeping.{AreSubvolumesBy, IsFitted, IsKept, most_reserved}
@@ -142,7 +143,8 @@ module _ (kept : Kept) (plan : Plan) (trees : OtherTrees) (fits : IsFitted kept)
 
       subvolumes_now : AreSubvolumesBy new.fs.tree.next new.snapshots
       subvolumes_now =
-          subst (λ (table : List (ℕ × ℕ)). AreSubvolumesBy new.fs.tree.next table) (sym becomes.snapshots) (record {
+          subst (λ (table : List (ℕ × KeptSubvolume)). AreSubvolumesBy new.fs.tree.next table) (sym becomes.snapshots)
+          (record {
             few = fits.subvolumes.few;
             ascending = fits.subvolumes.ascending;
             numbers = fits.subvolumes.numbers;
@@ -159,7 +161,8 @@ module _ (kept : Kept) (plan : Plan) (trees : OtherTrees) (fits : IsFitted kept)
 
       groups_now : AreGroupsOf new.fs.tree.next (keys_of new.snapshots) (quota_of new.quota)
       groups_now =
-          subst (λ (table : List (ℕ × ℕ)). AreGroupsOf new.fs.tree.next (keys_of table) (quota_of new.quota))
+          subst
+          (λ (table : List (ℕ × KeptSubvolume)). AreGroupsOf new.fs.tree.next (keys_of table) (quota_of new.quota))
           (sym becomes.snapshots)
           (subst (λ (quota : Option Quota). AreGroupsOf new.fs.tree.next (keys_of kept.snapshots) quota)
           (sym (becomes.quota ∙ is.is.quota)) groups_laid)
@@ -172,8 +175,9 @@ module _ (kept : Kept) (plan : Plan) (trees : OtherTrees) (fits : IsFitted kept)
             superblock = subst (λ (super : Super). IsTrue (is_super super)) (sym becomes.superblock) laid.superblock;
             subvolumes = subvolumes_now;
             trees = subst (λ (ns : List ℕ). IsPermutation ns (keys_of new.snapshots)) (sym all_numbered)
-                (subst (λ (table : List (ℕ × ℕ)). IsPermutation (map (λ (t : Root). t.owner) (trees_of kept.fs))
-                (keys_of table)) (sym becomes.snapshots) fits.trees);
+                (subst (λ (table : List (ℕ × KeptSubvolume)).
+                IsPermutation (map (λ (t : Root). t.owner) (trees_of kept.fs)) (keys_of table))
+                (sym becomes.snapshots) fits.trees);
             numbered = numbered_now;
             turn = turn;
             groups = groups_now;

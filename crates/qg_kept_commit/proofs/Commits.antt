@@ -104,6 +104,7 @@ does_idle kept state history fits keeps idle = record {
   step = idle_step state (answer.Commit kept.superblock.generation) (keeps.pending ∙ idle)
       (ap (λ (generation : ℕ). answer.Commit generation) (sym (generation-kept kept state history fits keeps)));
   keeps = keeps;
+  reserved = keeps.reserve;
 }
 
 pub does_refuse : (kept : Kept) (state : State) (history : History) → IsFitted kept
@@ -114,6 +115,7 @@ does_refuse kept state history fits keeps some late = record {
   step = refused_step state (omega (arith, keeps.pending, some))
       (omega (arith, generation-kept kept state history fits keeps, late));
   keeps = keeps;
+  reserved = keeps.reserve;
 }
 
 -- ---- what was committed
@@ -147,6 +149,7 @@ module _ (state : State) (events : List Event) (history : History) (some : 0 < l
       step = commit_step state on.new (answer.Commit kept.superblock.generation) some early on.commits
           (ap (λ (generation : ℕ). answer.Commit generation) (sym (generation-kept kept on.new history fits on.keeps)));
       keeps = on.keeps;
+      reserved = on.keeps.reserve;
     },
     record {
       after = with_commit on.super on.nodes events;

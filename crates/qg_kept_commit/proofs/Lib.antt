@@ -5,9 +5,11 @@ pub use Rattle.qg_kept.proofs.Looked
 pub use Rattle.qg_kept.proofs.Moments
 pub use Rattle.qg_kept.proofs.OpeningCalls
 pub use Rattle.qg_kept.proofs.PiecesRead
+pub use Rattle.qg_kept.proofs.Reserve
 pub use Rattle.qg_kept.proofs.Room
 pub use Rattle.qg_kept.proofs.Runs
 pub use Rattle.qg_kept.proofs.Stepped
+pub use Rattle.qg_kept.proofs.Stopped
 pub use Rattle.qg_kept.proofs.Tables
 pub use Rattle.qg_kept.proofs.Turned
 pub use Rattle.qg_kept.proofs.Verdicts

@@ -43,6 +43,7 @@ does_own kept state history address found keeps are = record {
       (λ reason. (answer.Owners found ≡ answer.Refused reason) × machine.Stays state [] state))
       (sym (never_refused state address)) (ap (λ (list : List ℕ). answer.Owners list) are, (refl, refl));
   keeps = keeps;
+  reserved = keeps.reserve;
 }
 
 linked_all : (layout : List (ℕ × Placed))

@@ -19,6 +19,7 @@ use Rattle.qg_groups.specs.Tracked.{quota_of}
 use Rattle.qg_kept.specs.FsLawsKeeping.{AreDueCounters}
 use Rattle.qg_kept.specs.FsLawsCommitting.{IsInOrder}
 use Rattle.qg_kept.specs.declared.kept.Kept.{Kept}
+use Rattle.qg_kept.specs.declared.kept.KeptSubvolume.{KeptSubvolume}
 use Rattle.qg_kept_commit.specs.declared.planning.Plan.{Plan}
 use Rattle.qg_kept_commit.specs.Committing.{IsPlanOf}
 use Rattle.qg_kept.specs.Keeping.{IsKept, IsKeptWith, KnowsNoLater, commit_need}
@@ -46,7 +47,7 @@ module _ (old new : Kept) (before after : History) (bytes left : ℕ) (trees : L
   pub lockstep : numbers_of trees ≡ keys_of new.snapshots
   lockstep =
       numbers-are old fits.fitted trees moved up
-      ∙ ap (λ (table : List (ℕ × ℕ)). keys_of table) (sym snapshots-same)
+      ∙ ap (λ (table : List (ℕ × KeptSubvolume)). keys_of table) (sym snapshots-same)
 
 pub record IsPlanned (old new : Kept) (before after : History) (bytes left : ℕ) (trees : List Root)
     (counts : List Counters) (plan : Plan) : Type 0 where

@@ -25,6 +25,7 @@ use Rattle.qg_kept.proofs.Trees.{entry-there, met-slot, nodes-laid, root-reached
 use Rattle.qg_kept.proofs.FsLawsKept.{counted, some_bytes, stands}
 use Rattle.qg_kept.specs.FsLawsCommitting.{IsRootNow}
 use Rattle.qg_kept.specs.declared.kept.Kept.{Kept}
+use Rattle.qg_kept.specs.declared.kept.KeptSubvolume.{KeptSubvolume}
 use Rattle.qg_kept_commit.specs.Committing.{AreRootsOf}
 use Rattle.qg_kept.specs.Keeping.{IsFitted, IsKept, IsKeptWith}
 use Rattle.qg_kept_commit.specs.Planning.{AreRootsBy, IsRootIn, IsRootOfOne, KnowsRoot, numbers_of}
@@ -34,51 +35,52 @@ use Rattle.qg_kept_commit.proofs.Cleaned.{tree-now}
 -- ---- one after the other
 
 -- ROOT_ITEMs of the first so many numbers
-pub record AreRootsFirst (kept : Kept) (trees : List Root) (snapshots : List (ℕ × ℕ)) (count : ℕ)
+pub record AreRootsFirst (kept : Kept) (trees : List Root) (snapshots : List (ℕ × KeptSubvolume)) (count : ℕ)
     (roots : List (ℕ × RootItem)) : Type 0 where
   pub numbers : keys_of roots ≡ take count (keys_of snapshots)
   pub each : All (IsRootOfOne kept trees snapshots) roots
 
-pub no-roots : (kept : Kept) (trees : List Root) (snapshots : List (ℕ × ℕ))
+pub no-roots : (kept : Kept) (trees : List Root) (snapshots : List (ℕ × KeptSubvolume))
     → AreRootsFirst kept trees snapshots 0 []
 no-roots kept trees snapshots =
     record { numbers = refl; each = All-nil (IsRootOfOne kept trees snapshots) }
 
-keys_more : (snapshots : List (ℕ × ℕ)) (i : ℕ) (entry : ℕ × ℕ) → i < length snapshots → entry ≡ get_or snapshots i entry
+keys_more : (snapshots : List (ℕ × KeptSubvolume)) (i : ℕ) (entry : ℕ × KeptSubvolume) → i < length snapshots
+    → entry ≡ get_or snapshots i entry
     → take (i + 1) (keys_of snapshots) ≡ take i (keys_of snapshots) ++ entry.0 ∷ []
 keys_more snapshots i entry inside is =
-    let long = length-map snapshots (λ (e : ℕ × ℕ). e.0) in
-    let here = get_or-map (λ (e : ℕ × ℕ). e.0) snapshots i entry entry.0 inside in
+    let long = length-map snapshots (λ (e : ℕ × KeptSubvolume). e.0) in
+    let here = get_or-map (λ (e : ℕ × KeptSubvolume). e.0) snapshots i entry entry.0 inside in
     take_more (keys_of snapshots) i entry.0 (omega (arith, long, inside))
-    ∙ ap (λ (n : ℕ). take i (keys_of snapshots) ++ n ∷ []) (here ∙ ap (λ (e : ℕ × ℕ). e.0) (sym is))
+    ∙ ap (λ (n : ℕ). take i (keys_of snapshots) ++ n ∷ []) (here ∙ ap (λ (e : ℕ × KeptSubvolume). e.0) (sym is))
 
 -- the number of the tree in the same place
-pub number-there : (trees : List Root) (snapshots : List (ℕ × ℕ)) (i : ℕ) (entry : ℕ × ℕ) (tree : Root)
-    → numbers_of trees ≡ keys_of snapshots → i < length snapshots → entry ≡ get_or snapshots i entry
+pub number-there : (trees : List Root) (snapshots : List (ℕ × KeptSubvolume)) (i : ℕ) (entry : ℕ × KeptSubvolume)
+    (tree : Root) → numbers_of trees ≡ keys_of snapshots → i < length snapshots → entry ≡ get_or snapshots i entry
     → tree ≡ get_or trees i tree → tree.owner ≡ entry.0
 number-there trees snapshots i entry tree same inside is own =
     let many = ap (λ (ns : List ℕ). length ns) same in
     let mine = length-map trees (λ (t : Root). t.owner) in
-    let theirs = length-map snapshots (λ (e : ℕ × ℕ). e.0) in
+    let theirs = length-map snapshots (λ (e : ℕ × KeptSubvolume). e.0) in
     let within : i < length trees = omega (arith, many, mine, theirs, inside) in
     let here = get_or-map (λ (t : Root). t.owner) trees i tree 0 within in
-    let there = get_or-map (λ (e : ℕ × ℕ). e.0) snapshots i entry 0 inside in
+    let there = get_or-map (λ (e : ℕ × KeptSubvolume). e.0) snapshots i entry 0 inside in
     ap (λ (t : Root). t.owner) own ∙ sym here ∙ ap (λ (ns : List ℕ). get_or ns i 0) same ∙ there
-    ∙ ap (λ (e : ℕ × ℕ). e.0) (sym is)
+    ∙ ap (λ (e : ℕ × KeptSubvolume). e.0) (sym is)
 
-pub lockstep-within : (trees : List Root) (snapshots : List (ℕ × ℕ)) (i : ℕ)
+pub lockstep-within : (trees : List Root) (snapshots : List (ℕ × KeptSubvolume)) (i : ℕ)
     → numbers_of trees ≡ keys_of snapshots → i < length snapshots → i < length trees
 lockstep-within trees snapshots i same inside =
     let many = ap (λ (ns : List ℕ). length ns) same in
     let mine = length-map trees (λ (t : Root). t.owner) in
-    let theirs = length-map snapshots (λ (e : ℕ × ℕ). e.0) in
+    let theirs = length-map snapshots (λ (e : ℕ × KeptSubvolume). e.0) in
     omega (arith, many, mine, theirs, inside)
 
-pub more-roots : (kept : Kept) (trees : List Root) (snapshots : List (ℕ × ℕ)) (i : ℕ)
-    (roots new : List (ℕ × RootItem)) (entry : ℕ × ℕ) (tree : Root) (root : RootItem)
+pub more-roots : (kept : Kept) (trees : List Root) (snapshots : List (ℕ × KeptSubvolume)) (i : ℕ)
+    (roots new : List (ℕ × RootItem)) (entry : ℕ × KeptSubvolume) (tree : Root) (root : RootItem)
     → numbers_of trees ≡ keys_of snapshots → i < length snapshots → entry ≡ get_or snapshots i entry
     → tree ≡ get_or trees i tree → AreRootsFirst kept trees snapshots i roots
-    → IsRootIn kept.fs.refs.refs tree entry.1 root → new ≡ roots ++ (entry.0, root) ∷ []
+    → IsRootIn kept.fs.refs.refs tree entry.1.last_snapshot root → new ≡ roots ++ (entry.0, root) ∷ []
     → AreRootsFirst kept trees snapshots (i + 1) new
 more-roots kept trees snapshots i roots new entry tree root same inside is own before of_tree put =
     subst (λ (list : List (ℕ × RootItem)). AreRootsFirst kept trees snapshots (i + 1) list) (sym put) (record {
@@ -90,17 +92,19 @@ more-roots kept trees snapshots i roots new entry tree root same inside is own b
             among = subst (λ (t : Root). Contains trees t) (sym own)
                 (Contains-get_or trees i tree (lockstep-within trees snapshots i same inside));
             snapshot = entry;
-            there = subst (λ (e : ℕ × ℕ). Contains snapshots e) (sym is) (Contains-get_or snapshots i entry inside);
+            there = subst (λ (e : ℕ × KeptSubvolume). Contains snapshots e) (sym is)
+                (Contains-get_or snapshots i entry inside);
             number = number-there trees snapshots i entry tree same inside is own;
             same = refl;
             root = of_tree;
           }) (All-nil (IsRootOfOne kept trees snapshots)));
     })
 
-pub all-roots : (kept : Kept) (trees : List Root) (snapshots : List (ℕ × ℕ)) (i : ℕ) (roots : List (ℕ × RootItem))
-    → length snapshots ≤ i → AreRootsFirst kept trees snapshots i roots → AreRootsBy kept trees snapshots roots
+pub all-roots : (kept : Kept) (trees : List Root) (snapshots : List (ℕ × KeptSubvolume)) (i : ℕ)
+    (roots : List (ℕ × RootItem)) → length snapshots ≤ i → AreRootsFirst kept trees snapshots i roots
+    → AreRootsBy kept trees snapshots roots
 all-roots kept trees snapshots i roots past first =
-    let long = length-map snapshots (λ (e : ℕ × ℕ). e.0) in
+    let long = length-map snapshots (λ (e : ℕ × KeptSubvolume). e.0) in
     record {
       numbers = first.numbers ∙ take_all i (keys_of snapshots) (omega (arith, long, past));
       each = first.each;
@@ -119,9 +123,9 @@ roots-of kept trees roots fits moved up are = record { numbers = are.numbers; ea
       (subst (λ (n : ℕ). IsRootIn kept.fs.refs.refs other n root) before is) in
       record { what = there.what; known = there.known; root_is = there.root_is }
 
-  each : (tree : Root) (snapshot : ℕ) (root : RootItem) → Contains (trees_of kept.fs) tree
+  each : (tree : Root) (snapshot : KeptSubvolume) (root : RootItem) → Contains (trees_of kept.fs) tree
       → value_at tree.owner kept.snapshots ≡ Some snapshot → value_at tree.owner roots ≡ Some root
-      → IsRootNow kept.fs tree snapshot root
+      → IsRootNow kept.fs tree snapshot.last_snapshot root
   each tree snapshot root among there named_so =
       let one = All-contains (IsRootOfOne kept trees kept.snapshots) roots (tree.owner, root) are.each
       (entry_of_value tree.owner root roots named_so) in
@@ -131,7 +135,8 @@ roots-of kept trees roots fits moved up are = record { numbers = are.numbers; ea
       let last : one.snapshot.1 ≡ snapshot =
       same_Some one.snapshot.1 snapshot
       (sym value ∙ ap (λ (n : ℕ). value_at n kept.snapshots) one.same ∙ there) in
-      of_one tree one.tree snapshot one.snapshot.1 root same last one.root
+      of_one tree one.tree snapshot.last_snapshot one.snapshot.1.last_snapshot root same
+      (ap (λ (k : KeptSubvolume). k.last_snapshot) last) one.root
 
 -- ---- a state
 

@@ -10,6 +10,8 @@ use Rattle.qg_items.specs.declared.root.RootItem.{RootItem}
 use Rattle.qg_super.specs.SuperText.{sizes_of}
 use Rattle.qg_image.specs.Table.{keys_of, value_at}
 use Rattle.qg_extents.specs.Table.{IsTable}
+use Rattle.qg_super.specs.declared.sizes.Sizes.{Sizes}
+use Rattle.qg_blocks.specs.Stopping.{StopsForCause}
 use Rattle.qg_blocks.specs.Told.{IfBroken}
 use Rattle.qg_kept.specs.Calls.{MadeFront, unsure_calls}
 use Rattle.qg_descent.specs.Tree.{Root}
@@ -24,6 +26,7 @@ use Rattle.qg_kept.specs.FsLawsKeeping.{quota_laid}
 use Rattle.qg_kept.specs.FsLawsCommitting.{IsInOrder, IsRootNow}
 use Rattle.qg_kept_commit.specs.declared.planning.Plan.{Plan}
 use Rattle.qg_kept.specs.declared.kept.Kept.{Kept}
+use Rattle.qg_kept.specs.declared.kept.KeptSubvolume.{KeptSubvolume}
 use Rattle.qg_kept.specs.Keeping.{KnowsNoLater, commit_need}
 
 -- ---- what a commit tells
@@ -31,9 +34,9 @@ use Rattle.qg_kept.specs.Keeping.{KnowsNoLater, commit_need}
 -- ROOT_ITEMs are those of the subvolumes, by number, each that of its tree
 pub record AreRootsOf (kept : Kept) (roots : List (ℕ × RootItem)) : Type 0 where
   pub numbers : keys_of roots ≡ keys_of kept.snapshots
-  pub each : (tree : Root) (snapshot : ℕ) (root : RootItem) → Contains (trees_of kept.fs) tree
+  pub each : (tree : Root) (snapshot : KeptSubvolume) (root : RootItem) → Contains (trees_of kept.fs) tree
       → value_at tree.owner kept.snapshots ≡ Some snapshot → value_at tree.owner roots ≡ Some root
-      → IsRootNow kept.fs tree snapshot root
+      → IsRootNow kept.fs tree snapshot.last_snapshot root
 
 -- what a commit of what is kept tells besides the references, where these are the groups' counters, and slots that are
 -- as many as it may take and free
@@ -60,11 +63,13 @@ pub record LaysSoFar (kept : Kept) (plan : Plan) (events : List Event) (history 
   pub laid : IsLaidBy kept plan trees
   pub made : MadeFront (unsure_calls trees.superblock (nodes_written kept.fs.land.blocks.draft trees)) events history
 
--- A commit that did not end has done nothing to the disk where a rule was found broken, and where memory was refused
--- though the disk takes none: what a commit itself needs of memory is there before its first call.
-pub record StopsIntact {A : Type 0} (takes_memory : Bool) (result : Result A BlockFault) (before after : History)
-    : Type 0 where
+-- A commit that did not end has done nothing to the disk where a rule was named, for a cause over a disk of so many
+-- bytes, and where memory was refused though the disk takes none: what a commit itself needs of memory is there before
+-- its first call.
+pub record StopsIntact {A : Type 0} (takes_memory : Bool) (result : Result A BlockFault) (sizes : Sizes) (bytes : ℕ)
+    (before after : History) : Type 0 where
   pub broken : IfBroken result (after ≡ before)
+  pub cause : StopsForCause result sizes bytes
   pub refused : takes_memory ≡ false → IsErrOf result NoMemory → after ≡ before
 
 -- ---- what it leaves

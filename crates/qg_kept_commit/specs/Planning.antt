@@ -26,6 +26,7 @@ use Rattle.qg_groups.specs.Tracked.{SameButCounts, quota_of}
 use Rattle.qg_kept.specs.FsLawsKeeping.{AreDueCounters}
 use Rattle.qg_kept.specs.FsLawsCommitting.{root_made}
 use Rattle.qg_kept.specs.declared.kept.Kept.{Kept}
+use Rattle.qg_kept.specs.declared.kept.KeptSubvolume.{KeptSubvolume}
 use Rattle.qg_kept_commit.specs.declared.planning.Plan.{Plan}
 use Rattle.qg_kept_commit.specs.Committing.{IsPlanOf}
 use Rattle.qg_kept.specs.Keeping.{IsKeptOf, commit_need}
@@ -82,20 +83,20 @@ pub record IsRootIn (book : List (ℕ × Reference)) (tree : Root) (last_snapsho
 abbrev pub KnowsRoot : List (ℕ × Reference) → Root → Type 0
 KnowsRoot book tree = what_in (book_of book tree.address) ≡ None → ⊥
 
--- a ROOT_ITEM is that of one of some trees, by the snapshot of its number
-pub record IsRootOfOne (kept : Kept) (trees : List Root) (snapshots : List (ℕ × ℕ)) (entry : ℕ × RootItem) : Type 0
-  where
-    pub tree : Root
-    pub among : Contains trees tree
-    pub snapshot : ℕ × ℕ
-    pub there : Contains snapshots snapshot
-    pub number : tree.owner ≡ entry.0
-    pub same : snapshot.0 ≡ entry.0
-    pub root : IsRootIn kept.fs.refs.refs tree snapshot.1 entry.1
+-- a ROOT_ITEM is that of one of some trees, by what is kept of its number
+pub record IsRootOfOne (kept : Kept) (trees : List Root) (snapshots : List (ℕ × KeptSubvolume))
+    (entry : ℕ × RootItem) : Type 0 where
+  pub tree : Root
+  pub among : Contains trees tree
+  pub snapshot : ℕ × KeptSubvolume
+  pub there : Contains snapshots snapshot
+  pub number : tree.owner ≡ entry.0
+  pub same : snapshot.0 ≡ entry.0
+  pub root : IsRootIn kept.fs.refs.refs tree snapshot.1.last_snapshot entry.1
 
 -- there is one for each number, in the order of these, and each is that of a tree
-pub record AreRootsBy (kept : Kept) (trees : List Root) (snapshots : List (ℕ × ℕ)) (roots : List (ℕ × RootItem))
-    : Type 0 where
+pub record AreRootsBy (kept : Kept) (trees : List Root) (snapshots : List (ℕ × KeptSubvolume))
+    (roots : List (ℕ × RootItem)) : Type 0 where
   pub numbers : keys_of roots ≡ keys_of snapshots
   pub each : All (IsRootOfOne kept trees snapshots) roots
 

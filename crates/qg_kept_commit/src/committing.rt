@@ -62,7 +62,8 @@ pub fn commit<D: Disk, L: Ledger>(
         (D.size disk.old) (D.size disk.new) }
     ensures refused { IfOk result (λ answer. IsTrue (is_unchanging answer) → HasLooked kept.old kept.new
         (D.history disk.old) (D.history disk.new) (D.size disk.old) (D.size disk.new)) }
-    ensures intact { StopsIntact D.takes_memory result (D.history disk.old) (D.history disk.new) }
+    ensures intact { StopsIntact D.takes_memory result kept.old.fs.land.blocks.draft.sizes (D.size disk.old)
+        (D.history disk.old) (D.history disk.new) }
     ensures err { IfErr result
         (λ fault. StaysLast StopsPending kept.old kept.new (D.history disk.old) (D.history disk.new)) }
     ensures sizes { (sizes_of kept.new.superblock ≡ sizes_of kept.old.superblock)
@@ -106,7 +107,8 @@ pub fn commit_now<D: Disk, L: Ledger>(
         → IsKeptWith kept.old state (D.history disk.old) names
         → commit_need kept.old ≤ free_slots kept.old.fs.land.space → D.history disk.old ≡ Recorded events
         → BreaksNone result }
-    ensures intact { StopsIntact D.takes_memory result (D.history disk.old) (D.history disk.new) }
+    ensures intact { StopsIntact D.takes_memory result kept.old.fs.land.blocks.draft.sizes (D.size disk.old)
+        (D.history disk.old) (D.history disk.new) }
     ensures leaves { OnOk result (LeavesOver kept.old kept.new (D.history disk.old) (D.history disk.new)) }
     ensures err { IfErr result (λ fault. kept.new.superblock ≡ kept.old.superblock) }
     ensures sizes { (sizes_of kept.new.superblock ≡ sizes_of kept.old.superblock)

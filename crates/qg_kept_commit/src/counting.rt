@@ -8,6 +8,7 @@ ghost use Rattle.qg_image.specs.declared.quota.Quota.{Quota};
 ghost use Rattle.qg_image.specs.Members.{hierarchy_of, level_of_group};
 ghost use Rattle.qg_image.specs.Record.{Record};
 ghost use Rattle.qg_image.specs.State.{State, layout_of};
+ghost use Rattle.qg_blocks.specs.Stopping.{StopsForCause};
 ghost use Rattle.qg_blocks.specs.Told.{BreaksNone};
 ghost use Rattle.qg_direct.specs.Direct.{AreGroupCounts};
 ghost use Rattle.qg_direct.specs.Surveyed.{surveyed_of};
@@ -54,6 +55,7 @@ pub(crate) fn counts_now<D: Disk, L: Ledger>(
     ensures kept { IsKept kept.new (D.history disk.new) (D.size disk.new) }
     ensures looked { HasSurveyed kept.old kept.new (D.history disk.old) (D.history disk.new) (D.size disk.old)
         (D.size disk.new) }
+    ensures stops { StopsForCause result kept.old.fs.land.blocks.draft.sizes (D.size disk.old) }
     ensures cause { HasCause BlockFault.Disk (D.faults disk.old) (D.faults disk.new) result }
 {
     // A proof knows that slots and runs are in order once they were counted.

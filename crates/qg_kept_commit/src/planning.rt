@@ -7,6 +7,7 @@ ghost use Rattle.qg_num.specs.declared.rule.Rule.TheVariants.{Refs};
 ghost use Rattle.qg_image.specs.Table.{keys_of};
 ghost use Rattle.qg_image.specs.Record.{Record};
 ghost use Rattle.qg_image.specs.State.{State};
+ghost use Rattle.qg_blocks.specs.Stopping.{NamesRule, StopsForCause};
 ghost use Rattle.qg_blocks.specs.Told.{BreaksAt, BreaksNone};
 ghost use Rattle.qg_extents.specs.Table.{IsTable};
 ghost use Rattle.qg_space.specs.Holding.{free_slots};
@@ -31,7 +32,7 @@ use qg_disk::Disk;
 use qg_extents::Extents;
 use qg_image::Quota;
 use qg_items::RootItem;
-use qg_kept::{Kept, commit_need};
+use qg_kept::{Kept, KeptSubvolume, commit_need};
 use qg_num::{Address, BlockFault, Generation, RootId, Rule, Sequence, Steps};
 use std::sync::ledger::Ledger;
 
@@ -65,6 +66,7 @@ pub(crate) fn plan_of<D: Disk, L: Ledger>(
     ensures kept { IsKept kept.new (D.history disk.new) (D.size disk.new) }
     ensures looked { HasSurveyed kept.old kept.new (D.history disk.old) (D.history disk.new) (D.size disk.old)
         (D.size disk.new) }
+    ensures stops { StopsForCause result kept.old.fs.land.blocks.draft.sizes (D.size disk.old) }
     ensures cause { HasCause BlockFault.Disk (D.faults disk.old) (D.faults disk.new) result }
 {
     let _ascending = kept.fs.refs.refs().len();
@@ -91,17 +93,18 @@ pub(crate) fn plan_of<D: Disk, L: Ledger>(
 fn roots_now(
     kept: &Kept,
     trees: &[Tree],
-    snapshots: &[(RootId, Generation)],
+    snapshots: &[(RootId, KeptSubvolume)],
 ) -> Result<Sequence<(RootId, RootItem)>, BlockFault>
     requires lockstep { numbers_of trees.now ≡ keys_of snapshots.now }
     ensures roots { IfOk result (λ roots. AreRootsBy kept.now trees.now snapshots.now roots) }
     ensures sound { ((tree : Root) → Contains trees.now tree → KnowsRoot kept.now.fs.refs.refs tree)
         → BreaksNone result }
+    ensures refs { NamesRule result Refs }
     ensures apart { IfErr result (λ fault. fault ≡ BlockFault.Disk → ⊥) }
 {
     let mut roots = Sequence::new(kept.alloc);
     for (i, entry) in snapshots.iter().enumerate() {
-        let root = root_now(kept.fs.refs.refs(), &trees[i], entry.1)?;
+        let root = root_now(kept.fs.refs.refs(), &trees[i], entry.1.last_snapshot)?;
         roots.push((entry.0, root))?;
     }
     Ok(roots)

@@ -7,6 +7,7 @@ ghost use Rattle.qg_num.specs.declared.fault.BlockFault.TheVariants.{Image};
 ghost use Rattle.qg_num.specs.declared.rule.Rule.TheVariants.{Refs};
 ghost use Rattle.qg_image.specs.Record.{Record};
 ghost use Rattle.qg_image.specs.State.{State};
+ghost use Rattle.qg_blocks.specs.Stopping.{StopsForCause};
 ghost use Rattle.qg_blocks.specs.Told.{BreaksNone};
 ghost use Rattle.qg_extents.specs.Table.{IsTable};
 ghost use Rattle.qg_direct.specs.Surveyed.{surveyed_of};
@@ -85,6 +86,7 @@ pub(crate) fn survey_all<D: Disk, L: Ledger>(
     ensures kept { IsKept kept.new (D.history disk.new) (D.size disk.new) }
     ensures looked { HasSurveyed kept.old kept.new (D.history disk.old) (D.history disk.new) (D.size disk.old)
         (D.size disk.new) }
+    ensures stops { StopsForCause result kept.old.fs.land.blocks.draft.sizes (D.size disk.old) }
     ensures cause { HasCause BlockFault.Disk (D.faults disk.old) (D.faults disk.new) result }
 {
     let _ascending = kept.fs.refs.refs().len();

@@ -8,7 +8,7 @@ use Rattle.qg_super.specs.Places.{is_slot}
 use Rattle.qg_image.specs.declared.file.File.{File}
 use Rattle.qg_image.specs.ItemMeaning.{file_part}
 use Rattle.qg_image.specs.Table.{keys_of}
-use Rattle.qg_image.specs.State.{State, Subvolume, layout_of}
+use Rattle.qg_image.specs.State.{State, Subvolume, blank_subvolume, layout_of, nothing_held}
 use Rattle.qg_image.specs.Reach.{pieces_of, reach_of_root, reach, owners}
 use Rattle.qg_image.specs.Space.{is_free_slot}
 use Rattle.qg_image.specs.ExamplesOfState.{state_of}
@@ -19,7 +19,7 @@ use Rattle.qg_machine.specs.Layout.{is_fixed, is_full_after, StaysAs, is_made_no
 -- ---- a snapshot, and then a write into its source
 
 abbrev pub subvolume : ℕ → List (ℕ × File) → Subvolume
-subvolume root files = record { files = files; root = root; last_snapshot = 3 }
+subvolume root files = record (blank_subvolume root) { files = files; last_snapshot = 3 }
 
 -- generation 3 has committed the snapshot 256 of subvolume 5: two roots, 1081344 and 1097728, above the same two leaves
 abbrev pub before : State
@@ -33,7 +33,7 @@ before = record (state_of
     ∷ [])
     [] []) {
       generation = 3;
-      held = record { nodes = 1048576 ∷ 1064960 ∷ 1081344 ∷ 1097728 ∷ []; others = []; extents = [] };
+      held = record nothing_held { nodes = 1048576 ∷ 1064960 ∷ 1081344 ∷ 1097728 ∷ [] };
     }
 
 -- subvolume 5 has written into its first file: the root and the first leaf are copied to 1114112 and 1130496
@@ -102,8 +102,7 @@ unfolding reach reach_of_root pieces_of file_part inode_read extent_data_read in
 old_leaf_stays = record { full = refl; maker = refl; fixed = λ fixed. refl }
 
 -- a node that another subvolume reaches is fixed, and so is one that the last commit holds; a copy is not
-shared_leaf_is_fixed : is_fixed (record before { held = record { nodes = []; others = []; extents = [] } }) 5 1064960
-    ≡ true
+shared_leaf_is_fixed : is_fixed (record before { held = nothing_held }) 5 1064960 ≡ true
 unfolding owners reach reach_of_root pieces_of file_part inode_read extent_data_read inode_text extent_data_text
     u64_bytes u16_bytes u64_at
 shared_leaf_is_fixed = refl

@@ -2,17 +2,18 @@
 -- changes. All numbers were worked out by hand.
 use Rattle.std.specs.Prelude.{◌≡◌, ℕ, true, false, List, [], ◌∷◌, ◌++◌, None, refl}
 use Rattle.qg_num.specs.Fields.{u64_bytes, u16_bytes, u64_at}
+use Rattle.qg_num.specs.declared.command.Command.TheVariants.{Write}
 use Rattle.qg_num.specs.declared.counters.Counters.{Counters}
 use Rattle.qg_items.specs.ItemText.{inode_text, extent_data_text}
 use Rattle.qg_items.specs.ItemReading.{inode_read, extent_data_read}
 use Rattle.qg_items.specs.declared.extent.Reference.TheVariants.{KeyedData}
 use Rattle.qg_image.specs.ItemMeaning.{file_part}
 use Rattle.qg_image.specs.declared.element.Element.{Element}
-use Rattle.qg_image.specs.State.{State, layout_of}
+use Rattle.qg_image.specs.State.{Accepted, State, layout_of}
 use Rattle.qg_image.specs.Reach.{pieces_of, reach_of_root, reach}
 use Rattle.qg_image.specs.Members.{Hierarchy, leads, is_below, members}
 use Rattle.qg_image.specs.Counts.{reach_of_group, is_reached_outside, referenced, exclusive}
-use Rattle.qg_image.specs.Owed.{owed_by_node, owed, owed_count}
+use Rattle.qg_image.specs.Owed.{layout_extents, owed_by_node, owed, owed_count}
 use Rattle.qg_image.specs.Need.{held_records}
 use Rattle.qg_image.specs.ExamplesOfState.{state_of, groups_of, fresh, fresh-records, snapshot, diamond}
 use Rattle.qg_image.specs.ExamplesOfState.{one_one, one_two, two_one, piece, piece_item}
@@ -21,7 +22,9 @@ use Rattle.qg_machine.specs.FileChange.{FileChange}
 use Rattle.qg_machine.specs.GroupChange.{groups_changed}
 use Rattle.qg_machine.specs.Near.{references_owed, references_held, nodes_above, is_near_node, near_nodes}
 use Rattle.qg_machine.specs.Near.{is_near_item, near, near_by}
+use Rattle.qg_machine.specs.Step.{accepted, with_change}
 use Rattle.qg_machine.specs.Touched.{tree_items, nodes_only_in, owing_changed, addresses_owed, touched}
+use Rattle.qg_machine.specs.Work.{reads_of_look_up}
 use Rattle.qg_machine.specs.Quick.{have_same_groups, is_root_alone, is_quick_snapshot, are_disjoint}
 use Rattle.qg_machine.specs.Quick.{is_quick_assignment}
 use Rattle.qg_machine.specs.ExamplesOfCopies.{subvolume, before, after}
@@ -105,6 +108,29 @@ held_root-references : references_held fresh.held 1097728 ≡ 1
 unfolding references_held
 held_root-references = rw fresh-records refl
 
+-- ---- how many nodes a look-up may ask for
+
+-- 64, and 64 for each of the six that lie near the leaf
+shared_leaf-look_up : reads_of_look_up shared_leaves 1048576 ≡ 448
+unfolding reads_of_look_up near_by nodes_above near_nodes is_near_node references_owed references_held held_records
+    owed owed_by_node reach reach_of_root pieces_of file_part inode_read extent_data_read inode_text extent_data_text
+    u64_bytes u16_bytes u64_at
+shared_leaf-look_up = refl
+
+-- and of the nine near the extent, whose length is told by the piece that names it
+shared_extent-look_up : reads_of_look_up shared_leaves 67174400 ≡ 640
+unfolding reads_of_look_up layout_extents near_by nodes_above near_nodes is_near_node references_owed references_held
+    held_records owed owed_by_node reach reach_of_root pieces_of file_part inode_read extent_data_read inode_text
+    extent_data_text u64_bytes u16_bytes u64_at
+shared_extent-look_up = refl
+
+-- where nothing begins, within the extent
+nothing-look_up : reads_of_look_up shared_leaves 67178496 ≡ 64
+unfolding reads_of_look_up layout_extents near_by nodes_above near_nodes is_near_node references_owed references_held
+    held_records owed owed_by_node reach reach_of_root pieces_of file_part inode_read extent_data_read inode_text
+    extent_data_text u64_bytes u16_bytes u64_at
+nothing-look_up = refl
+
 -- ---- a write into the source of a snapshot
 
 -- the piece that the write meets, in subvolume 5
@@ -137,6 +163,20 @@ unfolding touched tree_items nodes_only_in owing_changed addresses_owed referenc
     owed_count owed owed_by_node reach reach_of_root pieces_of file_part inode_read extent_data_read inode_text
     extent_data_text u64_bytes u16_bytes u64_at
 write-touched = refl
+
+-- the write as it is pending, whose layout is the one after it
+abbrev pub pending_write : Accepted
+pending_write = accepted before (Write 5 257 0 4096) write (layout_of (with_change before write 1114112 after.layout))
+
+pending_write-touched : pending_write.touched ≡ 18
+unfolding touched tree_items nodes_only_in owing_changed addresses_owed references_owed references_held held_records
+    owed_count owed owed_by_node reach reach_of_root pieces_of file_part inode_read extent_data_read inode_text
+    extent_data_text u64_bytes u16_bytes u64_at
+pending_write-touched = refl
+
+-- the root's level is 1, and 1 piece is met: 3 · (1 + 2) · (1 + 3)
+pending_write-copies : pending_write.copies ≡ 36
+pending_write-copies = refl
 
 -- ---- a snapshot of 0/5, which a diamond of groups leads to 2/1
 

@@ -8,7 +8,7 @@ use Rattle.qg_num.specs.declared.counters.Which.TheVariants.{Rfer, Excl}
 use Rattle.qg_image.specs.Table.{value_at, with_value, without_key}
 use Rattle.qg_image.specs.declared.quota.Quota.{Quota}
 use Rattle.qg_image.specs.declared.quota.Group.{Group}
-use Rattle.qg_image.specs.State.{Layout}
+use Rattle.qg_image.specs.State.{Layout, blank_quota}
 use Rattle.qg_image.specs.Counts.{due_counters}
 
 -- a group that is made in this generation: nothing counted, no limit
@@ -54,7 +54,7 @@ unassigned member parent quota =
 
 -- the group goes, and with it its relations to its parents
 abbrev pub destroyed : ℕ → Quota → Quota
-destroyed group quota = record {
+destroyed group quota = record quota {
   groups = without_key group quota.groups;
   pairs = filter (λ pair. not (pair.0 == group)) quota.pairs;
 }
@@ -85,9 +85,9 @@ inherited generation source copy parents quota =
     fold (λ made parent. assigned copy parent made)
     (with_group copy (limits_of generation (value_at source quota.groups)) quota) parents
 
--- quota as it is turned on: a group for each subvolume
+-- quota as it is turned on: a group for each subvolume, whether it lives or not
 abbrev pub quota_for : ℕ → List ℕ → Quota
-quota_for generation subvolumes = record { groups = map (λ sub. (sub, new_group generation)) subvolumes; pairs = [] }
+quota_for generation subvolumes = record blank_quota { groups = map (λ sub. (sub, new_group generation)) subvolumes }
 
 -- ---- counting
 

@@ -12,7 +12,7 @@ use Rattle.qg_node.specs.Fits.{NodeFits}
 use Rattle.qg_super.specs.declared.superblock.Super.{Super}
 use Rattle.qg_super.specs.Places.{is_slot}
 use Rattle.qg_image.specs.Table.{value_at, has_key, keys_of}
-use Rattle.qg_image.specs.FilesOf.{files_of}
+use Rattle.qg_image.specs.FilesOf.{AreItemsOfFiles}
 use Rattle.qg_image.specs.State.{State, Subvolume, Placed, layout_of, node_at, next_generation}
 use Rattle.qg_image.specs.Reach.{level_of, reaches, is_reached, owners}
 use Rattle.qg_image.specs.Space.{is_free_slot}
@@ -49,7 +49,7 @@ pub record IsTreeOf (state : State) (subvolume : Subvolume) : Type 0 where
       items_under Files (super_to_come state) (found_in state.layout) (level_of (node_at state.layout subvolume.root))
       (root_expected None None) subvolume.root
       ≡ Some items
-  pub files : files_of (next_generation state) items ≡ Some subvolume.files
+  pub files : AreItemsOfFiles (next_generation state) items subvolume.files
 
 -- a node of the layout is one of the format, its numbers fit their fields, it stands under its address, and some
 -- subvolume reaches it

@@ -8,6 +8,7 @@ pub mod Layout
 pub mod Written
 pub mod Near
 pub mod Touched
+pub mod Work
 pub mod Quick
 pub mod Step
 pub mod Run

@@ -9,12 +9,13 @@ use Rattle.qg_num.specs.declared.command.Command.TheVariants as command
 use Rattle.qg_num.specs.declared.refusal.Refusal.{Refusal}
 use Rattle.qg_num.specs.declared.refusal.Refusal.TheVariants as why
 use Rattle.qg_items.specs.declared.tree.TheConstants.{TOP_LEVEL}
-use Rattle.qg_image.specs.Table.{has_key, value_at, with_value, keys_of}
+use Rattle.qg_image.specs.Table.{has_key, with_value, keys_of}
 use Rattle.qg_image.specs.ItemMeaning.{some_passes, first_some}
 use Rattle.qg_image.specs.declared.file.File.{File}
 use Rattle.qg_image.specs.FilesOf.{largest_size, is_aligned}
 use Rattle.qg_image.specs.declared.quota.Quota.{Quota}
-use Rattle.qg_image.specs.State.{State, Subvolume, layout_of, has_subvolume, file_at, node_at, is_quota_on}
+use Rattle.qg_image.specs.State.{State, Subvolume, layout_of, has_subvolume, file_at, node_at, is_quota_on, is_live}
+use Rattle.qg_image.specs.State.{live_subvolume, live_subvolumes, subvolume_numbers}
 use Rattle.qg_image.specs.Reach.{level_of, reach, distinct}
 use Rattle.qg_image.specs.Members.{level_of_group, next_subvolume}
 use Rattle.qg_image.specs.Limits.{over}
@@ -30,9 +31,9 @@ refuse test refusal = then_some test refusal
 
 -- ---- subvolumes and files
 
--- the subvolume isn't there
+-- there is no such live subvolume
 abbrev pub no_sub : State → ℕ → Option Refusal
-no_sub state sub = refuse (not (has_subvolume state sub)) why.NoSub
+no_sub state sub = refuse (not (is_live state sub)) why.NoSub
 
 -- the subvolume has no such file
 abbrev pub no_file : State → ℕ → ℕ → Option Refusal
@@ -79,9 +80,9 @@ pairs_of state = pairs_told state.quota where
   pairs_told None = []
   pairs_told (Some quota) = quota.pairs
 
--- the number that the next subvolume gets
+-- the number that the next subvolume gets, which no other has, whether it lives or not
 abbrev pub number_to_come : State → ℕ
-number_to_come state = next_subvolume (keys_of state.subvolumes) (groups_of state)
+number_to_come state = next_subvolume (subvolume_numbers state) (groups_of state)
 
 -- one subvolume more, with its group and so many relations, would pass a limit
 abbrev pub too_many_subvolumes : State → ℕ → Option Refusal
@@ -122,17 +123,17 @@ no_parents state earlier (group ∷ groups) = first_some
 
 -- ---- need of slots
 
--- a state with other files of a subvolume
+-- a state with other files of a live subvolume
 abbrev pub with_files : State → ℕ → List (ℕ × File) → State
-with_files state sub files = changed (value_at sub state.subvolumes) where
+with_files state sub files = changed (live_subvolume state sub) where
   changed : Option Subvolume → State
   changed None = state
   changed (Some subvolume) =
       record state { subvolumes = with_value sub (record subvolume { files = files }) state.subvolumes }
 
--- the level of a subvolume's root node
+-- the level of a live subvolume's root node
 abbrev pub root_level : State → ℕ → ℕ
-root_level state sub = level_told (value_at sub state.subvolumes) where
+root_level state sub = level_told (live_subvolume state sub) where
   level_told : Option Subvolume → ℕ
   level_told None = 0
   level_told (Some subvolume) = level_of (node_at state.layout subvolume.root)
@@ -163,7 +164,7 @@ nodes_reached state sub =
 abbrev pub structural_copies : State → Command → ℕ
 structural_copies state (command.Delete sub) = 18 + nodes_reached state sub
 structural_copies state (command.Snap sub groups) = 18 + length groups
-structural_copies state command.QuotaOn = 18 + length state.subvolumes
+structural_copies state command.QuotaOn = 18 + length (live_subvolumes state)
 structural_copies state _ = 18
 
 -- ---- commits

@@ -11,11 +11,12 @@ use Rattle.qg_num.specs.declared.command.Command.{Command}
 use Rattle.qg_num.specs.declared.command.Command.TheVariants as command
 use Rattle.qg_node.specs.declared.node.Node.{Node}
 use Rattle.qg_node.specs.declared.node.Node.TheVariants.{Leaf, Inner}
-use Rattle.qg_image.specs.Table.{value_at, with_value, without_key, keys_of}
+use Rattle.qg_image.specs.Table.{with_value, without_key}
 use Rattle.qg_image.specs.declared.file.File.{File}
 use Rattle.qg_image.specs.declared.quota.Group.{Group}
 use Rattle.qg_image.specs.declared.quota.Quota.{Quota}
-use Rattle.qg_image.specs.State.{State, Subvolume, Placed, Accepted, layout_of, next_generation, node_at, file_at}
+use Rattle.qg_image.specs.State.{State, Subvolume, Placed, Accepted, blank_subvolume, layout_of, next_generation}
+use Rattle.qg_image.specs.State.{node_at, file_at, live_subvolume, subvolume_numbers, Layout}
 use Rattle.qg_image.specs.Reach.{owners, is_reached}
 use Rattle.qg_image.specs.Space.{is_free_slot, first_run}
 use Rattle.qg_image.specs.ImageState.{addresses_of, as_committed}
@@ -25,36 +26,40 @@ use Rattle.qg_machine.specs.GroupChange.{new_group, with_group, assigned, unassi
 use Rattle.qg_machine.specs.GroupChange.{quota_for, recounted}
 use Rattle.qg_machine.specs.Refusals.{refusal, is_pending, change_copies, change_need, number_to_come}
 use Rattle.qg_machine.specs.Layout.{CopiesOnWrite, LiesInOtherSlot, is_full_after}
+use Rattle.qg_machine.specs.Touched.{touched}
 
 -- ---- file commands
 
--- the subvolume with these files and this root
+-- the live subvolume with these files and this root
 abbrev pub with_tree : State → ℕ → List (ℕ × File) → ℕ → State
-with_tree state sub files root = changed (value_at sub state.subvolumes) where
+with_tree state sub files root = changed (live_subvolume state sub) where
   changed : Option Subvolume → State
   changed None = state
   changed (Some subvolume) =
       record state { subvolumes = with_value sub (record subvolume { files = files; root = root }) state.subvolumes }
 
--- the command, as it is pending; what it touched is said with the bounds on work
-abbrev pub accepted : State → Command → FileChange → ℕ → Accepted
-accepted state given change touched = record {
+-- the state with the files that a file command leaves, the subvolume's root there, and these nodes
+abbrev pub with_change : State → FileChange → ℕ → List (ℕ × Placed) → State
+with_change state change root nodes = record (with_tree state change.sub change.files root) { layout = nodes }
+
+-- the command, as it is pending: what it needed and what it may have copied of the state that it met, and what it
+-- touched between that and the layout after it
+abbrev pub accepted : State → Command → FileChange → Layout → Accepted
+accepted state given change after = record {
   command = given;
   sub = change.sub;
   amount = change.amount;
   need = change_need state change;
   copies = change_copies state change;
-  touched = touched;
+  touched = touched state change after;
 }
 
 -- a file command was done: the files change, the command is pending, and the layout follows by copy on write
 pub record ChangesFiles (old : State) (given : Command) (change : FileChange) (new : State) : Type 0 where
   pub root : ℕ
   pub layout : List (ℕ × Placed)
-  pub touched : ℕ
-  pub changed : new ≡ record (with_tree old change.sub change.files root) {
-    layout = layout;
-    pending = accepted old given change touched ∷ old.pending;
+  pub changed : new ≡ record (with_change old change root layout) {
+    pending = accepted old given change (layout_of (with_change old change root layout)) ∷ old.pending;
   }
   pub laid_out : CopiesOnWrite old new change.sub (change_copies old change)
 
@@ -109,22 +114,27 @@ pub record CreatesSubvolume (old : State) (sub : ℕ) (new : State) : Type 0 whe
   pub address : ℕ
   pub free : IsTrue (is_free_slot old address)
   pub created : new ≡ record old {
-    subvolumes = with_value sub (record { files = []; root = address; last_snapshot = 0 }) old.subvolumes;
+    subvolumes = with_value sub (blank_subvolume address) old.subvolumes;
     layout = with_value address (empty_leaf (next_generation old) sub address) old.layout;
     quota = option_map (with_group sub (new_group (next_generation old))) old.quota;
   }
 
--- a snapshot: one node in a free slot, with the items of the source's root, and a group with the source's limits and
--- these parents
+-- a subvolume's snapshot that a commit of this generation makes, whose root node lies at an address
+abbrev pub subvolume_copy : ℕ → Subvolume → ℕ → Subvolume
+subvolume_copy generation source address =
+    record (blank_subvolume address) { files = source.files; last_snapshot = generation }
+
+-- a snapshot of a live subvolume: one node in a free slot, with the items of the source's root, and a group with the
+-- source's limits and these parents
 pub record Snapshots (old : State) (sub : ℕ) (parents : List ℕ) (copy : ℕ) (new : State) : Type 0 where
   pub source : Subvolume
-  pub there : value_at sub old.subvolumes ≡ Some source
+  pub there : live_subvolume old sub ≡ Some source
   pub root : Node
   pub root_there : node_at old.layout source.root ≡ Some root
   pub address : ℕ
   pub free : IsTrue (is_free_slot old address)
   pub copied : new ≡ record old {
-    subvolumes = with_value copy (record { files = source.files; root = address; last_snapshot = next_generation old })
+    subvolumes = with_value copy (subvolume_copy (next_generation old) source address)
         (with_value sub (record source { last_snapshot = next_generation old }) old.subvolumes);
     layout = with_value address (record { node = copy_of (next_generation old) copy address root; full = false })
         old.layout;
@@ -157,7 +167,7 @@ Changes old (command.Snap sub parents) given new = (given ≡ answer.Sub (number
     × Snapshots old sub parents (number_to_come old) new
 Changes old (command.Delete sub) given new = (given ≡ answer.Done) × (new ≡ deleted old sub)
 Changes old command.QuotaOn given new = (given ≡ answer.Done)
-    × (new ≡ record old { quota = Some (quota_for (next_generation old) (keys_of old.subvolumes)) })
+    × (new ≡ record old { quota = Some (quota_for (next_generation old) (subvolume_numbers old)) })
 Changes old command.QuotaOff given new = (given ≡ answer.Done) × (new ≡ record old { quota = None })
 Changes old (command.GroupCreate group) given new = (given ≡ answer.Done)
     × (new ≡ with_quota old (with_group group (new_group (next_generation old))))

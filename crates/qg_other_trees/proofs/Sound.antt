@@ -20,7 +20,7 @@ use Rattle.qg_super.specs.Places.{first_place, is_served, second_place, total_by
 use Rattle.qg_super.specs.SuperText.{choose, sizes_of, super_read}
 use Rattle.qg_super.proofs.Served.{SuperFits-is_super}
 use Rattle.qg_super.proofs.SuperTexts.{super_writes_back}
-use Rattle.qg_image.specs.FilesOf.{are_files, file_parts, files_in, files_of, is_file_item}
+use Rattle.qg_image.specs.FilesOf.{are_files, file_parts, files_in, files_of, is_file_item, files_told, AreItemsOfFiles}
 use Rattle.qg_image.specs.ItemMeaning.{extent_part, quota_part, root_part}
 use Rattle.qg_image.specs.Table.{keys_of, value_at}
 use Rattle.qg_image.specs.declared.file.File.{File}
@@ -30,13 +30,13 @@ use Rattle.qg_image.specs.declared.quota.Quota.{Quota}
 use Rattle.qg_image.specs.declared.element.Element.{Element}
 use Rattle.qg_image.specs.Owed.{Agrees, agrees_at, disagreement, homeless}
 use Rattle.qg_image.specs.Space.{present_extents}
-use Rattle.qg_image.specs.State.{Layout, Placed, State, Subvolume, layout_of, next_generation}
+use Rattle.qg_image.specs.State.{Layout, Placed, State, Subvolume, layout_of, next_generation, blank_state}
 use Rattle.qg_image.specs.declared.failure.Failure.{Failure}
 use Rattle.qg_image.specs.declared.tree.Tree.TheVariants.{Extents, Files, Quotas, Roots}
 use Rattle.qg_image.specs.Failure.{first_failure, unless}
 use Rattle.qg_image.specs.ImageState.{as_committed, extent_parts, items_of_root, layout_in, nodes_of_root, of_tree}
 use Rattle.qg_image.specs.ImageState.{other_nodes, quota_in, quota_parts, quota_told, roots_in, state_in, subvolume_in}
-use Rattle.qg_image.specs.ImageState.{subvolume_roots, subvolumes_in, super_in, super_of, tree_nodes}
+use Rattle.qg_image.specs.ImageState.{subvolume_roots, subvolumes_in, super_in, super_of, tree_nodes, subvolume_told}
 use Rattle.qg_image.specs.OtherTrees.{subvolume_items, super_at}
 use Rattle.qg_image.specs.Verdict.{IsSound, are_few, are_roots, counts_failure, extent_set, is_quota, most_subvolumes}
 use Rattle.qg_image.specs.Verdict.{places_failure, quota_failure, references_failure, root_failure, roots_failure}
@@ -134,7 +134,7 @@ then_passes true false x y h = absurd cc
 then_passes false b x y h = absurd cc
 
 -- the parts of a subvolume's files fit each other
-files_fit : (generation : ℕ) (items : List Item) (files : List (ℕ × File)) → files_of generation items ≡ Some files
+files_fit : (generation : ℕ) (items : List Item) (files : List (ℕ × File)) → AreItemsOfFiles generation items files
     → are_files (file_parts items) ≡ true
 unfolding files_of
 files_fit generation items files h =
@@ -382,10 +382,10 @@ module _ (sizes : Sizes) (roots : List (ℕ × RootItem)) (book : List (ℕ × K
 
     own_in : subvolume_in super image named_root ≡ entry.1
     own_in =
-        let told : unwrap_or (files_of generation (items_of_root Files super image named_root)) [] ≡ entry.1.files =
-        ap (λ (items : List Item). unwrap_or (files_of generation items) []) file_tree.items_are
+        let told : files_told generation (items_of_root Files super image named_root) ≡ entry.1.files =
+        ap (λ (items : List Item). files_told generation items) file_tree.items_are
         ∙ ap (λ (files : Option (List (ℕ × File))). unwrap_or files []) tree.files in
-        λ i. record { files = told i; root = entry.1.root; last_snapshot = entry.1.last_snapshot }
+        ap (λ (files : List (ℕ × File)). subvolume_told files named_root) told
 
     one_passes : subvolume_failure super image named_root ≡ None
     one_passes =
@@ -455,20 +455,22 @@ module _ (sizes : Sizes) (roots : List (ℕ × RootItem)) (book : List (ℕ × K
   laid = others sizes generation roots book quota slots trees state differ are is
 
   abbrev now : List Node → List (ℕ × Subvolume) → List (ℕ × Placed) → Option Quota → State
-  now nodes subvolumes layout quota = as_committed nodes (record {
-    sizes = old.sizes;
+  now nodes subvolumes layout quota = as_committed nodes (record (blank_state old.sizes) {
     generation = generation;
     subvolumes = subvolumes;
     layout = layout;
     quota = quota;
-    pending = [];
-    held = record { nodes = []; others = []; extents = [] };
   })
 
   state_parts : state_in super image
       ≡ now (other_nodes super image) (subvolumes_in super image) (layout_in super image) (quota_in super image)
   unfolding state_in
   state_parts = refl
+
+  -- what the last commit held before is not asked
+  state_now : now laid old.subvolumes old.layout quota ≡ committed laid old quota
+  unfolding present_extents
+  state_now = refl
 
   state_same : state_in super image ≡ committed laid old quota
   state_same =
@@ -479,6 +481,7 @@ module _ (sizes : Sizes) (roots : List (ℕ × RootItem)) (book : List (ℕ × K
       subvolumes_are
       ∙ ap (λ (list : List (ℕ × Placed)). now laid old.subvolumes list (quota_in super image)) layout_same
       ∙ ap (λ (quota : Option Quota). now laid old.subvolumes old.layout quota) quota_same
+      ∙ state_now
 
   layout_now : layout_of (state_in super image) ≡ layout_of old
   layout_now = ap layout_of state_same

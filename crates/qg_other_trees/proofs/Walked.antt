@@ -15,7 +15,7 @@ use Rattle.qg_super.specs.declared.superblock.Super.{Super}
 use Rattle.qg_super.specs.Places.{is_slot}
 use Rattle.qg_super.specs.SuperText.{sizes_of}
 use Rattle.qg_image.specs.Below.{items_below, nodes_below}
-use Rattle.qg_image.specs.FilesOf.{files_of}
+use Rattle.qg_image.specs.FilesOf.{AreItemsOfFiles}
 use Rattle.qg_image.specs.Table.{value_at}
 use Rattle.qg_image.specs.State.{Placed, State, Subvolume, node_at}
 use Rattle.qg_image.specs.declared.failure.Failure.{Failure}
@@ -263,7 +263,7 @@ module _ (state : State) (super : Super) (image : List ℕ) (whole : IsWhole sta
       there = root_there state whole subvolume tree;
       items = tree.items;
       held = items_there state whole subvolume tree;
-      files = subst (λ (g : ℕ). files_of g tree.items ≡ Some subvolume.files) (sym comes.generation) tree.files;
+      files = subst (λ (g : ℕ). AreItemsOfFiles g tree.items subvolume.files) (sym comes.generation) tree.files;
       nodes = those;
       below = nodes_there state whole subvolume tree;
       walked = tree_in;

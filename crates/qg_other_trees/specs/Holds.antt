@@ -10,7 +10,7 @@ use Rattle.qg_super.specs.declared.superblock.Super.{Super}
 use Rattle.qg_super.specs.Places.{first_place, is_run, second_place, total_bytes}
 use Rattle.qg_super.specs.SuperText.{sizes_of}
 use Rattle.qg_image.specs.Below.{items_below, nodes_below}
-use Rattle.qg_image.specs.FilesOf.{files_of}
+use Rattle.qg_image.specs.FilesOf.{AreItemsOfFiles}
 use Rattle.qg_image.specs.Table.{value_at}
 use Rattle.qg_image.specs.declared.element.Element.{Element}
 use Rattle.qg_image.specs.Owed.{layout_extents}
@@ -60,7 +60,7 @@ pub record IsWalkedIn (state : State) (subvolume : Subvolume) (super : Super) (i
   pub items : List Item
   pub held : items_below (node_at state.layout) (level_of (node_at state.layout subvolume.root)) subvolume.root
       ≡ Some items
-  pub files : files_of super.generation items ≡ Some subvolume.files
+  pub files : AreItemsOfFiles super.generation items subvolume.files
   pub nodes : List Node
   pub below : nodes_below (node_at state.layout) (level_of (node_at state.layout subvolume.root)) subvolume.root
       ≡ Some nodes

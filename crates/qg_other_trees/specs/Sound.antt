@@ -20,14 +20,10 @@ use Rattle.qg_other_trees.specs.Telling.{AreToldBy}
 
 -- the state that a commit leaves of this one, where its quota is then this, and its other trees have these nodes
 abbrev pub committed : List Node → State → Option Quota → State
-committed others old quota = as_committed others (record {
-  sizes = old.sizes;
+committed others old quota = as_committed others (record old {
   generation = next_generation old;
-  subvolumes = old.subvolumes;
-  layout = old.layout;
   quota = quota;
   pending = [];
-  held = record { nodes = []; others = []; extents = [] };
 })
 
 -- an image with this superblock breaks none of the rules, one by one

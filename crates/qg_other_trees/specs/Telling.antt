@@ -13,7 +13,7 @@ use Rattle.qg_super.specs.declared.sizes.Sizes.{Sizes}
 use Rattle.qg_image.specs.Table.{value_at}
 use Rattle.qg_image.specs.declared.element.Element.{Element}
 use Rattle.qg_image.specs.declared.quota.Quota.{Quota}
-use Rattle.qg_image.specs.State.{Layout, Placed, State, Subvolume, layout_of, node_at}
+use Rattle.qg_image.specs.State.{Layout, Placed, State, Subvolume, layout_of, node_at, blank_quota}
 use Rattle.qg_image.specs.Owed.{is_nothing, layout_extents, owed_count, what_at}
 use Rattle.qg_image.specs.ImageState.{addresses_of}
 use Rattle.qg_image.specs.OtherTrees.{AreOtherTrees, subvolume_items}
@@ -53,9 +53,8 @@ pub record Knows (layout : Layout) (book : Book) : Type 0 where
 
 -- quota with one group, that of the top-level subvolume, which has these counters since a generation and no limit
 abbrev pub one_group : Counters → ℕ → Quota
-one_group counters stamp = record {
+one_group counters stamp = record blank_quota {
   groups = (TOP_LEVEL, record { counters = counters; max_rfer = None; max_excl = None; stamp = stamp }) ∷ [];
-  pairs = [];
 }
 
 -- a subvolume's root node stands in a layout

@@ -1,8 +1,6 @@
 pub mod Members
 pub mod Order
 pub mod ExtentSets
-pub mod InOrder
-pub mod Ascent
 pub mod Ascending
 pub mod SpaceRule
 pub mod SlotRule

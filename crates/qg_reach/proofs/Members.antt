@@ -1,10 +1,9 @@
 -- The elements of a list.
-use Rattle.std.proofs.Common.{◌≡◌, ℕ, List, [], ◌∷◌, map, eqb, sym, subst, inl, inr}
-use Rattle.std.specs.List.{AllByRecursion, Contains, dedup, flat_map}
+use Rattle.std.proofs.Common.{◌≡◌, List, [], ◌∷◌, map, sym, subst, inl, inr}
+use Rattle.std.specs.List.{AllByRecursion, Contains, flat_map}
 use Rattle.std.specs.List.Sorted.{IsPermutation}
 use Rattle.std.proofs.lemmas.List.Elements.{All-contains, All-from_recursion, Contains-append_left}
 use Rattle.std.proofs.lemmas.List.Elements.{Contains-append_right, Contains-append_cases}
-use Rattle.std.proofs.lemmas.List.Kept.{Contains-dedup_nat, Contains-from_dedup}
 use Rattle.std.proofs.lemmas.List.Sorted.{Contains-permutation, IsPermutation-sym}
 use Rattle.qg_image.proofs.Contained.{none_contained, contains_here, contains_later, contains_cases}
 use Rattle.qg_reach.specs.Sets.{HaveSame}
@@ -67,16 +66,4 @@ pub same_moved : {A : Type 0} (xs ys : List A) → IsPermutation xs ys → HaveS
 same_moved xs ys moved = record {
   into = λ x has. Contains-permutation xs ys x moved has;
   back = λ x has. Contains-permutation ys xs x (IsPermutation-sym xs ys moved) has;
-}
-
--- what is left of numbers in order, where equal ones were dropped
-pub same_once : (numbers read sorted once : List ℕ) → read ≡ numbers → IsPermutation read sorted
-    → once ≡ dedup eqb sorted → HaveSame once numbers
-same_once numbers read sorted once same moved is = record {
-  into = λ x has. subst (λ xs. Contains xs x) same
-      (Contains-permutation sorted read x (IsPermutation-sym read sorted moved)
-      (Contains-from_dedup eqb sorted x (subst (λ xs. Contains xs x) is has)));
-  back = λ x has. subst (λ xs. Contains xs x) (sym is)
-      (Contains-dedup_nat sorted x
-      (Contains-permutation read sorted x moved (subst (λ xs. Contains xs x) (sym same) has)));
 }

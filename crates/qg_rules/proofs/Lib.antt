@@ -1,4 +1,3 @@
-pub mod Kept
 pub mod Pieces
 pub mod Standing
 pub mod Reading

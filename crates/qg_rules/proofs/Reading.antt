@@ -1,10 +1,10 @@
 -- Reading files one after the other.
 use Rattle.std.proofs.Common.{◌≡◌, ℕ, ◌<◌, Bool, true, false, List, [], ◌∷◌, ◌++◌, map, refl, ap, sym, ◌∙◌, arith}
-use Rattle.std.proofs.Common.{append_assoc, length, subst}
+use Rattle.std.proofs.Common.{append_assoc, length}
 use Rattle.std.specs.Prelude.{◌&&◌, Some, None, is_some, ◌==◌}
 use Rattle.std.specs.Bool.{then_some}
 use Rattle.std.specs.List.{AllByRecursion, list_all}
-use Rattle.std.proofs.lemmas.Bool.{eq-eqb, eqb-false, eqb-true, ne_eqb, not-true}
+use Rattle.std.proofs.lemmas.Bool.{eq-eqb, eqb-true, ne_eqb}
 use Rattle.std.proofs.lemmas.List.{append-nil}
 use Rattle.std.proofs.lemmas.List.Elements.{filter_map-append}
 use Rattle.std.proofs.lemmas.List.Folds.{list_all-append}
@@ -17,9 +17,7 @@ use Rattle.qg_image.specs.declared.part.FilePart.{FilePart}
 use Rattle.qg_image.specs.declared.part.FilePart.TheVariants.{Inode, PieceOf}
 use Rattle.qg_image.specs.FilesOf.{are_files, file_in, files_in, inodes_in, is_inode, is_owned, piece_in, pieces_in}
 use Rattle.qg_parts.specs.Keys.{file_key}
-use Rattle.qg_rules.specs.Files.{file_told, is_file_of}
-use Rattle.qg_rules.specs.Parts.{kept_parts, starts_apart}
-use Rattle.qg_rules.specs.declared.parts.FileItems.{FileItems}
+use Rattle.qg_rules.specs.Files.{FileItems, file_told, is_file_of}
 use Rattle.qg_rules.proofs.Standing.{IsBehind, IsPieceOf, StartsOther, ino_of, all_behind, all_later, ascending-behind}
 use Rattle.qg_rules.proofs.Standing.{own_pieces, greater_others}
 
@@ -254,73 +252,6 @@ IsReading-more parts left files one others file is next told =
       told = is.told ∙ rw (next.stands, front_files one.ino one.inode (own_of one) others in_front, both.1)
           (sym (append_assoc files here (files_in others)));
     }
-
--- ---- what is kept of files, and what stands behind them
-
-others_apart : (one : FileItems) (files : List FileItems) (rest : List FilePart)
-    → starts_apart (one ∷ files) rest ≡ true → StartsOther one.ino (kept_parts files rest)
-others_apart one [] [] h = tt
-others_apart one [] (Inode other inode ∷ rest) h = absurd cc
-others_apart one [] (PieceOf other piece ∷ rest) h =
-    let apart : (other == one.ino) ≡ false =
-    ne_eqb other one.ino (λ same. eqb-false one.ino other (not-true (one.ino == other) h) (sym same)) in
-    ap (λ (same : Bool). is_some (then_some same piece)) apart
-others_apart one (next ∷ files) rest h = refl
-
-later_apart : (one : FileItems) (files : List FileItems) (rest : List FilePart) → starts_apart (one ∷ files) rest ≡ true
-    → starts_apart files rest ≡ true
-later_apart one [] [] h = refl
-later_apart one [] (Inode other inode ∷ rest) h = absurd cc
-later_apart one [] (PieceOf other piece ∷ rest) h = refl
-later_apart one (next ∷ files) rest h = h
-
--- the files that are left, with what stands behind them
-pub record IsKept (parts : List FilePart) (left : List FileItems) (rest : List FilePart)
-    (files : List (ℕ × File)) : Type 0 where
-  pub reading : IsReading parts (kept_parts left rest) files
-  pub apart : starts_apart left rest ≡ true
-
-pub IsKept-none : (parts : List FilePart) (left : List FileItems) (rest : List FilePart) → parts ≡ kept_parts left rest
-    → is_ascending (map file_key parts) ≡ true → starts_apart left rest ≡ true
-    → IsKept parts left rest []
-IsKept-none parts left rest is ascending apart = record {
-  reading = subst (λ (those : List FilePart). IsReading parts those []) is (IsReading-none parts ascending);
-  apart = apart;
-}
-
-next_of : (one : FileItems) (left : List FileItems) (rest : List FilePart) → starts_apart (one ∷ left) rest ≡ true
-    → IsNext (kept_parts (one ∷ left) rest) one (kept_parts left rest)
-next_of one left rest apart = record { stands = refl; other = others_apart one left rest apart }
-
-pub IsKept-more : (parts : List FilePart) (one : FileItems) (left : List FileItems) (rest : List FilePart)
-    (files : List (ℕ × File)) (file : File) → IsKept parts (one ∷ left) rest files
-    → Some file ≡ file_told one.ino one.inode (map (PieceOf one.ino) one.pieces)
-    → IsKept parts left rest (files ++ (one.ino, file) ∷ [])
-IsKept-more parts one left rest files file kept told = record {
-  reading = IsReading-more parts (kept_parts (one ∷ left) rest) files one (kept_parts left rest) file kept.reading
-      (next_of one left rest kept.apart) told;
-  apart = later_apart one left rest kept.apart;
-}
-
-pub IsKept-broken : (parts : List FilePart) (one : FileItems) (left : List FileItems) (rest : List FilePart)
-    (files : List (ℕ × File)) → IsKept parts (one ∷ left) rest files
-    → None ≡ file_told one.ino one.inode (map (PieceOf one.ino) one.pieces)
-    → None ≡ then_some (are_files parts) (files_in parts)
-IsKept-broken parts one left rest files kept none =
-    IsReading-broken parts (kept_parts (one ∷ left) rest) files one (kept_parts left rest) kept.reading
-    (next_of one left rest kept.apart) none
-
-pub IsKept-all : (parts rest : List FilePart) (files : List (ℕ × File)) → length rest ≡ 0 → IsKept parts [] rest files
-    → Some files ≡ then_some (are_files parts) (files_in parts)
-IsKept-all parts rest files none kept = IsReading-all parts rest files none kept.reading
-
-pub IsKept-orphan : (parts rest : List FilePart) (files : List (ℕ × File)) → (length rest ≡ 0 → ⊥)
-    → IsKept parts [] rest files → None ≡ then_some (are_files parts) (files_in parts)
-IsKept-orphan parts [] files some kept = absurd (some refl)
-IsKept-orphan parts (Inode ino inode ∷ behind) files some kept = let apart = kept.apart in absurd cc
-IsKept-orphan parts (PieceOf ino piece ∷ behind) files some kept =
-    IsReading-orphan parts (PieceOf ino piece ∷ behind) ino piece (PieceOf ino piece) behind files kept.reading refl
-    refl
 
 -- ---- one file alone
 

@@ -9,6 +9,12 @@ use Rattle.qg_image.specs.declared.part.FilePart.TheVariants.{Inode}
 use Rattle.qg_image.specs.FilesOf.{least_inode, inodes_end, is_file, is_piece, piece_end, pieces_bytes, file_in}
 use Rattle.qg_image.specs.FilesOf.{is_inode}
 
+-- an INODE_ITEM of a file, and the pieces behind it
+pub record FileItems : Type 0 where
+  pub ino : ℕ
+  pub inode : InodeItem
+  pub pieces : List Piece
+
 -- the piece is sound, begins no earlier than at a position and ends by the size: one step of `are_pieces`
 abbrev pub is_between : ℕ → ℕ → Piece → Bool
 is_between from size piece = nat_le from piece.position && is_piece piece && nat_le (piece_end piece) size

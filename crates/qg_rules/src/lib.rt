@@ -2,11 +2,7 @@
 #![tactic(auto)]
 
 mod files;
-mod parts;
 mod roots;
 
-pub use files::{
-    INODES_END, LARGEST_SIZE, LEAST_INODE, is_aligned, is_between, is_piece, read_files,
-};
-pub use parts::FileParts;
+pub use files::{INODES_END, LARGEST_SIZE, LEAST_INODE, is_aligned, is_between, is_piece};
 pub use roots::{are_roots, root_of};

@@ -13,7 +13,7 @@ use Rattle.qg_super.specs.declared.sizes.Sizes.{Sizes}
 use Rattle.qg_super.proofs.Served.{SizesFit-is_served}
 use Rattle.qg_image.specs.ItemMeaning.{is_subvolume_number}
 use Rattle.qg_image.specs.Table.{value_at, with_value}
-use Rattle.qg_image.specs.State.{Placed, State, has_subvolume, next_generation, node_at}
+use Rattle.qg_image.specs.State.{Placed, State, has_subvolume, next_generation, node_at, blank_subvolume}
 use Rattle.qg_image.specs.Reach.{level_of}
 use Rattle.qg_machine.specs.GroupChange.{new_group, with_group}
 use Rattle.qg_machine.specs.Step.{CreatesSubvolume, empty_leaf}
@@ -107,7 +107,7 @@ module _ (state : State) (sub next now : ℕ) (land : Ground) (history : History
 
   abbrev pub after : State
   after = record state {
-    subvolumes = with_value sub (record { files = []; root = now; last_snapshot = 0 }) state.subvolumes;
+    subvolumes = with_value sub (blank_subvolume now) state.subvolumes;
     layout = with_value now (empty_leaf generation sub now) state.layout;
     quota = option_map (with_group sub (new_group generation)) state.quota;
   }
@@ -186,8 +186,8 @@ module _ (state : State) (sub next now : ℕ) (land : Ground) (history : History
   held : HoldsState new history made after
   held = holds-then state after sub one_more [] land new history old made made holds is_done
 
-  made_there : value_at sub after.subvolumes ≡ Some (record { files = []; root = now; last_snapshot = 0 })
-  made_there = value_at-with_same sub (record { files = []; root = now; last_snapshot = 0 }) state.subvolumes
+  made_there : value_at sub after.subvolumes ≡ Some (blank_subvolume now)
+  made_there = value_at-with_same sub (blank_subvolume now) state.subvolumes
 
   leaf_there : node_at after.layout now ≡ Some (empty_leaf generation sub now).node
   leaf_there =
@@ -195,11 +195,11 @@ module _ (state : State) (sub next now : ℕ) (land : Ground) (history : History
       (value_at-with_same now (empty_leaf generation sub now) state.layout)
 
   root_after : root_of after sub ≡ now
-  root_after = root_of-value after sub (record { files = []; root = now; last_snapshot = 0 }) made_there
+  root_after = root_of-value after sub (blank_subvolume now) made_there
 
   height_after : root_level after sub ≡ 0
   height_after =
-      root_level-value after sub (record { files = []; root = now; last_snapshot = 0 }) made_there
+      root_level-value after sub (blank_subvolume now) made_there
       ∙ ap level_of leaf_there
 
   -- the answer is the new subvolume's tree

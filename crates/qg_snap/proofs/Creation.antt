@@ -9,13 +9,13 @@ use Rattle.qg_node.specs.declared.node.Node.{Node}
 use Rattle.qg_node.specs.Nodes.{own_items}
 use Rattle.qg_super.specs.declared.superblock.Super.{Super}
 use Rattle.qg_image.specs.Below.{items_below, leaf_items}
-use Rattle.qg_image.specs.FilesOf.{are_files, files_of}
+use Rattle.qg_image.specs.FilesOf.{are_files, files_of, AreItemsOfFiles}
 use Rattle.qg_image.specs.IsShaped.{is_shaped}
 use Rattle.qg_image.specs.ItemMeaning.{is_subvolume_number, when}
 use Rattle.qg_image.specs.Table.{keys_of, value_at}
 use Rattle.qg_image.specs.Owed.{homeless, owed_by_node}
 use Rattle.qg_image.specs.Reach.{level_of}
-use Rattle.qg_image.specs.State.{Placed, State, Subvolume, layout_of, next_generation, node_at}
+use Rattle.qg_image.specs.State.{Placed, State, Subvolume, layout_of, next_generation, node_at, blank_subvolume}
 use Rattle.qg_image.proofs.Contained.{none_contained}
 use Rattle.qg_image.specs.declared.failure.Failure.{Failure}
 use Rattle.qg_image.specs.declared.tree.Tree.TheVariants.{Files}
@@ -33,7 +33,7 @@ use Rattle.qg_snap.proofs.Homed.{node_now}
 use Rattle.qg_snap.proofs.More.{OneMore, next-is}
 use Rattle.qg_snap.proofs.Whole.{nodes-are}
 
-no_files : (generation : ℕ) → files_of generation [] ≡ Some []
+no_files : (generation : ℕ) → AreItemsOfFiles generation [] []
 unfolding files_of are_files
 no_files generation = refl
 
@@ -87,7 +87,7 @@ module _ (before after : State) (sub : ℕ) (new : CreatesSubvolume before sub a
     (up : IsStrictlyIncreasing (keys_of before.subvolumes)) (other : value_at sub before.subvolumes ≡ None)
     (free : value_at new.address before.layout ≡ None) where
   abbrev made : Subvolume
-  made = record { files = []; root = new.address; last_snapshot = 0 }
+  made = blank_subvolume new.address
 
   abbrev placed : Placed
   placed = empty_leaf (next_generation before) sub new.address

@@ -19,7 +19,7 @@ use Rattle.qg_image.specs.Reach.{level_of}
 use Rattle.qg_image.specs.declared.expected.Expected.{Expected}
 use Rattle.qg_image.specs.declared.tree.Tree.TheVariants.{Files}
 use Rattle.qg_machine.specs.GroupChange.{inherited}
-use Rattle.qg_machine.specs.Step.{Snapshots, copy_of}
+use Rattle.qg_machine.specs.Step.{Snapshots, copy_of, subvolume_copy}
 use Rattle.qg_machine.specs.Refusals.{root_level}
 use Rattle.qg_cow.specs.Children.{keyed_children, way_to}
 use Rattle.qg_blocks.specs.Held.{Draft, Held}
@@ -169,7 +169,7 @@ module _ (state : State) (sub copy now : ℕ) (land : Ground) (history : History
     abbrev pub after : State
     after = record state {
       subvolumes = with_value copy
-          (record { files = root_source.source.files; root = now; last_snapshot = generation })
+          (subvolume_copy generation root_source.source now)
           (with_value sub (record root_source.source { last_snapshot = generation }) state.subvolumes);
       layout = with_value now (record { node = copy_of generation copy now root; full = false }) state.layout;
       quota = option_map (inherited generation sub copy parents) state.quota;
@@ -260,9 +260,9 @@ module _ (state : State) (sub copy now : ℕ) (land : Ground) (history : History
     held = holds-then state after copy one_more (keyed_children root copy) land new history old made given holds is_done
 
     made_there : value_at copy after.subvolumes
-        ≡ Some (record { files = root_source.source.files; root = now; last_snapshot = generation })
+        ≡ Some (subvolume_copy generation root_source.source now)
     made_there =
-        value_at-with_same copy (record { files = root_source.source.files; root = now; last_snapshot = generation })
+        value_at-with_same copy (subvolume_copy generation root_source.source now)
         (with_value sub (record root_source.source { last_snapshot = generation }) state.subvolumes)
 
     copy_there : node_at after.layout now ≡ Some (copy_of generation copy now root)
@@ -272,7 +272,7 @@ module _ (state : State) (sub copy now : ℕ) (land : Ground) (history : History
 
     root_after : root_of after copy ≡ now
     root_after =
-        root_of-value after copy (record { files = root_source.source.files; root = now; last_snapshot = generation })
+        root_of-value after copy (subvolume_copy generation root_source.source now)
         made_there
 
     height_after : root_level after copy ≡ source.height

@@ -21,7 +21,7 @@ use Rattle.qg_image.specs.declared.tree.Tree.TheVariants.{Files}
 use Rattle.qg_image.specs.ItemsUnder.{is_way, nodes_of}
 use Rattle.qg_image.specs.Walk.{deepest, root_expected, walk_failure, way_failure}
 use Rattle.qg_machine.specs.Layout.{IsTreeOf, IsWhole, found_in, super_to_come}
-use Rattle.qg_machine.specs.Step.{Snapshots, copy_of}
+use Rattle.qg_machine.specs.Step.{Snapshots, copy_of, subvolume_copy}
 use Rattle.qg_cow.specs.Children.{keyed_children}
 use Rattle.qg_files.proofs.Ascending.{Ascends-increasing, all-with_value, ascends-with_value, increasing-Ascends}
 use Rattle.qg_home.proofs.Reaching.{entry_of_value}
@@ -69,7 +69,7 @@ module _ (before after : State) (sub copy : ℕ) (parents : List ℕ) (snap : Sn
   marked = record snap.source { last_snapshot = next_generation before }
 
   abbrev made : Subvolume
-  made = record { files = snap.source.files; root = snap.address; last_snapshot = next_generation before }
+  made = subvolume_copy (next_generation before) snap.source snap.address
 
   abbrev node_copy : Node
   node_copy = copy_of (next_generation before) copy snap.address snap.root

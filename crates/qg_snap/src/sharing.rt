@@ -3,6 +3,7 @@ ghost use Rattle.std.specs.Prelude.{◌≡◌, ◌∷◌, [], IfErr, IfOk, OnOk}
 ghost use Rattle.qg_num.specs.declared.fault.BlockFault.TheVariants.{Image};
 ghost use Rattle.qg_num.specs.declared.rule.Rule.TheVariants.{Refs};
 ghost use Rattle.qg_cow.specs.Children.{keyed_children};
+ghost use Rattle.qg_blocks.specs.Stopping.{NamesRule};
 ghost use Rattle.qg_blocks.specs.Told.{BreaksNone};
 ghost use Rattle.qg_extents.specs.Table.{book_of};
 ghost use Rattle.qg_owed.specs.Told.{owing_told, owings_told};
@@ -40,6 +41,7 @@ pub(crate) fn give_all(book: &mut TreeRefs, owings: &[Owing]) -> Result<(), Bloc
     ensures proper { CanGive (book_of book.old.refs) (owings_told owings.now) → BreaksNone result }
     ensures others { book.new ≡ record book.old { refs = book.new.refs } }
     ensures no_disk { IfErr result (λ fault. fault ≡ BlockFault.Disk → ⊥) }
+    ensures refs { NamesRule result Refs }
 {
     for owing in owings {
         give(book, owing)?;
@@ -53,6 +55,7 @@ fn give(book: &mut TreeRefs, owing: &Owing) -> Result<(), BlockFault>
     ensures proper { CanGive (book_of book.old.refs) (owing_told owing.now ∷ []) → BreaksNone result }
     ensures others { book.new ≡ record book.old { refs = book.new.refs } }
     ensures no_disk { IfErr result (λ fault. fault ≡ BlockFault.Disk → ⊥) }
+    ensures refs { NamesRule result Refs }
 {
     let at = owing.address;
     let Some(what) = book.refs().known(at) else {

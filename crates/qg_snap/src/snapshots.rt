@@ -6,6 +6,7 @@ ghost use Rattle.qg_image.specs.ItemMeaning.{is_subvolume_number};
 ghost use Rattle.qg_super.specs.Places.{capacity};
 ghost use Rattle.qg_image.specs.State.{State as MachineState, has_subvolume};
 ghost use Rattle.qg_machine.specs.Step.{Snapshots};
+ghost use Rattle.qg_blocks.specs.Stopping.{StopsForCause};
 ghost use Rattle.qg_blocks.specs.Told.{BreaksNone};
 ghost use Rattle.qg_space.specs.Holding.{free_slots};
 ghost use Rattle.qg_tree_edits.specs.Editing.{IsEditable};
@@ -64,6 +65,7 @@ pub fn snapshot<D: Disk, L: Ledger>(
     ensures rests { LeavesBe land.old land.new (D.history disk.old) (D.history disk.new) (D.size disk.old)
         (D.size disk.new)
         source.now.next }
+    ensures stops { StopsForCause result land.old.blocks.draft.sizes (D.size disk.old) }
     ensures cause { HasCause BlockFault.Disk (D.faults disk.old) (D.faults disk.new) result }
     ensures reads { reads.new ≤ reads.old + 2 }
 {

@@ -14,4 +14,3 @@ pub mod Opened
 pub mod OpenedLayout
 pub mod OpenedBook
 pub mod OpenedStands
-pub mod Alone

@@ -10,7 +10,7 @@ use Rattle.qg_super.specs.declared.superblock.Super.{Super}
 use Rattle.qg_super.specs.Places.{is_served, total_bytes}
 use Rattle.qg_super.specs.SuperText.{sizes_of}
 use Rattle.qg_image.specs.declared.file.File.{File}
-use Rattle.qg_image.specs.FilesOf.{files_of}
+use Rattle.qg_image.specs.FilesOf.{AreItemsOfFiles}
 use Rattle.qg_image.specs.ItemMeaning.{extent_part_stamps}
 use Rattle.qg_image.specs.Table.{has_key, keys_of}
 use Rattle.qg_image.specs.declared.element.Element.{Element}
@@ -43,7 +43,7 @@ pub record IsSoundSubvolume (super : Super) (image : List ℕ) (root : RootItem)
       ≡ Some (nodes_of_root Files super image root)
   pub held : IsTrue (list_all (is_item_of Files super.generation) (items_of_root Files super image root))
   pub files : List (ℕ × File)
-  pub files_are : files_of super.generation (items_of_root Files super image root) ≡ Some files
+  pub files_are : AreItemsOfFiles super.generation (items_of_root Files super image root) files
 
 -- What is known of a sound image of served sizes: its subvolumes ascend by number, the top-level one is there, and each
 -- is sound; the extents that files name keep the rule `space`; the extent tree's records are exactly what is owed, and

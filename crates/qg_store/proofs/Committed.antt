@@ -1,5 +1,5 @@
 -- What was pending is committed before a structural command makes its change, and the slots that this leaves.
-use Rattle.std.proofs.Common.{◌≡◌, ℕ, zero, suc, ◌+◌, ◌*◌, ◌^◌, ◌<◌, ◌≤◌, Bool, true, false, List, [], ◌∷◌, ◌++◌}
+use Rattle.std.proofs.Common.{◌≡◌, ℕ, zero, suc, ◌+◌, ◌^◌, ◌<◌, ◌≤◌, Bool, true, false, List, [], ◌∷◌, ◌++◌}
 use Rattle.std.proofs.Common.{length, Option, None, arith, refl, sym, ap, subst, ◌∙◌, inl, inr}
 use Rattle.std.specs.Prelude.{◌⊎◌, ◌||◌, IfErr, IfOk, MatchBool, MatchOption, OnErr, OnOk, Result, Ok, Err}
 use Rattle.std.proofs.lemmas.Bool.{cond-true, le-ltb, lt-ltb}
@@ -13,7 +13,6 @@ use Rattle.qg_num.specs.declared.refusal.Refusal.TheVariants as why
 use Rattle.qg_node.specs.declared.node.Node.{Node}
 use Rattle.qg_super.specs.declared.sizes.Sizes.{Sizes}
 use Rattle.qg_super.specs.declared.superblock.Super.{Super}
-use Rattle.qg_super.specs.Places.{capacity}
 use Rattle.qg_super.specs.SuperText.{sizes_of}
 use Rattle.qg_image.specs.Need.{nodes_filled}
 use Rattle.qg_image.specs.Record.{records_bytes, same_record}
@@ -41,8 +40,9 @@ use Rattle.qg_store.specs.Structural.{HasCommitted, IsSettledFrom}
 use Rattle.qg_kept_changes.specs.Changing.{HasRoom}
 use Rattle.qg_kept_commit.proofs.OnOff.{bytes-recounted, roots-recounted}
 use Rattle.qg_kept_changes.proofs.HowMany.{generation-told}
-use Rattle.qg_kept_commit.proofs.Room.{fills-more, left-first, left-none, left-second}
-use Rattle.qg_kept_changes.proofs.Fitting.{large, need-few}
+use Rattle.qg_kept_commit.proofs.Room.{fills-more, left-first, left-none}
+use Rattle.qg_kept_commit.specs.Types.{KeptSubvolume}
+use Rattle.qg_kept_commit.proofs.Reserve.{large, need-few}
 
 -- ---- what is weighed
 
@@ -74,7 +74,7 @@ module _ (old new : Kept) (leaves : LeavesRoom old new)
   root_same : root_weight new ≡ root_weight old
   root_same =
       roots-recounted (quota_of old.quota) (quota_of new.quota) (length old.snapshots) (length new.snapshots)
-      (ap (λ (table : List (ℕ × ℕ)). length table) leaves.snapshots) leaves.groups
+      (ap (λ (table : List (ℕ × KeptSubvolume)). length table) leaves.snapshots) leaves.groups
 
   quota_same : quota_weight new ≡ quota_weight old
   quota_same = bytes-recounted (quota_of old.quota) (quota_of new.quota) leaves.groups
@@ -116,27 +116,6 @@ pub room-same : (kept : Kept) (copies : ℕ) → structural_need_of kept copies 
     → HasRoom kept copies
 room-same kept copies enough =
     record { free = left-none copies (filled_by kept) (free_slots kept.fs.land.space) enough }
-
--- What a change leaves, which makes the extent tree's items so much heavier at the most, and those of the root and
--- quota trees so much, and takes so many slots
-pub room-grown : (old new : Kept) (copies k took more others : ℕ) → IsFitted old → IsFitted new → HasRoom old copies
-    → new.superblock ≡ old.superblock → book_weight new ≤ book_weight old + more
-    → root_weight new + quota_weight new ≤ root_weight old + quota_weight old + others
-    → more + others ≤ k * capacity old.superblock.nodesize
-    → free_slots old.fs.land.space ≤ free_slots new.fs.land.space + took → 5 * k + took + 13 ≤ 10 * copies + 67
-    → commit_need new ≤ free_slots new.fs.land.space
-room-grown old new copies k took more others fits fits_new room same heavier beside few taken small =
-    let bytes : book_weight new + root_weight new + quota_weight new
-    ≤ book_weight old + root_weight old + quota_weight old + k * capacity old.superblock.nodesize =
-    omega (arith, heavier, beside, few) in
-    let filled : nodes_filled old.superblock.nodesize (book_weight new + root_weight new + quota_weight new)
-    ≤ filled_by old + k =
-    fills-more old.superblock.nodesize (book_weight old + root_weight old + quota_weight old)
-    (book_weight new + root_weight new + quota_weight new) k (large old fits) bytes in
-    let size = ap (λ (s : Super). nodes_filled s.nodesize (book_weight new + root_weight new + quota_weight new))
-    same in
-    left-second copies (filled_by old) (filled_by new) k took (commit_need new) (free_slots old.fs.land.space)
-    (free_slots new.fs.land.space) room.free (omega (arith, filled, size)) (need-few new fits_new) taken small
 
 -- ---- what is the same
 

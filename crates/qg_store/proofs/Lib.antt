@@ -11,3 +11,4 @@ pub mod Repaired
 pub mod LastCommits
 pub mod Chained
 pub mod Outlived
+pub mod Counted

@@ -38,6 +38,7 @@ use Rattle.qg_kept_commit.proofs.Known.{no-other, sub-there}
 use Rattle.qg_file_commands.proofs.Refused.{first_one}
 use Rattle.qg_kept_commit.proofs.Stepped.{free-told, keys-kept, many-kept, nodesize-kept, weight-kept}
 use Rattle.qg_kept_changes.proofs.HowMany.{generation-told, too-many-told}
+use Rattle.qg_kept_commit.specs.Types.{KeptSubvolume}
 
 -- ---- the first of some
 
@@ -286,9 +287,10 @@ module _ (old new : Kept) (settled : IsSettledFrom old new) where
       ≡ change_refusal (quota_of old.quota) (keys_of old.snapshots) given
   group-same given =
       refusal-recounted (quota_of old.quota) (quota_of new.quota) (keys_of new.snapshots) given settled.groups
-      ∙ ap (λ (table : List (ℕ × ℕ)). change_refusal (quota_of old.quota) (keys_of table) given) settled.snapshots
+      ∙ ap (λ (table : List (ℕ × KeptSubvolume)). change_refusal (quota_of old.quota) (keys_of table) given)
+      settled.snapshots
 
   -- and the nodes that it may copy
   pub copies-same : (given : Command) → group_copies new given ≡ group_copies old given
-  copies-same command.QuotaOn = ap (λ (table : List (ℕ × ℕ)). 18 + length table) settled.snapshots
+  copies-same command.QuotaOn = ap (λ (table : List (ℕ × KeptSubvolume)). 18 + length table) settled.snapshots
   copies-same _ = refl

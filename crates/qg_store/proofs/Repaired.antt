@@ -71,6 +71,7 @@ kept-told kept before after state alike keeps = record {
   recorded = keeps.recorded;
   others = keeps.others;
   reserved = keeps.reserved;
+  reserve = keeps.reserve;
   idle = keeps.idle;
 }
 

@@ -41,4 +41,5 @@ does_show kept state reply history keeps is = record {
       (sym (refused_so state (quota_of kept.quota) keeps.quota))
       (told_so state reply (quota_of kept.quota) keeps.quota is);
   keeps = keeps;
+  reserved = keeps.reserve;
 }

@@ -143,6 +143,7 @@ module _ (state : State) (given : Command) (reply : Answer) (mid new last : Kept
         step = subst (λ (o : Option Refusal). MatchOption o (machine.Does state given reply commits second.new)
             (λ reason. (reply ≡ Refused reason) × machine.Stays state commits second.new)) (sym unrefused) (is does);
         keeps = second.keeps;
+        reserved = second.keeps.reserve;
       },
       record {
         after = with_commit second.super second.nodes first.between;

@@ -9,4 +9,5 @@ pub use Rattle.qg_kept_commit.specs.Report
 pub use Rattle.qg_kept_commit.specs.Stored
 pub mod Structural
 pub mod Crashes
+pub mod Work
 pub mod Types

@@ -1,12 +1,11 @@
 -- Why a structural command is refused at last, and what it finds that was pending (this project's own).
-use Rattle.std.specs.Prelude.{◌⊎◌, ◌+◌, ◌≡◌, ℕ, ◌<◌, not, List, [], ◌∷◌, OnOk, Option, Result, nat_lt}
+use Rattle.std.specs.Prelude.{◌⊎◌, ◌+◌, ◌≡◌, ℕ, ◌<◌, List, [], ◌∷◌, OnOk, Option, Result, nat_lt}
 use Rattle.qg_device.specs.History.{Event, History, Recorded, history_after}
 use Rattle.qg_num.specs.declared.fault.BlockFault.{BlockFault}
 use Rattle.qg_num.specs.declared.refusal.Refusal.{Refusal}
 use Rattle.qg_num.specs.declared.refusal.Refusal.TheVariants as why
 use Rattle.qg_node.specs.declared.node.Node.{Node}
 use Rattle.qg_image.specs.ItemMeaning.{first_some}
-use Rattle.qg_image.specs.Table.{has_key}
 use Rattle.qg_image.specs.State.{State}
 use Rattle.qg_machine.specs.Refusals.{last_generation, refuse}
 use Rattle.qg_machine.specs.Step.{CommitsPending}
@@ -18,13 +17,9 @@ use Rattle.qg_kept_commit.specs.Types.{Kept}
 use Rattle.qg_kept_commit.specs.Keeping.{IsKeptOf, structural_need_of}
 use Rattle.qg_kept_commit.specs.Making.{Makes, StartsCommit}
 
--- ---- why a command is refused: the first that holds
+-- ---- why a command is refused at last
 
--- there is no such subvolume
-abbrev pub sub_refusal : Kept → ℕ → Option Refusal
-sub_refusal kept sub = refuse (not (has_key sub kept.snapshots)) why.NoSub
-
--- the last two, where the change may copy so many nodes
+-- the first that holds of the last two, where the change may copy so many nodes
 abbrev pub commit_refusal : Kept → ℕ → Option Refusal
 commit_refusal kept copies = first_some
     (refuse (nat_lt last_generation kept.superblock.generation) why.NoGeneration

@@ -18,6 +18,8 @@ ghost use Rattle.qg_kept_commit.specs.Opened.{IsOpened, IsOpening, OutlivesCrash
 ghost use Rattle.qg_kept_commit.specs.CommitOpening.{IsUntouched};
 ghost use Rattle.qg_kept_commit.specs.Answering.{AnswersOn, IsDoneSoFar, comes_to_disk, is_unchanging};
 ghost use Rattle.qg_store.specs.Crashes.{IsLastCommit, OutlivesCommand};
+ghost use Rattle.qg_store.specs.Work.{TakesSteps};
+ghost use Rattle.qg_file_commands.specs.Reading.{AsksForFew};
 ghost use Rattle.qg_kept_commit.specs.Editing.{HasLooked};
 ghost use Rattle.qg_kept_commit.specs.Keeping.{IsKept, IsKeptOf};
 ghost use Rattle.qg_kept_commit.specs.Stored.{ComesToDisk, DoesCommand, GoesOn, IsIntact, IsReady, IsStoreOf};
@@ -97,7 +99,8 @@ impl Store {
     /// asked changes nothing, but that nodes were read. After a `Stop` the store does nothing more, and the image is to
     /// be opened again: `Image` comes where the disk no longer holds what the last call left there.
     ///
-    /// Each node that is asked for counts as one step of `reads`, none of `looks` so far.
+    /// Each node that is asked for counts as one step of `reads`, and each look-up of owners as one of `looks`: none is
+    /// made so far.
     pub fn apply<D: Disk, L: Ledger, M: Ledger>(
         &mut self,
         disk: &mut D,
@@ -141,7 +144,11 @@ impl Store {
         ensures cause { HasCause Stop.Disk (D.faults disk.old) (D.faults disk.new) result }
 
         ensures goes_on { GoesOn self.old self.new (D.history disk.new) (D.size disk.old) (D.size disk.new) }
-        ensures counts { looks.new ≡ looks.old }
+
+        // The steps that were counted: no look-up so far, and for a file command that is accepted as many nodes asked
+        // for as its bound and its look-ups allow.
+        ensures counts { TakesSteps command.now result self.old self.new (D.history disk.old) (D.history disk.new)
+            looks.old looks.new reads.old reads.new }
     {
         if let Some(cause) = self.stopped {
             return Err(Stop::Aborted(cause));
@@ -187,7 +194,8 @@ fn answer<D: Disk, M: Ledger>(
 ) -> Result<Answer, BlockFault>
     requires kept { IsKept kept.old (D.history disk.old) (D.size disk.old) }
     requires numbers { IsTrue (is_in_grammar command.now) }
-    ensures kept { IfOk result (λ answer. IsKept kept.new (D.history disk.new) (D.size disk.new)) }
+    ensures kept { IfOk result (λ answer. IsKept kept.new (D.history disk.new) (D.size disk.new))
+        × (sizes_of kept.new.superblock ≡ sizes_of kept.old.superblock) × (D.size disk.old ≤ D.size disk.new) }
     ensures step { (state : State) (events : List Event) → IsKeptOf kept.old state (D.history disk.old)
         → D.history disk.old ≡ Recorded events
         → IfOk result (λ answer. AnswersOn state command.now answer kept.new events (D.history disk.new)) }
@@ -204,8 +212,8 @@ fn answer<D: Disk, M: Ledger>(
         (λ fault. KnowsLast command.now kept.old kept.new (D.history disk.old) (D.history disk.new)) }
     ensures intact { IfBroken result
         (IsIntact command.now kept.old kept.new (D.history disk.old) (D.history disk.new)) }
-    ensures sizes { (sizes_of kept.new.superblock ≡ sizes_of kept.old.superblock)
-        × (D.size disk.old ≤ D.size disk.new) }
+    ensures reads { IfOk result
+        (λ answer. AsksForFew kept.old (D.history disk.old) command.now answer reads.old reads.new) }
     ensures cause { HasCause BlockFault.Disk (D.faults disk.old) (D.faults disk.new) result }
 {
     match command {

@@ -5,6 +5,7 @@ ghost use Rattle.std.specs.Ordering.{nat_cmp};
 ghost use Rattle.qg_device.specs.Cause.{HasCause};
 ghost use Rattle.qg_device.specs.History.{Event, Recorded};
 ghost use Rattle.qg_image.specs.State.{State as MachineState, next_generation};
+ghost use Rattle.qg_blocks.specs.Stopping.{StopsForCause};
 ghost use Rattle.qg_blocks.specs.Told.{BreaksNone};
 ghost use Rattle.qg_extents.specs.Table.{book_of};
 ghost use Rattle.qg_direct.specs.Surveyed.{surveyed_of};
@@ -66,6 +67,7 @@ pub fn survey<D: Disk, L: Ledger>(
     ensures read { HasRead land.old.blocks land.new.blocks (D.history disk.old) (D.history disk.new)
         (D.size disk.old) (D.size disk.new) }
     ensures space { land.new.space ≡ land.old.space }
+    ensures stops { StopsForCause result land.old.blocks.draft.sizes (D.size disk.old) }
     ensures cause { HasCause BlockFault.Disk (D.faults disk.old) (D.faults disk.new) result }
 {
     let mut links = BTreeMap::new(alloc);
@@ -104,6 +106,7 @@ fn survey_trees<D: Disk, L: Ledger>(
     ensures readable { IsReadable blocks.new (D.history disk.new) (D.size disk.new) }
     ensures read { HasRead blocks.old blocks.new (D.history disk.old) (D.history disk.new)
         (D.size disk.old) (D.size disk.new) }
+    ensures stops { StopsForCause result blocks.old.draft.sizes (D.size disk.old) }
     ensures cause { HasCause BlockFault.Disk (D.faults disk.old) (D.faults disk.new) result }
 {
     let mut rest = trees;
@@ -156,6 +159,7 @@ fn survey_under<D: Disk, L: Ledger>(
     ensures readable { IsReadable blocks.new (D.history disk.new) (D.size disk.new) }
     ensures read { HasRead blocks.old blocks.new (D.history disk.old) (D.history disk.new)
         (D.size disk.old) (D.size disk.new) }
+    ensures stops { StopsForCause result blocks.old.draft.sizes (D.size disk.old) }
     ensures cause { HasCause BlockFault.Disk (D.faults disk.old) (D.faults disk.new) result }
 {
     if links.contains_key(&way.address.value()) {
@@ -208,6 +212,7 @@ fn survey_each<D: Disk, L: Ledger>(
     ensures readable { IsReadable blocks.new (D.history disk.new) (D.size disk.new) }
     ensures read { HasRead blocks.old blocks.new (D.history disk.old) (D.history disk.new)
         (D.size disk.old) (D.size disk.new) }
+    ensures stops { StopsForCause result blocks.old.draft.sizes (D.size disk.old) }
     ensures cause { HasCause BlockFault.Disk (D.faults disk.old) (D.faults disk.new) result }
 {
     let mut rest = ways;

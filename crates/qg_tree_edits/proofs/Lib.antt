@@ -71,3 +71,4 @@ pub mod Clean
 pub mod Owners
 pub mod Naming
 pub mod Unfit
+pub mod Stopped

@@ -1,6 +1,7 @@
 // A tree is edited.
 ghost use Rattle.std.specs.Prelude.{◌≡◌, ◌+◌, ◌*◌, ◌≤◌, ℕ, List, MatchResult, OnOk, IsTrue, drop, length, not};
 ghost use Rattle.qg_node.specs.declared.item.Item.{Item as ItemValue};
+ghost use Rattle.qg_blocks.specs.Stopping.{StopsForCause};
 ghost use Rattle.qg_blocks.specs.Told.{told};
 ghost use Rattle.qg_ground.specs.Changes.{IsOwnedBy};
 ghost use Rattle.qg_ground.specs.Calls.{KeepsBook, LeavesBe};
@@ -34,8 +35,8 @@ const LEAST: Key = Key {
 /// Nodes that are fresh are edited where they lie, others are copied to free slots, from the root down, and the book is
 /// told. It takes at most 2·height + 3 slots, and asks for 3·(height + 2) free ones. `P` says which tree it is. Over a
 /// disk that tells, `Image` names a rule and an address only where what stands there is not what leads to it expects,
-/// or not what the edit relies on, as with `refs` where the key is there. After an `Err` nodes, space and book are of
-/// no more use.
+/// or not what the edit relies on, as with `refs` where the key is there; over any disk, only for a cause. After an
+/// `Err` nodes, space and book are of no more use.
 pub fn insert<P: TreePart, D: Disk, L: Ledger, B: Book<D, L>>(
     tree: &mut Tree,
     alloc: Global,
@@ -54,6 +55,7 @@ pub fn insert<P: TreePart, D: Disk, L: Ledger, B: Book<D, L>>(
         (with_item (record { key = key; body = body }) items) book.old book.new result }
     ensures fails { FailsToEditTree P.tree tree.old (record { key = key; change = edit_change.Insert body })
         land.old land.new (D.history disk.old) (D.faults disk.old) (D.faults disk.new) result }
+    ensures stops { StopsForCause result land.old.blocks.draft.sizes (D.size disk.old) }
     ensures tree { MatchResult result (λ done. Grows 1 tree.old tree.new land.old land.new)
         (λ fault. tree.new ≡ tree.old) }
     ensures rests { LeavesBe land.old land.new (D.history disk.old) (D.history disk.new) (D.size disk.old)
@@ -90,6 +92,7 @@ pub fn replace<P: TreePart, D: Disk, L: Ledger, B: Book<D, L>>(
         (with_item (record { key = key; body = body }) items) book.old book.new result }
     ensures fails { FailsToEditTree P.tree tree.old (record { key = key; change = edit_change.Replace body })
         land.old land.new (D.history disk.old) (D.faults disk.old) (D.faults disk.new) result }
+    ensures stops { StopsForCause result land.old.blocks.draft.sizes (D.size disk.old) }
     ensures tree { MatchResult result (λ done. Grows 1 tree.old tree.new land.old land.new)
         (λ fault. tree.new ≡ tree.old) }
     ensures rests { LeavesBe land.old land.new (D.history disk.old) (D.history disk.new) (D.size disk.old)
@@ -125,6 +128,7 @@ pub fn remove<P: TreePart, D: Disk, L: Ledger, B: Book<D, L>>(
         (without_key key items) book.old book.new result }
     ensures fails { FailsToEditTree P.tree tree.old (record { key = key; change = edit_change.Remove })
         land.old land.new (D.history disk.old) (D.faults disk.old) (D.faults disk.new) result }
+    ensures stops { StopsForCause result land.old.blocks.draft.sizes (D.size disk.old) }
     ensures tree { MatchResult result (λ done. Grows 0 tree.old tree.new land.old land.new)
         (λ fault. tree.new ≡ tree.old) }
     ensures rests { LeavesBe land.old land.new (D.history disk.old) (D.history disk.new) (D.size disk.old)
@@ -162,6 +166,7 @@ pub fn drop_first_leaf<P: TreePart, D: Disk, L: Ledger, B: Book<D, L>>(
         ≡ leaves_behind (leaves (told land.old.blocks.draft (D.history disk.old)) tree.old.height tree.old.address)) }
     ensures fails { FailsToEditTree P.tree tree.old (record { key = least; change = edit_change.Clear })
         land.old land.new (D.history disk.old) (D.faults disk.old) (D.faults disk.new) result }
+    ensures stops { StopsForCause result land.old.blocks.draft.sizes (D.size disk.old) }
     ensures tree { MatchResult result (λ done. Grows 0 tree.old tree.new land.old land.new)
         (λ fault. tree.new ≡ tree.old) }
     ensures rests { LeavesBe land.old land.new (D.history disk.old) (D.history disk.new) (D.size disk.old)
@@ -196,6 +201,7 @@ fn edit_tree<P: TreePart, D: Disk, L: Ledger, B: Book<D, L>>(
         book.new result }
     ensures fails { FailsToEditTree P.tree tree.old edit land.old land.new (D.history disk.old) (D.faults disk.old)
         (D.faults disk.new) result }
+    ensures stops { StopsForCause result land.old.blocks.draft.sizes (D.size disk.old) }
     ensures tree { MatchResult result (λ done. Grows (growth_of edit.change) tree.old tree.new land.old land.new)
         (λ fault. tree.new ≡ tree.old) }
     ensures rests { LeavesBe land.old land.new (D.history disk.old) (D.history disk.new) (D.size disk.old)

@@ -1,6 +1,7 @@
 // An edit of what stands under a node.
 ghost use Rattle.std.specs.Prelude.{◌≡◌, ◌+◌, ◌*◌, ◌<◌, ◌≤◌, ℕ, List, Some};
 ghost use Rattle.qg_node.specs.declared.item.Item.{Item as ItemValue};
+ghost use Rattle.qg_blocks.specs.Stopping.{StopsForCause};
 ghost use Rattle.qg_edit.specs.declared.edit.Change.TheVariants as edit_change;
 ghost use Rattle.qg_edit.specs.Edits.{IsShort};
 ghost use Rattle.qg_tree_edits.specs.Editing.{IsPartFit};
@@ -46,6 +47,7 @@ pub(crate) fn edit_under<P: TreePart, D: Disk, L: Ledger, B: Book<D, L>>(
         book.old book.new result }
     ensures fails { FailsToEdit P.tree tree.now edit level way.expected way.address land.old land.new
         (D.history disk.old) (D.faults disk.old) (D.faults disk.new) result }
+    ensures stops { StopsForCause result land.old.blocks.draft.sizes (D.size disk.old) }
     ensures rests { LeavesBe land.old land.new (D.history disk.old) (D.history disk.new) (D.size disk.old)
         (D.size disk.new) tree.now.next }
     ensures book { KeepsBook B.stands B.settled book.old book.new land.old land.new disk.old disk.new result }
@@ -106,6 +108,7 @@ fn edit_there<P: TreePart, D: Disk, L: Ledger, B: Book<D, L>>(
         book.old book.new result }
     ensures fails { FailsToEdit P.tree tree.now edit 0 way.now.expected way.now.address land.old land.new
         (D.history disk.old) (D.faults disk.old) (D.faults disk.new) result }
+    ensures stops { StopsForCause result land.old.blocks.draft.sizes (D.size disk.old) }
     ensures rests { LeavesBe land.old land.new (D.history disk.old) (D.history disk.new) (D.size disk.old)
         (D.size disk.new) tree.now.next }
     ensures book { KeepsBook B.stands B.settled book.old book.new land.old land.new disk.old disk.new result }

@@ -5,6 +5,7 @@ ghost use Rattle.qg_node.specs.Nodes.{header_of};
 ghost use Rattle.qg_node.specs.NodeText.{IsNode, IsNodeSize};
 ghost use Rattle.qg_shape.specs.Filled.{HasShortBodies, IsThin};
 ghost use Rattle.qg_blocks.specs.Lending.{with_fresh};
+ghost use Rattle.qg_blocks.specs.Stopping.{StopsForCause};
 ghost use Rattle.qg_blocks.specs.Told.{BreaksNone, IsBacked, fresh_at};
 ghost use Rattle.qg_ground.specs.Land.{IsDrafted};
 ghost use Rattle.qg_edit.specs.Outcome.{IsInFront, cleared};
@@ -90,6 +91,7 @@ pub(crate) fn unite<D: Disk, L: Ledger, B: Book<D, L>>(
     ensures united { IfOk result (λ instead. AreUnited land.old land.new left right instead) }
     ensures fails { FailsToUnite land.old land.new left right (D.history disk.old) (D.faults disk.old)
         (D.faults disk.new) result }
+    ensures stops { StopsForCause result land.old.blocks.draft.sizes (D.size disk.old) }
     ensures drafted { (generation : ℕ) → IsDrafted land.old generation
         → UnitesDrafted B.follows B.settled land.old land.new (D.history disk.new) generation right book.old book.new
         disk.old disk.new result }

@@ -1,6 +1,7 @@
 // A node of a tree that is owned before it is edited.
 ghost use Rattle.std.specs.Prelude.{◌≡◌, ◌+◌, ◌<◌, ◌≤◌, false, ℕ, List, ◌++◌, Some, IfOk};
 ghost use Rattle.qg_node.specs.declared.node.Node.{Node as NodeValue};
+ghost use Rattle.qg_blocks.specs.Stopping.{StopsForCause};
 ghost use Rattle.qg_blocks.specs.Told.{told};
 ghost use Rattle.qg_space.specs.Holding.{free_slots, is_free_slot};
 ghost use Rattle.qg_ground.specs.Tellings.{Telling};
@@ -38,6 +39,7 @@ pub(crate) fn own<P: TreePart, D: Disk, L: Ledger, B: Book<D, L>>(
         → IfOk result (λ now. B.follows before (log ++ tellings_owned node way.now.address now) book.new) }
     ensures fails { FailsToOwn P.tree tree.now way.now.expected way.now.address land.old land.new (D.history disk.old)
         (D.faults disk.old) (D.faults disk.new) result }
+    ensures stops { StopsForCause result land.old.blocks.draft.sizes (D.size disk.old) }
     ensures rests { LeavesBe land.old land.new (D.history disk.old) (D.history disk.new) (D.size disk.old)
         (D.size disk.new) tree.now.next }
     ensures book { KeepsBook B.stands B.settled book.old book.new land.old land.new disk.old disk.new result }

@@ -2,6 +2,7 @@
 ghost use Rattle.std.specs.Prelude.{◌≡◌, ◌+◌, ◌<◌, ◌≤◌, ℕ, List, ◌++◌, Some, IfOk};
 ghost use Rattle.qg_node.specs.declared.item.Item.{Item as ItemValue};
 ghost use Rattle.qg_num.specs.declared.fault.BlockFault.TheVariants as block;
+ghost use Rattle.qg_blocks.specs.Stopping.{StopsForCause};
 ghost use Rattle.qg_space.specs.Holding.{free_slots};
 ghost use Rattle.qg_ground.specs.Tellings.{Telling};
 ghost use Rattle.qg_ground.specs.Calls.{KeepsBook, LeavesBe};
@@ -57,6 +58,7 @@ pub(crate) fn own_neighbour<P: TreePart, D: Disk, L: Ledger, B: Book<D, L>>(
         × B.follows before (log ++ tellings_owned is.owned.node is.beside.way.address is.now) book.new) }
     ensures fails { FailsToPair P.tree tree.now level at to place child land.old land.new (D.history disk.old)
         (D.faults disk.old) (D.faults disk.new) result }
+    ensures stops { StopsForCause result land.old.blocks.draft.sizes (D.size disk.old) }
     ensures rests { LeavesBe land.old land.new (D.history disk.old) (D.history disk.new) (D.size disk.old)
         (D.size disk.new) tree.now.next }
     ensures book { KeepsBook B.stands B.settled book.old book.new land.old land.new disk.old disk.new result }

@@ -9,6 +9,7 @@ ghost use Rattle.qg_node.specs.declared.node.Node.{Node as NodeValue};
 ghost use Rattle.qg_node.specs.declared.node.Node.TheVariants as node;
 ghost use Rattle.qg_node.specs.NodeText.{IsNode, IsNodeSize};
 ghost use Rattle.qg_shape.specs.Pointing.{pointer_to};
+ghost use Rattle.qg_blocks.specs.Stopping.{StopsForCause};
 ghost use Rattle.qg_blocks.specs.Told.{BreaksNone, fresh_at};
 ghost use Rattle.qg_edit.specs.Outcome.{cleared};
 ghost use Rattle.qg_tree_edits.specs.Editing.{IsEditable, IsFreshOn, IsRewritten, StandsInstead, alone};
@@ -53,6 +54,7 @@ pub(crate) fn set_root<P: TreePart, D: Disk, L: Ledger, B: Book<D, L>>(
         book.new result }
     ensures fails { FailsToRoot P.tree tree.old land.old land.new (D.history disk.old) instead (D.faults disk.old)
         (D.faults disk.new) result }
+    ensures stops { StopsForCause result land.old.blocks.draft.sizes (D.size disk.old) }
     ensures rests { LeavesBe land.old land.new (D.history disk.old) (D.history disk.new) (D.size disk.old)
         (D.size disk.new) tree.old.next }
     ensures book { KeepsBook B.stands B.settled book.old book.new land.old land.new disk.old disk.new result }
@@ -88,6 +90,7 @@ fn grow<P: TreePart, D: Disk, L: Ledger, B: Book<D, L>>(
         (record { now = now; more = Some more }) items book.old book.new result }
     ensures fails { FailsToRoot P.tree tree.old land.old land.new (D.history disk.old)
         (record { now = now; more = Some more }) (D.faults disk.old) (D.faults disk.new) result }
+    ensures stops { StopsForCause result land.old.blocks.draft.sizes (D.size disk.old) }
     ensures rests { LeavesBe land.old land.new (D.history disk.old) (D.history disk.new) (D.size disk.old)
         (D.size disk.new) tree.old.next }
     ensures book { KeepsBook B.stands B.settled book.old book.new land.old land.new disk.old disk.new result }
@@ -129,6 +132,7 @@ fn shrink<P: TreePart, D: Disk, L: Ledger, B: Book<D, L>>(
         → RootsItems B.follows P.tree tree.old tree.new land.old land.new (D.history disk.old) (alone now) items
         book.old book.new result }
     ensures fails { FailsByDisk (D.history disk.old) (D.faults disk.old) (D.faults disk.new) result }
+    ensures stops { StopsForCause result land.old.blocks.draft.sizes (D.size disk.old) }
     ensures rests { LeavesBe land.old land.new (D.history disk.old) (D.history disk.new) (D.size disk.old)
         (D.size disk.new) tree.old.next }
     ensures book { KeepsBook B.stands B.settled book.old book.new land.old land.new disk.old disk.new result }

@@ -13,6 +13,7 @@ ghost use Rattle.qg_super.specs.declared.superblock.Super.{Super as SuperValue};
 ghost use Rattle.qg_image.specs.declared.tree.Tree.{Tree as TreeValue};
 ghost use Rattle.qg_shape.specs.Filled.{IsThin};
 ghost use Rattle.qg_shape.specs.Parts.{IsInner};
+ghost use Rattle.qg_blocks.specs.Stopping.{StopsForCause};
 ghost use Rattle.qg_blocks.specs.Told.{fresh_at};
 ghost use Rattle.qg_tree_edits.specs.Editing.{CanLead, HasLed, IsNamed, IsRewritten, IsUnsettled, OfEach};
 ghost use Rattle.qg_tree_edits.specs.Editing.{StandsInstead, StaysCut, alone};
@@ -60,6 +61,7 @@ pub(crate) fn settle<P: TreePart, D: Disk, L: Ledger, B: Book<D, L>>(
         un.header items book.old book.new result }
     ensures fails { FailsToSettle P.tree tree.now level at to place child land.old land.new (D.history disk.old)
         (D.faults disk.old) (D.faults disk.new) result }
+    ensures stops { StopsForCause result land.old.blocks.draft.sizes (D.size disk.old) }
     ensures rests { LeavesBe land.old land.new (D.history disk.old) (D.history disk.new) (D.size disk.old)
         (D.size disk.new) tree.now.next }
     ensures book { KeepsBook B.stands B.settled book.old book.new land.old land.new disk.old disk.new result }
@@ -100,6 +102,7 @@ fn join_child<P: TreePart, D: Disk, L: Ledger, B: Book<D, L>>(
         un.pointers un.header items book.old book.new result }
     ensures fails { FailsToSettle P.tree tree.now level at to place (alone child) land.old land.new (D.history disk.old)
         (D.faults disk.old) (D.faults disk.new) result }
+    ensures stops { StopsForCause result land.old.blocks.draft.sizes (D.size disk.old) }
     ensures rests { LeavesBe land.old land.new (D.history disk.old) (D.history disk.new) (D.size disk.old)
         (D.size disk.new) tree.now.next }
     ensures book { KeepsBook B.stands B.settled book.old book.new land.old land.new disk.old disk.new result }

@@ -46,12 +46,15 @@ names-most pieces names few = omega (arith, few)
 copies-are : (level pieces : ℕ) → 9 * file_copies level pieces ≡ (pieces + 3) * (27 * level + 54)
 copies-are level pieces = omega arith
 
-least : (m l : ℕ) → m * (11 * l + 47) ≤ m * (27 * l + 54)
-least m l = mul-le-mul_left m (omega arith)
+least : (m l : ℕ) → 3 ≤ m → m * (11 * l + 47) + 21 ≤ m * (27 * l + 54)
+least m l some =
+    let most : m * (11 * l + 54) ≤ m * (27 * l + 54) = mul-le-mul_left m (omega arith) in
+    let spread : m * (11 * l + 54) ≡ m * (11 * l + 47) + 7 * m = omega arith in
+    omega (arith, most, spread, some)
 
 pub covers-need : (nodesize level pieces height edits names before after : ℕ)
     → GetsHeavierBy nodesize level pieces height edits names before after
-    → 5 * nodes_filled nodesize after + 13 ≤ 9 * file_copies level pieces + 8 * nodes_filled nodesize before + 40
+    → 5 * nodes_filled nodesize after + 40 ≤ 9 * file_copies level pieces + 8 * nodes_filled nodesize before + 40
 covers-need nodesize level pieces height edits names before after is =
     let c = capacity nodesize in
     let size = is.size in
@@ -66,14 +69,14 @@ covers-need nodesize level pieces height edits names before after is =
     let most : after ≤ before + (pieces + 3) * ((2 * level + 9) * (74 + c)) + (pieces + 3) * 204 =
     omega (arith, edited, named, all) in
     let filled = filled_after c f g (pieces + 3) level before after wide holds fills most in
-    let enough = least (pieces + 3) level in
+    let enough = least (pieces + 3) level (omega arith) in
     let copies = copies-are level pieces in
     omega (arith, filled, enough, copies)
 
 pub leaves-need : (nodesize level pieces height edits names before after free left : ℕ)
     → GetsHeavierBy nodesize level pieces height edits names before after
     → 10 * file_copies level pieces + 8 * nodes_filled nodesize before + 40 ≤ free
-    → free ≤ left + file_copies level pieces → 5 * nodes_filled nodesize after + 13 ≤ left
+    → free ≤ left + file_copies level pieces → 5 * nodes_filled nodesize after + 40 ≤ left
 leaves-need nodesize level pieces height edits names before after free left is enough taken =
     let covers = covers-need nodesize level pieces height edits names before after is in
     omega (arith, covers, enough, taken)

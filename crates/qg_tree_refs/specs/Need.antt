@@ -18,7 +18,7 @@ pub record GetsHeavierBy (nodesize level pieces height edits names before after 
 abbrev pub NeedCovers : Type 0
 NeedCovers = (nodesize level pieces height edits names before after : ℕ)
     → GetsHeavierBy nodesize level pieces height edits names before after
-    → 5 * nodes_filled nodesize after + 13
+    → 5 * nodes_filled nodesize after + 40
     ≤ 9 * file_copies level pieces + 8 * nodes_filled nodesize before + 40
 
 -- so where those were free before, and the command took no more than it may, these are free behind it
@@ -26,4 +26,4 @@ abbrev pub NeedLeaves : Type 0
 NeedLeaves = (nodesize level pieces height edits names before after free left : ℕ)
     → GetsHeavierBy nodesize level pieces height edits names before after
     → 10 * file_copies level pieces + 8 * nodes_filled nodesize before + 40 ≤ free
-    → free ≤ left + file_copies level pieces → 5 * nodes_filled nodesize after + 13 ≤ left
+    → free ≤ left + file_copies level pieces → 5 * nodes_filled nodesize after + 40 ≤ left

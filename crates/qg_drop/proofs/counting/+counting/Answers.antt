@@ -9,6 +9,10 @@ use Rattle.qg_drop.proofs.Resting.{handed, unbroken-handed}
 use Rattle.qg_drop.specs.Counting.{LeadsToBranch, ways_reached, ways_told}
 use Rattle.qg_drop.proofs.Counted.{children-lead, inner-count, leaf-count, read-on, some-below, tells-read, top-told}
 use Rattle.qg_drop.proofs.Ways.{ways-first, ways-levelled}
+use Rattle.qg_image.specs.declared.tree.Tree.TheVariants.{Files}
+use Rattle.qg_blocks.specs.Held.{Draft}
+use Rattle.qg_blocks.proofs.Stopping.{stops-err}
+use Rattle.qg_descent.proofs.Stopping.{stops-visit}
 use Rattle.qg_drop.proofs.counting.+counting.Goals as goal
 
 pub count_each-ways-init : goal.count_each-ways-init
@@ -259,3 +263,26 @@ count_under-returns-clause-read g t c =
     (g.D.Disk.history c.visit.new.disk) (g.D.Disk.history c.count_each.new.disk)
     (g.D.Disk.size c.args.disk.now) (g.D.Disk.size c.visit.new.disk) (g.D.Disk.size c.count_each.new.disk)
     c.visit.ensures.read c.in_ok-below.ensures.read
+
+-- ---- over any disk
+
+pub count_under-returns-in_err-visit-clause-stops : goal.count_under-returns-in_err-visit-clause-stops
+count_under-returns-in_err-visit-clause-stops g t c =
+    stops-visit c.from_residual.result c.in_err-visit.field-0.0 Files c.args.tree.now c.args.blocks.now.draft
+    (g.D.Disk.size c.args.disk.now) c.args.way.now.expected c.args.way.now.address c.from_residual.ensures.1
+    c.in_err-visit.ensures.stops
+
+pub count_under-returns-in_err-below-clause-stops : goal.count_under-returns-in_err-below-clause-stops
+count_under-returns-in_err-below-clause-stops g t c =
+    let residual = c.from_residual-in_err-below in
+    let read = c.visit.ensures.read in
+    stops-err ℕ residual.result c.in_err-below.field-0.0 c.visit.new.blocks.draft.sizes
+    c.args.blocks.now.draft.sizes (g.D.Disk.size c.visit.new.disk) (g.D.Disk.size c.args.disk.now)
+    residual.ensures.1 (ap (λ (d : Draft). d.sizes) read.draft) read.size c.in_err-below.ensures.stops
+
+pub count_each-returns-in_err-more-clause-stops : goal.count_each-returns-in_err-more-clause-stops
+count_each-returns-in_err-more-clause-stops g t c =
+    let read = c.ways.invariant.read in
+    stops-err ℕ c.from_residual.result c.in_err-more.field-0.0 c.ways.blocks.draft.sizes c.args.blocks.now.draft.sizes
+    (g.D.Disk.size c.ways.disk) (g.D.Disk.size c.args.disk.now) c.from_residual.ensures.1
+    (ap (λ (d : Draft). d.sizes) read.draft) read.size c.in_err-more.ensures.stops

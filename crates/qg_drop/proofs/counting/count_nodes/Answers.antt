@@ -85,3 +85,6 @@ returns-clause-editable g c =
     (g.D.Disk.history c.args.disk.now) (g.D.Disk.history c.count_under.new.disk) (g.D.Disk.size c.args.disk.now)
     (g.D.Disk.size c.count_under.new.disk) c.args.tree.now.next c.requires.editable c.count_under.ensures.read.size
     rests
+
+pub returns-clause-stops : goal.returns-clause-stops
+returns-clause-stops g c = c.count_under.ensures.stops

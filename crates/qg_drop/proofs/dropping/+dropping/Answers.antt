@@ -25,6 +25,11 @@ use Rattle.qg_drop.proofs.Leaving.{holds-read, inner-counts, inner-leaves, leaf-
 use Rattle.qg_drop.proofs.Stepping.{Went, edit-still, few-all, few-part, never-ok, times_on, rests-on}
 use Rattle.qg_drop.proofs.Stepping.{rests-read, rests-still, times-some, weighs-all, weighs-most}
 use Rattle.qg_drop.proofs.Stepping.{weighs-on, went-all, went-none, went-on}
+use Rattle.std.specs.Prelude.{Err}
+use Rattle.qg_num.specs.declared.rule.Rule.TheVariants.{Refs}
+use Rattle.qg_image.specs.declared.tree.Tree.TheVariants.{Files}
+use Rattle.qg_blocks.proofs.Stopping.{misfit-refs, stops-err, stops-rule, stops-same}
+use Rattle.qg_descent.proofs.Stopping.{stops-visit}
 use Rattle.qg_drop.proofs.dropping.+dropping.Goals as goal
 
 pub drop_each-parts-init : goal.drop_each-parts-init
@@ -511,3 +516,41 @@ drop_under-returns-clause-rests g t c =
     (c.part_with.ensures.rests history c.args.tree.now.next read.backed read.drafted) in
     rests-on c.args.land.now c.part_with.new.land c.drop_each.new.land history (g.D.Disk.history c.drop_each.new.disk)
     c.args.tree.now.next parted c.drop_each.ensures.rests
+
+-- ---- over any disk
+
+pub drop_under-returns-in_err-visit-clause-stops : goal.drop_under-returns-in_err-visit-clause-stops
+drop_under-returns-in_err-visit-clause-stops g t c =
+    stops-visit c.from_residual.result c.in_err-visit.field-0.0 Files c.args.tree.now c.args.land.now.blocks.draft
+    (g.D.Disk.size c.args.disk.now) c.args.part.now.way.expected c.args.part.now.way.address
+    c.from_residual.ensures.1 c.in_err-visit.ensures.stops
+
+pub drop_under-returns-in_err-part_with-clause-stops :
+    goal.drop_under-returns-in_err-part_with-clause-stops
+drop_under-returns-in_err-part_with-clause-stops g t c =
+    let residual = c.from_residual-in_err-part_with in
+    let sizes = c.args.land.now.blocks.draft.sizes in
+    let bytes = g.D.Disk.size c.args.disk.now in
+    let fault = c.in_err-part_with.field-0.0 in
+    stops-err (Unit {0}) residual.result fault sizes sizes bytes bytes residual.ensures.1 refl refl
+    (stops-rule {A = Unit {0}} (Err fault) Refs sizes bytes misfit-refs c.in_err-part_with.ensures.refs)
+
+pub drop_under-returns-clause-stops : goal.drop_under-returns-clause-stops
+drop_under-returns-clause-stops g t c =
+    let mid : Ground = record c.args.land.now { blocks = c.visit.new.blocks } in
+    let history = g.D.Disk.history c.visit.new.disk in
+    let read = rests-read c.args.land.now c.visit.new.blocks history c.args.tree.now.next c.visit.ensures.read.draft
+    c.visit.ensures.read.bound c.visit.ensures.readable.backed c.requires.editable.drafted in
+    let parted = rests-on c.args.land.now mid c.part_with.new.land history history c.args.tree.now.next read
+    (c.part_with.ensures.rests history c.args.tree.now.next read.backed read.drafted) in
+    stops-same c.drop_each.result c.part_with.new.land.blocks.draft.sizes c.args.land.now.blocks.draft.sizes
+    (g.D.Disk.size c.visit.new.disk) (g.D.Disk.size c.args.disk.now) parted.node_sizes c.visit.ensures.read.size
+    c.drop_each.ensures.stops
+
+pub drop_each-returns-in_err-drop_under-clause-stops :
+    goal.drop_each-returns-in_err-drop_under-clause-stops
+drop_each-returns-in_err-drop_under-clause-stops g t c =
+    let met = c.parts.invariant in
+    stops-err (Unit {0}) c.from_residual.result c.in_err-drop_under.field-0.0 c.parts.land.blocks.draft.sizes
+    c.args.land.now.blocks.draft.sizes (g.D.Disk.size c.parts.disk) (g.D.Disk.size c.args.disk.now)
+    c.from_residual.ensures.1 met.rests.node_sizes met.size c.in_err-drop_under.ensures.stops

@@ -15,6 +15,11 @@ use Rattle.qg_drop.specs.declared.child.Child.{Child}
 use Rattle.qg_drop.proofs.Called.{finished, first-open, reference-there, root-count, root-part, same-next, started}
 use Rattle.qg_drop.proofs.Called.{weighs}
 use Rattle.qg_drop.proofs.Stepping.{never-ok}
+use Rattle.std.proofs.Common.{refl}
+use Rattle.std.specs.Prelude.{Err}
+use Rattle.qg_num.specs.declared.fault.BlockFault.{BlockFault}
+use Rattle.qg_num.specs.declared.rule.Rule.TheVariants.{Refs}
+use Rattle.qg_blocks.proofs.Stopping.{misfit-refs, stops-err, stops-misfit}
 use Rattle.qg_drop.proofs.dropping.drop_all.Goals as goal
 
 pub returns-then-not-unname-clause-sound : goal.returns-then-not-unname-clause-sound
@@ -178,3 +183,17 @@ returns-clause-heavier g c state holds has same =
     c.owner.result c.root-2.ensures c.owner.ensures drops c.requires.book c.drop_under.new.book
     (nodes_reached state root.owner * most) first mid
     (subst (λ (n : ℕ). BookGetsHeavier after c.drop_under.new.book (n * most)) count rest)
+
+-- ---- over any disk
+
+pub returns-then-not-unname-clause-stops : goal.returns-then-not-unname-clause-stops
+returns-then-not-unname-clause-stops g c =
+    stops-misfit {A = Unit {0}} (Err c.misfit_at.result) Refs _ c.args.land.now.blocks.draft.sizes
+    (g.D.Disk.size c.args.disk.now) misfit-refs (ap (λ (f : BlockFault). Err f) c.misfit_at.ensures)
+
+pub returns-in_err-drop_under-clause-stops : goal.returns-in_err-drop_under-clause-stops
+returns-in_err-drop_under-clause-stops g c =
+    let sizes = c.args.land.now.blocks.draft.sizes in
+    let bytes = g.D.Disk.size c.args.disk.now in
+    stops-err (Unit {0}) c.from_residual.result c.in_err-drop_under.field-0.0 sizes sizes bytes bytes
+    c.from_residual.ensures.1 refl refl c.in_err-drop_under.ensures.stops

@@ -22,6 +22,8 @@ use Rattle.qg_drop.proofs.Reading.{node-is, none-met}
 use Rattle.qg_drop.proofs.Resting.{RestsButRuns-given, RestsButRuns-same, free-left, unbroken-handed}
 use Rattle.qg_drop.proofs.Sound.{can-part, taken-all}
 use Rattle.qg_drop.proofs.Weighing.{held-node, parted-heavier}
+use Rattle.qg_num.specs.declared.rule.Rule.TheVariants.{Refs}
+use Rattle.qg_blocks.proofs.Stopping.{rule-err}
 use Rattle.qg_drop.proofs.parting.part_with.Goals as goal
 use Rattle.qg_drop.proofs.parting.part_with.Goals.{in-Goes+in_ok-gone, in_default-case}
 
@@ -166,3 +168,9 @@ pub give_runs-requires : goal.give_runs-requires
 give_runs-requires c =
     subst (λ (es : List Element). All (λ (run : Element). Contains c.args.land.now.space.runs run) es)
     (sym c.as_slice-in-Goes.ensures.value) c.in_ok-gone.ensures.taken
+
+pub returns-in_err-gone-clause-refs : goal.returns-in_err-gone-clause-refs
+returns-in_err-gone-clause-refs c =
+    let residual = c.from_residual-in_err-gone in
+    rule-err (Vec Element Global) residual.result c.in_err-gone.field-0.0 Refs residual.ensures.1
+    c.in_err-gone.ensures.refs

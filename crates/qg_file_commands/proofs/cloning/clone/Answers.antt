@@ -1,10 +1,12 @@
-use Rattle.std.proofs.Common.{◌+◌, ◌<◌, ◌∙◌, ℕ, List, Option, ap, refl, rules, subst, sym}
+use Rattle.std.proofs.Common.{◌+◌, ◌<◌, ◌∙◌, ◌≤◌, ℕ, List, Option, ap, refl, rules, subst, sym}
 use Rattle.std.specs.Prelude.{◌==◌, ◌&&◌}
+use Rattle.qg_num.specs.declared.command.Command.TheVariants.{Clone}
 use Rattle.qg_num.specs.declared.piece.Piece.{Piece}
 use Rattle.qg_num.specs.declared.refusal.Refusal.TheVariants as why
 use Rattle.qg_items.specs.declared.file.InodeItem.{InodeItem}
 use Rattle.qg_image.specs.declared.file.File.{File}
 use Rattle.qg_image.specs.Table.{value_at}
+use Rattle.qg_machine.specs.FileChange.{pieces_meeting}
 use Rattle.qg_machine.specs.Refusals.{share_a_byte}
 use Rattle.qg_groups.specs.OnOrOff.{path_in, refusal_in}
 use Rattle.qg_groups.specs.Tracked.{quota_of}
@@ -21,6 +23,7 @@ use Rattle.qg_kept.proofs.Looked.{holds-looked, keeps-looked, looked-again, owne
 use Rattle.qg_file_commands.proofs.Reasons.{missing-clone, none-there, other-clone, other-target, overlap-clone}
 use Rattle.qg_file_commands.proofs.Reasons.{some-there}
 use Rattle.qg_kept.proofs.Turned.{same-read, same-then, unchanged-then}
+use Rattle.qg_file_commands.proofs.Asked.{asked-then, source-pieces, source-read}
 use Rattle.qg_file_commands.proofs.cloning.clone.Goals as goal
 
 pub turn_to-requires : goal.turn_to-requires
@@ -325,3 +328,40 @@ returns-clause-unchanged g c =
     (looked-again c.turn_to-2.new.kept c.inode_in.new.kept c.pieces_in.new.kept _ _ _ _ _ _
     c.in_ok-inode.ensures.looked c.in_ok-source.ensures.looked))
     c.clone_pieces.ensures.unchanged
+
+-- ---- how much is read
+
+pub returns-clause-reads : goal.returns-clause-reads
+returns-clause-reads g c =
+    asked-then c.clone_pieces.result c.args.kept.now (g.D.Disk.history c.args.disk.now)
+    (Clone c.args.sub c.args.ino c.args.off c.args.len c.args.to_sub c.args.to_ino c.args.to_off) c.args.reads.now
+    c.pieces_in.new.reads c.clone_pieces.new.reads
+    (λ state change given told.
+    let kept = c.turn_to-2.new.kept in
+    let read = c.inode_in.new.kept in
+    let mid = c.pieces_in.new.kept in
+    let before = g.D.Disk.history c.args.disk.now in
+    let bytes = g.D.Disk.size c.args.disk.now in
+    let then = g.D.Disk.history c.inode_in.new.disk in
+    let between = g.D.Disk.history c.pieces_in.new.disk in
+    let left = g.D.Disk.size c.pieces_in.new.disk in
+    let fits = c.turn_to.ensures.kept before bytes c.requires.kept in
+    let first = c.turn_to.ensures.keeps state before bytes (other_names state) c.requires.kept given in
+    let keeps = c.turn_to-2.ensures.keeps state before bytes (other_names state) fits first in
+    let one = c.in_ok-inode.ensures.looked in
+    let looked = looked-again kept read mid before then between bytes _ left one c.in_ok-source.ensures.looked in
+    let still = keeps-looked kept mid before between bytes left state (other_names state) looked keeps in
+    let at_read = holds-looked kept read before then bytes _ keeps.files one keeps.keeps.holds in
+    let source = c.in_ok-source.ensures.found keeps.files at_read in
+    let there = source-there kept state before keeps c.args.sub (c.turn_to-2.ensures.hand c.if-not-turn_to-2.false) in (
+      c.clone_pieces.ensures.reads state c.args.sub c.args.ino keeps.mine change still there
+          (source ∙ ap (λ (files : List (ℕ × File)). pieces_met c.args.off (c.args.off + c.args.len)
+          (pieces_of c.args.ino files)) (sym keeps.keeps.are)) told,
+      source-read c.args.reads.now c.inode_in.new.reads c.pieces_in.new.reads
+          (pieces_meeting c.args.off (c.args.off + c.args.len) (pieces_of c.args.ino keeps.files)) change.pieces
+          (c.in_ok-inode.ensures.reads keeps.files keeps.keeps.holds) (c.in_ok-source.ensures.reads keeps.files at_read)
+          (subst (λ (files : List (ℕ × File)). pieces_meeting c.args.off (c.args.off + c.args.len)
+          (pieces_of c.args.ino files) ≤ change.pieces) keeps.keeps.are
+          (source-pieces state c.args.sub keeps.mine there c.args.ino c.args.off c.args.len c.args.to_sub c.args.to_ino
+          c.args.to_off change told)),
+    ))

@@ -16,6 +16,8 @@ use Rattle.qg_kept.proofs.Looked.{is-subvolume, keeps-looked, node-size, owner-r
 use Rattle.qg_file_commands.proofs.Reasons.{other-target}
 use Rattle.qg_file_commands.proofs.Touched.{met-both}
 use Rattle.qg_kept.proofs.Turned.{same-read, source-tree}
+use Rattle.qg_machine.specs.FileChange.{pieces_meeting}
+use Rattle.qg_file_commands.proofs.Asked.{clone-pieces, target-reads}
 use Rattle.qg_file_commands.proofs.cloning.clone_pieces.Goals as goal
 
 pub turn_to-requires : goal.turn_to-requires
@@ -182,3 +184,28 @@ returns-clause-step g c = λ state sub ino from given there source passes limits
     c.in_ok-clone_into.ensures.leaves
     (c.in_ok-clone_into.ensures.cloned still.files from.files tree.tree ino still.keeps.holds tree.among tree.files
     source finds)
+
+-- ---- how much is read
+
+pub returns-clause-reads : goal.returns-clause-reads
+returns-clause-reads g c = λ state sub ino from change given there source told accepted.
+    let kept = c.turn_to.new.kept in
+    let mid = c.found_in.new.kept in
+    let before = g.D.Disk.history c.args.disk.now in
+    let bytes = g.D.Disk.size c.args.disk.now in
+    let between = g.D.Disk.history c.found_in.new.disk in
+    let left = g.D.Disk.size c.found_in.new.disk in
+    let keeps = c.turn_to.ensures.keeps state before bytes (other_names state) c.requires.kept given in
+    let looked = c.in_ok-found.ensures.looked in
+    let still = keeps-looked kept mid before between bytes left state (other_names state) looked keeps in
+    let finds = c.in_ok-found.ensures.found keeps.files keeps.keeps.holds in
+    let tree = source-tree mid between left state (other_names state) c.in_ok-found.ensures.kept still sub from there in
+    target-reads c.args.reads.now c.found_in.new.reads c.clone_into.new.reads
+    (pieces_meeting c.args.to_off (c.args.to_off + c.args.len) (pieces_of c.args.to_ino keeps.files))
+    (pieces_meeting c.args.off (c.args.off + c.args.len) (pieces_of ino from.files)) change.pieces
+    (c.in_ok-found.ensures.reads keeps.files keeps.keeps.holds)
+    (c.in_ok-clone_into.ensures.reads still.files from.files tree.tree ino still.keeps.holds tree.among tree.files
+    source finds)
+    (clone-pieces mid state between left c.in_ok-found.ensures.kept still c.in_ok-why.ensures.table change sub from
+    there ino c.args.off c.args.len c.args.to_sub c.args.to_ino c.args.to_off
+    (sym (c.turn_to.ensures.hand c.if-not-turn_to.false) ∙ owner-read kept mid before between bytes left looked) told)

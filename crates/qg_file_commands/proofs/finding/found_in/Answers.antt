@@ -3,6 +3,9 @@ use Rattle.qg_num.specs.declared.piece.Piece.{Piece}
 use Rattle.qg_kept.proofs.PiecesRead.{handed}
 use Rattle.qg_kept.proofs.Whole.{handed-sound}
 use Rattle.qg_kept.proofs.Looked.{holds-looked}
+use Rattle.qg_machine.specs.FileChange.{pieces_meeting}
+use Rattle.qg_kept.specs.Files.{pieces_of}
+use Rattle.qg_file_commands.proofs.Asked.{found-read, inode-read}
 use Rattle.qg_file_commands.proofs.finding.found_in.Goals as goal
 
 pub returns-in_err-met-clause-sound : goal.returns-in_err-met-clause-sound
@@ -21,3 +24,25 @@ returns-clause-found g c = λ files holds.
       inode = c.in_ok-inode.ensures.found files holds;
       met = c.in_ok-met.ensures.found files still;
     }
+
+-- ---- how much is read
+
+pub returns-in_err-inode-clause-reads : goal.returns-in_err-inode-clause-reads
+returns-in_err-inode-clause-reads g c = λ files holds.
+    inode-read c.args.reads.now c.inode_in.new.reads
+    (pieces_meeting c.args.from c.args.to (pieces_of c.args.ino files))
+    (c.in_err-inode.ensures.reads files holds)
+
+pub returns-in_err-met-clause-reads : goal.returns-in_err-met-clause-reads
+returns-in_err-met-clause-reads g c = λ files holds.
+    let still = holds-looked c.args.kept.now c.inode_in.new.kept _ _ _ _ files c.in_ok-inode.ensures.looked holds in
+    found-read c.args.reads.now c.inode_in.new.reads c.pieces_in.new.reads
+    (pieces_meeting c.args.from c.args.to (pieces_of c.args.ino files))
+    (c.in_ok-inode.ensures.reads files holds) (c.in_err-met.ensures.reads files still)
+
+pub returns-clause-reads : goal.returns-clause-reads
+returns-clause-reads g c = λ files holds.
+    let still = holds-looked c.args.kept.now c.inode_in.new.kept _ _ _ _ files c.in_ok-inode.ensures.looked holds in
+    found-read c.args.reads.now c.inode_in.new.reads c.pieces_in.new.reads
+    (pieces_meeting c.args.from c.args.to (pieces_of c.args.ino files))
+    (c.in_ok-inode.ensures.reads files holds) (c.in_ok-met.ensures.reads files still)

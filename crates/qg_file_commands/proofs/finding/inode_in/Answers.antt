@@ -1,4 +1,5 @@
 use Rattle.qg_kept.proofs.Looked.{is-near, is-readable, kept-read, tells-files}
+use Rattle.qg_file_commands.proofs.Asked.{low, way-reads}
 use Rattle.qg_file_commands.proofs.finding.inode_in.Goals as goal
 
 pub inode_of-requires : goal.inode_of-requires
@@ -22,3 +23,9 @@ returns-clause-kept g c =
     kept-read c.args.kept.now c.inode_of.new.blocks (g.D.Disk.history c.args.disk.now)
     (g.D.Disk.history c.inode_of.new.disk) (g.D.Disk.size c.args.disk.now) (g.D.Disk.size c.inode_of.new.disk)
     c.requires.kept c.inode_of.ensures.read c.inode_of.ensures.readable
+
+pub returns-clause-reads : goal.returns-clause-reads
+returns-clause-reads g c = λ files holds.
+    way-reads c.args.reads.now c.inode_of.new.reads c.args.kept.now.fs.tree.height
+    (low c.args.kept.now (g.D.Disk.history c.args.disk.now) (g.D.Disk.size c.args.disk.now) files c.requires.kept holds)
+    c.inode_of.ensures.reads

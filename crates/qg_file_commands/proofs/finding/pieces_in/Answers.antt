@@ -1,4 +1,6 @@
 use Rattle.qg_kept.proofs.Looked.{is-near, is-readable, kept-read, tells-files}
+use Rattle.qg_kept.specs.Files.{pieces_of}
+use Rattle.qg_file_commands.proofs.Asked.{low, pieces-read}
 use Rattle.qg_file_commands.proofs.finding.pieces_in.Goals as goal
 
 pub pieces_meeting-requires : goal.pieces_meeting-requires
@@ -23,3 +25,12 @@ returns-clause-kept g c =
     (g.D.Disk.history c.pieces_meeting.new.disk) (g.D.Disk.size c.args.disk.now)
     (g.D.Disk.size c.pieces_meeting.new.disk)
     c.requires.kept c.pieces_meeting.ensures.read c.pieces_meeting.ensures.readable
+
+pub returns-clause-reads : goal.returns-clause-reads
+returns-clause-reads g c = λ files holds.
+    pieces-read c.args.reads.now c.pieces_meeting.new.reads c.args.kept.now.fs.tree.height c.args.from c.args.to
+    (pieces_of c.args.ino files)
+    (low c.args.kept.now (g.D.Disk.history c.args.disk.now) (g.D.Disk.size c.args.disk.now) files c.requires.kept holds)
+    (c.pieces_meeting.ensures.reads files
+    (tells-files c.args.kept.now.fs (g.D.Disk.history c.args.disk.now) files holds
+    (is-near c.args.kept.now c.requires.kept.fitted)))

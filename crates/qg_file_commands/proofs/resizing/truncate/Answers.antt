@@ -1,4 +1,4 @@
-use Rattle.std.proofs.Common.{◌*◌, ◌∙◌, ◌≤◌, ℕ, List, Option, ap, subst, sym}
+use Rattle.std.proofs.Common.{◌+◌, ◌*◌, ◌∙◌, ◌≤◌, ℕ, List, Option, ap, subst, sym}
 use Rattle.qg_num.specs.declared.piece.Piece.{Piece}
 use Rattle.qg_items.specs.declared.file.InodeItem.{InodeItem}
 use Rattle.qg_image.specs.Table.{value_at}
@@ -16,6 +16,10 @@ use Rattle.qg_file_commands.proofs.Reasons.{missing-size, none-there, other-size
 use Rattle.qg_file_commands.proofs.Sized.{lacks-slots, refuses-size, sized}
 use Rattle.qg_file_commands.proofs.Touched.{own-past}
 use Rattle.qg_kept.proofs.Turned.{same-read}
+use Rattle.qg_image.specs.FilesOf.{largest_size}
+use Rattle.qg_machine.specs.FileChange.{pieces_meeting}
+use Rattle.qg_kept.specs.Files.{pieces_of}
+use Rattle.qg_file_commands.proofs.Asked.{cut-pieces, own-reads, past-read}
 use Rattle.qg_file_commands.proofs.resizing.truncate.Goals as goal
 
 pub no_nodes-requires : goal.no_nodes-requires
@@ -227,3 +231,36 @@ returns-clause-step g c = λ state given.
     c.in_ok-truncate.ensures.leaves
     (c.in_ok-truncate.ensures.cut keeps.files there.file still.keeps.holds there.is
     (record { inode = told; met = met }))
+
+-- ---- how much is read
+
+pub returns-clause-reads : goal.returns-clause-reads
+returns-clause-reads g c = λ accepted state change given change_told.
+    let keeps = c.turn_to.ensures.keeps state (g.D.Disk.history c.args.disk.now) (g.D.Disk.size c.args.disk.now)
+    (other_names state) c.requires.kept given in
+    let kept = c.turn_to.new.kept in
+    let read = c.inode_in.new.kept in
+    let mid = c.pieces_in.new.kept in
+    let before = g.D.Disk.history c.args.disk.now in
+    let bytes = g.D.Disk.size c.args.disk.now in
+    let then = g.D.Disk.history c.inode_in.new.disk in
+    let between = g.D.Disk.history c.pieces_in.new.disk in
+    let left = g.D.Disk.size c.pieces_in.new.disk in
+    let first = c.in_ok-inode.ensures.looked in
+    let looked = looked-again kept read mid before then between bytes _ left first c.in_ok-met.ensures.looked in
+    let told = sym c.in-Some.is ∙ c.in_ok-inode.ensures.found keeps.files keeps.keeps.holds in
+    let there = some-there (value_at c.args.ino keeps.files) c.in-Some.inode told in
+    let at_read = holds-looked kept read before then bytes _ keeps.files first keeps.keeps.holds in
+    let met = c.in_ok-met.ensures.found keeps.files at_read in
+    let still = keeps-looked kept mid before between bytes left state (other_names state) looked keeps in
+    let pieces = cut-pieces mid state between left c.in_ok-met.ensures.kept still c.in_ok-why.ensures.table change
+    c.args.sub c.args.ino c.args.size there.file
+    (sym (c.turn_to.ensures.hand c.if-not-turn_to.false) ∙ owner-read kept mid before between bytes left looked)
+    there.is change_told in
+    own-reads c.args.reads.now c.inode_in.new.reads c.pieces_in.new.reads c.truncate.new.reads
+    (pieces_meeting c.args.size largest_size (pieces_of c.args.ino keeps.files)) change.pieces
+    (c.in_ok-inode.ensures.reads keeps.files keeps.keeps.holds) (c.in_ok-met.ensures.reads keeps.files at_read)
+    (subst (λ (n : ℕ). c.truncate.new.reads ≤ c.pieces_in.new.reads + 45 * (n + 3)) pieces
+    (c.in_ok-truncate.ensures.reads keeps.files there.file still.keeps.holds there.is
+    (record { inode = told; met = met })))
+    (past-read c.args.ino there.file keeps.files there.is keeps.keeps.holds.writable c.args.size ∙ pieces)

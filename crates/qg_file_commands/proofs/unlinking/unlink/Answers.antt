@@ -1,4 +1,4 @@
-use Rattle.std.proofs.Common.{◌≡◌, ◌*◌, ◌∙◌, ◌≤◌, ℕ, List, None, Option, ap, arith, subst, sym, true}
+use Rattle.std.proofs.Common.{◌≡◌, ◌+◌, ◌*◌, ◌∙◌, ◌≤◌, ℕ, List, None, Option, ap, arith, subst, sym, true}
 use Rattle.std.specs.Prelude.{not}
 use Rattle.qg_num.specs.declared.piece.Piece.{Piece}
 use Rattle.qg_items.specs.declared.file.InodeItem.{InodeItem}
@@ -19,6 +19,10 @@ use Rattle.qg_file_commands.proofs.Refused.{first_one}
 use Rattle.qg_file_commands.proofs.Touched.{many-met, own-met}
 use Rattle.qg_kept.proofs.Turned.{same-read}
 use Rattle.qg_file_commands.proofs.Unlinked.{lacks-slots, refuses-unlink, unlinked}
+use Rattle.qg_image.specs.FilesOf.{largest_size}
+use Rattle.qg_machine.specs.FileChange.{pieces_meeting}
+use Rattle.qg_kept.specs.Files.{pieces_of}
+use Rattle.qg_file_commands.proofs.Asked.{all-read, own-reads, unlink-pieces}
 use Rattle.qg_file_commands.proofs.unlinking.unlink.Goals as goal
 
 pub turn_to-requires : goal.turn_to-requires
@@ -246,3 +250,36 @@ returns-clause-step g c = λ state keeps.
     c.in_ok-unlink.ensures.leaves
     (c.in_ok-unlink.ensures.unlinked turned.files there.file still.keeps.holds there.is
     (own-met c.args.ino there.file turned.files there.is c.in_ok-met.met met))
+
+-- ---- how much is read
+
+pub returns-clause-reads : goal.returns-clause-reads
+returns-clause-reads g c = λ accepted state change keeps change_told.
+    let kept = c.turn_to.new.kept in
+    let read = c.inode_in.new.kept in
+    let mid = c.pieces_in.new.kept in
+    let before = g.D.Disk.history c.args.disk.now in
+    let bytes = g.D.Disk.size c.args.disk.now in
+    let then = g.D.Disk.history c.inode_in.new.disk in
+    let between = g.D.Disk.history c.pieces_in.new.disk in
+    let left = g.D.Disk.size c.pieces_in.new.disk in
+    let turned = c.turn_to.ensures.keeps state before bytes (other_names state) c.requires.kept keeps in
+    let first = c.in_ok-inode_in.ensures.looked in
+    let looked = looked-again kept read mid before then between bytes _ left first c.in_ok-met.ensures.looked in
+    let told = c.in_ok-inode_in.ensures.found turned.files turned.keeps.holds in
+    let there = file-told (value_at c.args.ino turned.files) c.in_ok-inode_in.field-0 told
+    (c.is_none.ensures ∙ ap not c.if-is_none.false) in
+    let at_read = holds-looked kept read before then bytes _ turned.files first turned.keeps.holds in
+    let met = c.in_ok-met.ensures.found turned.files at_read in
+    let still = keeps-looked kept mid before between bytes left state (other_names state) looked turned in
+    let pieces = unlink-pieces mid state between left c.in_ok-met.ensures.kept still c.in_ok-why.ensures.table change
+    c.args.sub c.args.ino there.file
+    (sym (c.turn_to.ensures.hand c.if-not-turn_to.false) ∙ owner-read kept mid before between bytes left looked)
+    there.is change_told in
+    own-reads c.args.reads.now c.inode_in.new.reads c.pieces_in.new.reads c.unlink.new.reads
+    (pieces_meeting 0 largest_size (pieces_of c.args.ino turned.files)) change.pieces
+    (c.in_ok-inode_in.ensures.reads turned.files turned.keeps.holds) (c.in_ok-met.ensures.reads turned.files at_read)
+    (subst (λ (n : ℕ). c.unlink.new.reads ≤ c.pieces_in.new.reads + 45 * (n + 3)) pieces
+    (c.in_ok-unlink.ensures.reads turned.files there.file still.keeps.holds there.is
+    (own-met c.args.ino there.file turned.files there.is c.in_ok-met.met met)))
+    (all-read c.args.ino there.file turned.files there.is turned.keeps.holds.writable ∙ pieces)

@@ -22,6 +22,7 @@ use Rattle.qg_file_commands.proofs.Reasons.{other-range, range-told}
 use Rattle.qg_file_commands.proofs.Touched.{met-many}
 use Rattle.qg_kept.proofs.Turned.{same-read}
 use Rattle.qg_file_commands.proofs.Written.{lacks-run, lacks-slots, refuses-limit, refuses-range, written}
+use Rattle.qg_file_commands.proofs.Asked.{write-pieces, write-reads}
 use Rattle.qg_file_commands.proofs.writing.write.Goals as goal
 
 pub turn_to-requires : goal.turn_to-requires
@@ -293,3 +294,27 @@ pub returns-in-Some-2-clause-unchanged : goal.returns-in-Some-2-clause-unchanged
 returns-in-Some-2-clause-unchanged g c = λ is.
     same-read c.args.kept.now c.turn_to.new.kept c.found_in.new.kept _ _ _ _ c.turn_to.ensures.same
     c.in_ok-found.ensures.looked
+
+-- ---- how much is read
+
+pub returns-clause-reads : goal.returns-clause-reads
+returns-clause-reads g c = λ accepted state change given told.
+    let before = g.D.Disk.history c.args.disk.now in
+    let bytes = g.D.Disk.size c.args.disk.now in
+    let keeps = c.turn_to.ensures.keeps state before bytes (other_names state) c.requires.kept given in
+    let kept = c.turn_to.new.kept in
+    let mid = c.found_in.new.kept in
+    let between = g.D.Disk.history c.found_in.new.disk in
+    let left = g.D.Disk.size c.found_in.new.disk in
+    let looked = c.in_ok-found.ensures.looked in
+    let still = keeps-looked kept mid before between bytes left state (other_names state) looked keeps in
+    let fits = c.turn_to.ensures.kept before bytes c.requires.kept in
+    let finds = c.in_ok-found.ensures.found keeps.files keeps.keeps.holds in
+    write-reads c.args.reads.now c.found_in.new.reads c.write.new.reads
+    (pieces_meeting c.args.off (c.args.off + c.args.len) (pieces_of c.args.ino keeps.files)) change.pieces
+    (c.in_ok-found.ensures.reads keeps.files keeps.keeps.holds)
+    (c.in_ok-write.ensures.reads keeps.files still.keeps.holds finds)
+    (write-pieces mid state between left c.in_ok-found.ensures.kept still c.in_ok-why.ensures.table change c.args.sub
+    c.args.ino c.args.off c.args.len c.in-Some-run_for.run'
+    (sym (c.turn_to.ensures.hand c.if-not-turn_to.false) ∙ owner-read kept mid before between bytes left looked)
+    (c.in-Some-run_for.ensures.run state before bytes fits keeps) told)

@@ -42,3 +42,8 @@ returns-clause-reads g c files file holds there found =
     (g.D.Disk.history c.args.disk.now) files _ c.args.reads.now c.make_exchange.new.reads c.make_exchange.result holds
     told
     c.make_exchange.ensures.told
+
+-- ---- over any disk
+
+pub returns-clause-stops : goal.returns-clause-stops
+returns-clause-stops g c = c.make_exchange.ensures.stops

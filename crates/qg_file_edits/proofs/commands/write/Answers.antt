@@ -6,6 +6,7 @@ use Rattle.qg_file_edits.proofs.Kept.{leaves-itself}
 use Rattle.qg_file_edits.proofs.Left.{done-files, done-reads, done-sound}
 use Rattle.qg_file_edits.specs.Changes.{IsRangeChange}
 use Rattle.qg_file_edits.proofs.Told.{ready-range, told-write}
+use Rattle.qg_blocks.proofs.Stopping.{stops-memory}
 use Rattle.qg_file_edits.proofs.commands.write.Goals as goal
 
 pub write_change-requires-clause-some : goal.write_change-requires-clause-some
@@ -86,3 +87,13 @@ returns-clause-reads g c files holds finds =
     (g.D.Disk.history c.args.disk.now) files _ c.args.reads.now c.make_exchange.new.reads c.make_exchange.result holds
     told
     c.make_exchange.ensures.told
+
+-- ---- over any disk
+
+pub returns-in_err-change-clause-stops : goal.returns-in_err-change-clause-stops
+returns-in_err-change-clause-stops g c =
+    stops-memory c.from_residual.result c.args.fs.now.land.blocks.draft.sizes (g.D.Disk.size c.args.disk.now)
+    (handed c.from_residual.result NoMemory c.from_residual.ensures.1)
+
+pub returns-clause-stops : goal.returns-clause-stops
+returns-clause-stops g c = c.make_exchange.ensures.stops

@@ -60,3 +60,14 @@ returns-in-Replace-clause-told g c items names stands can covered =
     c.inode_key-key.result (inode_key c.args.ino) c.inode_bytes-text.result (inode_text c.in-Replace.inode)
     c.inode_key-key.ensures c.inode_bytes-text.ensures
     (c.put_again.ensures.told items names stands)) can covered
+
+-- ---- over any disk
+
+pub returns-in-Remove-clause-stops : goal.returns-in-Remove-clause-stops
+returns-in-Remove-clause-stops g c = c.take_out.ensures.stops
+
+pub returns-in-Insert-clause-stops : goal.returns-in-Insert-clause-stops
+returns-in-Insert-clause-stops g c = c.put_new.ensures.stops
+
+pub returns-in-Replace-clause-stops : goal.returns-in-Replace-clause-stops
+returns-in-Replace-clause-stops g c = c.put_again.ensures.stops

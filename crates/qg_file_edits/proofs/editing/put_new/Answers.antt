@@ -7,6 +7,7 @@ use Rattle.qg_file_edits.proofs.Edited.{made-not}
 use Rattle.qg_file_edits.proofs.Handed.{handed, made-handed}
 use Rattle.qg_file_edits.proofs.Kept.{leaves-itself}
 use Rattle.qg_file_edits.proofs.Once.{once-leaves, once-own, once-put}
+use Rattle.qg_blocks.proofs.Stopping.{stops-memory}
 use Rattle.qg_file_edits.proofs.editing.put_new.Goals as goal
 
 pub returns-in_err-body-clause-told : goal.returns-in_err-body-clause-told
@@ -49,3 +50,13 @@ returns-clause-own g c =
     c.args.reads.now c.insert.new.reads c.insert.result c.requires.subvolume c.insert.ensures.rests
     c.insert.ensures.subvolume c.insert.ensures.others
     1 c.insert.ensures.grows
+
+-- ---- over any disk
+
+pub returns-in_err-body-clause-stops : goal.returns-in_err-body-clause-stops
+returns-in_err-body-clause-stops g c =
+    stops-memory c.from_residual.result c.args.fs.now.land.blocks.draft.sizes (g.D.Disk.size c.args.disk.now)
+    (handed c.from_residual.result NoMemory c.from_residual.ensures.1)
+
+pub returns-clause-stops : goal.returns-clause-stops
+returns-clause-stops g c = c.insert.ensures.stops

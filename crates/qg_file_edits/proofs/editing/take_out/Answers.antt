@@ -26,3 +26,6 @@ returns-clause-own g c =
     c.args.reads.now c.remove.new.reads c.remove.result c.requires c.remove.ensures.rests c.remove.ensures.subvolume
     c.remove.ensures.others
     0 c.remove.ensures.grows
+
+pub returns-clause-stops : goal.returns-clause-stops
+returns-clause-stops g c = c.remove.ensures.stops

@@ -64,3 +64,14 @@ returns-in-Replace-clause-told g c items names stands can covered =
     c.piece_key-there.result (key_at c.args.ino piece.position) c.piece_bytes-text.result
     (extent_data_text (extent_data_of piece)) c.piece_key-there.ensures c.piece_bytes-text.ensures
     (c.put_again.ensures.told items names stands)) can covered
+
+-- ---- over any disk
+
+pub returns-in-Remove-clause-stops : goal.returns-in-Remove-clause-stops
+returns-in-Remove-clause-stops g c = c.take_out.ensures.stops
+
+pub returns-in-Insert-clause-stops : goal.returns-in-Insert-clause-stops
+returns-in-Insert-clause-stops g c = c.put_new.ensures.stops
+
+pub returns-in-Replace-clause-stops : goal.returns-in-Replace-clause-stops
+returns-in-Replace-clause-stops g c = c.put_again.ensures.stops

@@ -6,6 +6,7 @@ use Rattle.qg_file_edits.proofs.Handed.{handed, made-handed}
 use Rattle.qg_file_edits.proofs.Items.{is-at}
 use Rattle.qg_file_edits.proofs.Kept.{leaves-then}
 use Rattle.qg_file_edits.proofs.Stepped.{steps-all, steps-failed, steps-more, steps-none}
+use Rattle.qg_blocks.proofs.Stopping.{stops-err}
 use Rattle.qg_file_edits.proofs.editing.take_steps.Goals as goal
 
 pub loop-step-init : goal.loop-step-init
@@ -76,3 +77,10 @@ returns-clause-own g c = c.loop-step.invariant.own
 
 pub returns-clause-cause : goal.returns-clause-cause
 returns-clause-cause g c = record { fine = c.loop-step.invariant.later; met = tt }
+
+pub returns-in_err-take_step-clause-stops : goal.returns-in_err-take_step-clause-stops
+returns-in_err-take_step-clause-stops g c =
+    let leaves = c.loop-step.invariant.leaves in
+    stops-err (Unit {0}) c.from_residual.result c.in_err-take_step.field-0.0 c.loop-step.fs.land.blocks.draft.sizes
+    c.args.fs.now.land.blocks.draft.sizes (g.D.Disk.size c.loop-step.disk) (g.D.Disk.size c.args.disk.now)
+    c.from_residual.ensures.1 leaves.node_sizes leaves.size c.in_err-take_step.ensures.stops

@@ -8,6 +8,8 @@ use Rattle.qg_file_edits.proofs.Edited.{made-not}
 use Rattle.qg_file_edits.proofs.Handed.{handed, made-handed}
 use Rattle.qg_file_edits.proofs.Kept.{leaves-itself, leaves-then, own-then-ok}
 use Rattle.qg_file_edits.proofs.Phases.{items-edited, items-failed}
+use Rattle.std.proofs.Common.{refl}
+use Rattle.qg_blocks.proofs.Stopping.{stops-err, stops-memory, stops-same}
 use Rattle.qg_file_edits.proofs.exchange.edit_items.Goals as goal
 
 pub edit_inode-requires : goal.edit_inode-requires
@@ -68,3 +70,25 @@ returns-clause-cause g c =
     cause-last (g.D.Disk.faults c.args.disk.now) (g.D.Disk.faults c.take_steps.new.disk)
     (g.D.Disk.faults c.edit_inode.new.disk) c.edit_inode.result c.in_ok-take_steps.ensures.cause.fine
     c.edit_inode.ensures.cause
+
+-- ---- over any disk
+
+pub returns-in_err-steps-clause-stops : goal.returns-in_err-steps-clause-stops
+returns-in_err-steps-clause-stops g c =
+    stops-memory c.from_residual.result c.args.fs.now.land.blocks.draft.sizes (g.D.Disk.size c.args.disk.now)
+    (handed c.from_residual.result NoMemory c.from_residual.ensures.1)
+
+pub returns-in_err-take_steps-clause-stops : goal.returns-in_err-take_steps-clause-stops
+returns-in_err-take_steps-clause-stops g c =
+    let residual = c.from_residual-in_err-take_steps in
+    let sizes = c.args.fs.now.land.blocks.draft.sizes in
+    let bytes = g.D.Disk.size c.args.disk.now in
+    stops-err (Unit {0}) residual.result c.in_err-take_steps.field-0.0 sizes sizes bytes bytes residual.ensures.1 refl
+    refl c.in_err-take_steps.ensures.stops
+
+pub returns-clause-stops : goal.returns-clause-stops
+returns-clause-stops g c =
+    let leaves = c.in_ok-take_steps.ensures.leaves in
+    stops-same c.edit_inode.result c.take_steps.new.fs.land.blocks.draft.sizes c.args.fs.now.land.blocks.draft.sizes
+    (g.D.Disk.size c.take_steps.new.disk) (g.D.Disk.size c.args.disk.now) leaves.node_sizes leaves.size
+    c.edit_inode.ensures.stops

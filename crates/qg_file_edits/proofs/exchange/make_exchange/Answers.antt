@@ -15,6 +15,10 @@ use Rattle.qg_file_edits.proofs.Edited.{made-not}
 use Rattle.qg_file_edits.proofs.Handed.{handed, made-handed}
 use Rattle.qg_file_edits.proofs.Kept.{leaves-kept, leaves-then, own-kept, own-then}
 use Rattle.qg_file_edits.proofs.Phases.{edit-failed, first-named, last-unnamed, then-edited}
+use Rattle.std.proofs.Common.{refl}
+use Rattle.std.specs.Prelude.{Err}
+use Rattle.qg_num.specs.declared.rule.Rule.TheVariants.{Refs}
+use Rattle.qg_blocks.proofs.Stopping.{misfit-refs, stops-err, stops-rule}
 use Rattle.qg_file_edits.proofs.exchange.make_exchange.Goals as goal
 
 pub name_those_put-requires : goal.name_those_put-requires
@@ -181,3 +185,28 @@ pub returns-clause-cause : goal.returns-clause-cause
 returns-clause-cause g c =
     cause-other (g.D.Disk.faults c.args.disk.now) (g.D.Disk.faults c.edit_items.new.disk) c.unname_each-unnamed.result
     c.in_ok-edit_items.ensures.cause.fine c.unname_each-unnamed.ensures.fault
+
+-- ---- over any disk
+
+pub returns-in_err-name_those_put-clause-stops : goal.returns-in_err-name_those_put-clause-stops
+returns-in_err-name_those_put-clause-stops g c =
+    let sizes = c.args.fs.now.land.blocks.draft.sizes in
+    let bytes = g.D.Disk.size c.args.disk.now in
+    let fault = c.in_err-name_those_put.field-0.0 in
+    stops-err (Unit {0}) c.from_residual.result fault sizes sizes bytes bytes c.from_residual.ensures.1 refl refl
+    (stops-rule {A = Unit {0}} (Err fault) Refs sizes bytes misfit-refs c.in_err-name_those_put.ensures.refs)
+
+pub returns-in_err-edit_items-clause-stops : goal.returns-in_err-edit_items-clause-stops
+returns-in_err-edit_items-clause-stops g c =
+    let residual = c.from_residual-in_err-edit_items in
+    let bytes = g.D.Disk.size c.args.disk.now in
+    let kept = leaves-kept c.args.fs.now c.name_those_put.new.fs (g.D.Disk.history c.args.disk.now) bytes
+    c.in_ok-name_those_put.ensures.nodes c.requires.subvolume in
+    stops-err (Unit {0}) residual.result c.in_err-edit_items.field-0.0
+    c.name_those_put.new.fs.land.blocks.draft.sizes c.args.fs.now.land.blocks.draft.sizes bytes bytes
+    residual.ensures.1 kept.node_sizes refl c.in_err-edit_items.ensures.stops
+
+pub returns-clause-stops : goal.returns-clause-stops
+returns-clause-stops g c =
+    stops-rule c.unname_each-unnamed.result Refs c.args.fs.now.land.blocks.draft.sizes (g.D.Disk.size c.args.disk.now)
+    misfit-refs c.unname_each-unnamed.ensures.refs

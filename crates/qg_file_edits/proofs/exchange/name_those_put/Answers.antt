@@ -4,6 +4,8 @@ use Rattle.qg_file_edits.proofs.Handed.{handed, named-failed}
 use Rattle.qg_file_edits.proofs.Kept.{nodes-then}
 use Rattle.qg_file_edits.proofs.Besides.{named-later}
 use Rattle.qg_file_edits.proofs.Named.{heavier-named_both}
+use Rattle.qg_num.specs.declared.rule.Rule.TheVariants.{Refs}
+use Rattle.qg_blocks.proofs.Stopping.{rule-err}
 use Rattle.qg_file_edits.proofs.exchange.name_those_put.Goals as goal
 
 pub name_new-requires : goal.name_new-requires
@@ -37,3 +39,11 @@ pub returns-clause-nodes : goal.returns-clause-nodes
 returns-clause-nodes c =
     nodes-then c.args.fs.now c.name_new.new.fs c.name_each.new.fs c.in_ok-name_new.ensures.nodes
     c.name_each.ensures.nodes
+
+pub returns-in_err-name_new-clause-refs : goal.returns-in_err-name_new-clause-refs
+returns-in_err-name_new-clause-refs c =
+    rule-err (Unit {0}) c.from_residual.result c.in_err-name_new.field-0.0 Refs c.from_residual.ensures.1
+    c.in_err-name_new.ensures.refs
+
+pub returns-clause-refs : goal.returns-clause-refs
+returns-clause-refs c = c.name_each.ensures.refs

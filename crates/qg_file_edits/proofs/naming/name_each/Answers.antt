@@ -8,6 +8,9 @@ use Rattle.qg_file_edits.proofs.Handed.{handed, misfit-other, named-failed}
 use Rattle.qg_file_edits.proofs.Items.{is-at}
 use Rattle.qg_file_edits.proofs.Kept.{nodes-then}
 use Rattle.qg_file_edits.proofs.Named.{can-name, names-more, names-none}
+use Rattle.qg_num.specs.declared.rule.Rule.TheVariants.{Refs}
+use Rattle.qg_blocks.proofs.Stopping.{rule-err}
+use Rattle.qg_file_edits.proofs.Handed.{misfit-rule}
 use Rattle.qg_file_edits.proofs.naming.name_each.Goals as goal
 
 pub loop-piece-init : goal.loop-piece-init
@@ -65,3 +68,9 @@ pub returns-in_err-name-clause-fault : goal.returns-in_err-name-clause-fault
 returns-in_err-name-clause-fault c is =
     misfit-other c.piece-item.result.extent c.from_residual.result _
     (handed c.from_residual.result _ c.from_residual.ensures.1) c.in_err-name.ensures.fault is
+
+pub returns-in_err-name-clause-refs : goal.returns-in_err-name-clause-refs
+returns-in_err-name-clause-refs c =
+    let fault = c.in_err-name.field-0.0 in
+    rule-err (Unit {0}) c.from_residual.result fault Refs c.from_residual.ensures.1
+    (misfit-rule (Unit {0}) c.piece-item.result.extent fault c.in_err-name.ensures.fault)

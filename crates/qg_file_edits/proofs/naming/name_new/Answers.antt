@@ -11,6 +11,7 @@ use Rattle.qg_file_edits.specs.Naming.{AreNamed}
 use Rattle.qg_file_edits.proofs.Handed.{misfit-none}
 use Rattle.qg_file_edits.proofs.Kept.{nodes-itself}
 use Rattle.qg_file_edits.proofs.Named.{named-new}
+use Rattle.qg_file_edits.proofs.Handed.{misfit-match}
 use Rattle.qg_file_edits.proofs.naming.name_new.Goals as goal
 
 pub name_new-requires : goal.name_new-requires
@@ -66,3 +67,6 @@ returns-in-None-clause-heavier c =
 
 pub returns-in-None-clause-nodes : goal.returns-in-None-clause-nodes
 returns-in-None-clause-nodes c = nodes-itself c.args.fs.now
+
+pub returns-in-Some-clause-refs : goal.returns-in-Some-clause-refs
+returns-in-Some-clause-refs c = misfit-match c.in-Some.piece.extent c.name_new.result c.name_new.ensures.fault

@@ -7,6 +7,9 @@ use Rattle.qg_file_edits.proofs.Handed.{handed, misfit-other, named-failed}
 use Rattle.qg_file_edits.proofs.Items.{is-at}
 use Rattle.qg_file_edits.proofs.Kept.{nodes-then}
 use Rattle.qg_file_edits.proofs.Named.{can-unname, unnames-more, unnames-none}
+use Rattle.qg_num.specs.declared.rule.Rule.TheVariants.{Refs}
+use Rattle.qg_blocks.proofs.Stopping.{rule-err}
+use Rattle.qg_file_edits.proofs.Handed.{misfit-rule}
 use Rattle.qg_file_edits.proofs.naming.unname_each.Goals as goal
 
 pub loop-piece-init : goal.loop-piece-init
@@ -61,3 +64,9 @@ pub returns-in_err-unname-clause-fault : goal.returns-in_err-unname-clause-fault
 returns-in_err-unname-clause-fault c is =
     misfit-other c.piece-item.result.extent c.from_residual.result _
     (handed c.from_residual.result _ c.from_residual.ensures.1) c.in_err-unname.ensures.fault is
+
+pub returns-in_err-unname-clause-refs : goal.returns-in_err-unname-clause-refs
+returns-in_err-unname-clause-refs c =
+    let fault = c.in_err-unname.field-0.0 in
+    rule-err (Unit {0}) c.from_residual.result fault Refs c.from_residual.ensures.1
+    (misfit-rule (Unit {0}) c.piece-item.result.extent fault c.in_err-unname.ensures.fault)

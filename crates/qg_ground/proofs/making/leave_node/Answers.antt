@@ -1,6 +1,11 @@
 use Rattle.std.proofs.Common.{refl}
 use Rattle.std.proofs.lemmas.Result.{on_ok_weaker}
+use Rattle.qg_device.proofs.Causes.{cause-last}
+use Rattle.qg_device.specs.History.{content}
+use Rattle.qg_blocks.specs.Told.{found}
+use Rattle.qg_blocks.proofs.Broken.{unread-handed, unread-none}
 use Rattle.qg_ground.specs.declared.ground.Ground.{Ground}
+use Rattle.qg_ground.proofs.Calls.{Answers-sound}
 use Rattle.qg_ground.proofs.Lands.{LetsGo-draft, Rests-after, Rests-draft, Takes-left}
 use Rattle.qg_ground.proofs.Settling.{Empties-draft, KeepsLevels-draft}
 use Rattle.qg_ground.proofs.making.leave_node.Goals as goal
@@ -30,3 +35,22 @@ returns-clause-settled g c before empties settled =
     empties)
     (g.met.B.Book.keeps c.args.book.now before before c.args.disk.now c.load.new.disk c.load.ensures.disk.0 refl
     (KeepsLevels-draft before before refl) settled)
+
+pub returns-clause-broken : goal.returns-clause-broken
+returns-clause-broken g c =
+    unread-none c.left.result c.args.land.now.blocks.draft.sizes (g.D.Disk.size c.args.disk.now) c.args.at
+    c.left.ensures.no_image
+
+pub returns-in_err-load-clause-broken : goal.returns-in_err-load-clause-broken
+returns-in_err-load-clause-broken g c =
+    unread-handed (Unit {0}) c.from_residual.result c.in_err-load.field-0.0 c.args.land.now.blocks.draft.sizes
+    (g.D.Disk.size c.args.disk.now) c.args.at c.from_residual.ensures.1 c.in_err-load.ensures.broken
+
+pub returns-clause-fails : goal.returns-clause-fails
+returns-clause-fails g c = record {
+  answers = λ events told. Answers-sound c.left.result c.args.at
+      (found c.args.land.now.blocks.draft (content events) c.args.at) (c.in_ok-load.ensures.answers events told)
+      c.left.ensures.no_image;
+  cause = cause-last (g.D.Disk.faults c.args.disk.now) (g.D.Disk.faults c.load.new.disk)
+      (g.D.Disk.faults c.left.new.disk) c.left.result c.in_ok-load.ensures.cause.fine c.left.ensures.cause;
+}

@@ -1,6 +1,7 @@
 use Rattle.std.proofs.Common.{ap, refl, subst}
 use Rattle.std.specs.Prelude.{is_some}
 use Rattle.qg_node.specs.NodeText.{IsNode}
+use Rattle.qg_blocks.proofs.Broken.{unread-handed}
 use Rattle.qg_ground.specs.declared.ground.Ground.{Ground}
 use Rattle.qg_ground.proofs.Calls.{LeavesBe-read, LeavesBe-with}
 use Rattle.qg_ground.proofs.Lands.{Copies-made, IsDrafted-copied, Rests-spares, Rests-taken}
@@ -59,3 +60,8 @@ returns-clause-rests g c =
     (IsDrafted-copied mid c.put_node.new.land c.in_ok-put_node.field-0 c.args.owner c.args.next c.peek.result.now
     c.in_ok-copy.copy c.put_node.ensures.spares c.in_ok-put_node.ensures.made
     c.in_ok-copy.ensures sound read.rests.drafted))
+
+pub returns-in_err-load-clause-broken : goal.returns-in_err-load-clause-broken
+returns-in_err-load-clause-broken g c =
+    unread-handed (Unit {0}) c.from_residual.result c.in_err-load.field-0.0 c.args.land.now.blocks.draft.sizes
+    (g.D.Disk.size c.args.disk.now) c.args.at c.from_residual.ensures.1 c.in_err-load.ensures.broken

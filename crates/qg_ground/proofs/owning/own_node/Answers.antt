@@ -1,7 +1,8 @@
-use Rattle.std.proofs.Common.{◌≡◌, ◌≢◌, nat_eq, refl, sym, ◌∙◌}
+use Rattle.std.proofs.Common.{◌≡◌, ◌≢◌, ℕ, nat_eq, refl, sym, ◌∙◌}
 use Rattle.std.specs.Prelude.{None}
 use Rattle.std.proofs.lemmas.Bool.{eq-eqb, not-true, true≢false}
 use Rattle.qg_blocks.specs.Told.{fresh_at}
+use Rattle.qg_blocks.proofs.Broken.{unread-handed, unread-none-handed}
 use Rattle.qg_blocks.proofs.Telling.{none_of}
 use Rattle.qg_ground.proofs.Calls.{LeavesBe-after}
 use Rattle.qg_ground.proofs.Lands.{Copies-back, GivesBack-none, IsCopied-copies, Rests-after, Takes-copied}
@@ -116,3 +117,22 @@ returns-clause-book g c =
             settled = λ settled. w.in_ok-made.ensures.settled c.args.land.now put (stood settled);
           })
     ]
+
+-- ---- over any disk
+
+pub returns-in_err-now-clause-broken : goal.returns-in_err-now-clause-broken
+returns-in_err-now-clause-broken g c =
+    unread-handed ℕ c.from_residual.result c.in_err-now.field-0.0 c.args.land.now.blocks.draft.sizes
+    (g.D.Disk.size c.args.disk.now) c.args.at c.from_residual.ensures.1 c.in_err-now.ensures.broken
+
+pub returns-in_err-copied-clause-broken : goal.returns-in_err-copied-clause-broken
+returns-in_err-copied-clause-broken g c =
+    let residual = c.from_residual-in_err-copied in
+    unread-none-handed (Unit {0}) residual.result c.in_err-copied.field-0.0 c.args.land.now.blocks.draft.sizes
+    (g.D.Disk.size c.args.disk.now) c.args.at residual.ensures.1 c.in_err-copied.ensures.no_image
+
+pub returns-in_err-made-clause-broken : goal.returns-in_err-made-clause-broken
+returns-in_err-made-clause-broken g c =
+    let residual = c.from_residual-in_err-made in
+    unread-none-handed (Unit {0}) residual.result c.in_err-made.field-0.0 c.args.land.now.blocks.draft.sizes
+    (g.D.Disk.size c.args.disk.now) c.args.at residual.ensures.1 c.in_err-made.ensures.no_image

@@ -5,4 +5,4 @@ use Rattle.qg_groups.proofs.building.groups_of.Given as goal
 
 -- those so far are made
 abbrev pub invariant-loop-sub : goal.invariant-loop-sub
-invariant-loop-sub l = l.groups ≡ map (λ sub. (sub, new_group l.stamp)) (keys_of (take l.sub-index l.subs))
+invariant-loop-sub g l = l.groups ≡ map (λ sub. (sub, new_group l.stamp)) (keys_of (take l.sub-index l.subs))

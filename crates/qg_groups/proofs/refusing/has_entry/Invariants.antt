@@ -4,5 +4,5 @@ use Rattle.std.specs.List.{list_any}
 use Rattle.qg_groups.proofs.refusing.has_entry.Given as goal
 
 abbrev pub invariant-loop-entry : goal.invariant-loop-entry
-invariant-loop-entry l = list_any (λ entry. entry.0 == l.group) l.live ≡ list_any (λ entry. entry.0 == l.group)
-    (drop l.entry-index l.live)
+invariant-loop-entry g l = list_any (λ entry. entry.0 == l.group) l.subvolumes ≡ list_any (λ entry. entry.0 == l.group)
+    (drop l.entry-index l.subvolumes)

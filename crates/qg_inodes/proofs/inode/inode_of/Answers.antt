@@ -3,6 +3,11 @@ use Rattle.qg_items.specs.ItemReading.{inode_read}
 use Rattle.qg_num.specs.declared.key.Key.{Key}
 use Rattle.qg_descent.specs.Reading.{body_at}
 use Rattle.qg_inodes.proofs.Answered.{inode-absent, inode-misread, inode-present, inode-read}
+use Rattle.std.proofs.Common.{ℕ, refl}
+use Rattle.std.specs.Prelude.{Err, List, Option}
+use Rattle.qg_num.specs.declared.fault.BlockFault.{BlockFault}
+use Rattle.qg_items.specs.declared.file.InodeItem.{InodeItem}
+use Rattle.qg_inodes.proofs.Stopped.{pieces-unread, pieces-way}
 use Rattle.qg_inodes.proofs.inode.inode_of.Goals as goal
 
 pub returns-in_default-clause-found : goal.returns-in_default-clause-found
@@ -35,3 +40,17 @@ returns-clause-broken g c events history =
     sym c.in-Some.is ∙ c.in_ok-body.ensures.found items tells
     ∙ ap (λ (k : Key). body_at k items) c.inode_key-key.ensures)
     (c.in-None.ensures.exact ∙ ap inode_read c.as_slice.ensures)
+
+-- ---- over any disk
+
+pub returns-in_err-body-clause-stops : goal.returns-in_err-body-clause-stops
+returns-in_err-body-clause-stops g c =
+    let draft = c.args.blocks.now.draft in
+    let bytes = g.D.Disk.size c.args.disk.now in
+    pieces-way (Option (List ℕ)) c.from_residual.result c.args.tree.now draft draft bytes bytes
+    c.in_err-body.field-0.0 c.from_residual.ensures.1 refl refl c.in_err-body.ensures.stops
+
+pub returns-clause-stops : goal.returns-clause-stops
+returns-clause-stops g c =
+    pieces-unread {A = Option InodeItem} (Err c.unread.result) c.args.tree.now c.args.blocks.now.draft
+    (g.D.Disk.size c.args.disk.now) (ap (λ (f : BlockFault). Err f) c.unread.ensures)

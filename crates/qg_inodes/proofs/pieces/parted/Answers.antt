@@ -21,6 +21,9 @@ use Rattle.qg_inodes.proofs.pieces.parted.Given.{Over}
 use Rattle.qg_inodes.proofs.pieces.parted.Goals.{After-as_slice, After-judged, After-judged-2, After-range}
 use Rattle.qg_inodes.proofs.pieces.parted.Goals.{then-to-from-via-then-to-from}
 use Rattle.qg_inodes.proofs.pieces.parted.Goals.{then-to-from-via-else-to-from+then-to-from-eq1}
+use Rattle.std.proofs.Common.{refl}
+use Rattle.std.specs.Prelude.{Option}
+use Rattle.qg_inodes.proofs.Stopped.{pieces-added, pieces-judged, pieces-unread, pieces-way}
 use Rattle.qg_inodes.proofs.pieces.parted.Goals as goal
 
 -- ---- where the last item says nothing
@@ -181,3 +184,43 @@ returns-clause-broken g c events is =
     (g.D.Disk.history c.args.disk.now) events c.judged-2.result is c.judged-2.ensures
     (long-met g (goal.at.returns-clause-broken g c).After-judged-2
     (begun g (goal.at.returns-clause-broken g c).After-as_slice))
+
+-- ---- over any disk
+
+pub returns-in_err-last-clause-stops : goal.returns-in_err-last-clause-stops
+returns-in_err-last-clause-stops g c =
+    let draft = c.args.blocks.now.draft in
+    let bytes = g.D.Disk.size c.args.disk.now in
+    pieces-way (Option Item) c.from_residual.result c.args.tree.now draft draft bytes bytes
+    c.in_err-last.field-0.0 c.from_residual.ensures.1 refl refl c.in_err-last.ensures.stops
+
+pub returns-in_err-reaching-clause-stops : goal.returns-in_err-reaching-clause-stops
+returns-in_err-reaching-clause-stops g c =
+    let residual = c.from_residual-in_err-reaching in
+    pieces-unread residual.result c.args.tree.now c.args.blocks.now.draft (g.D.Disk.size c.args.disk.now)
+    (handed residual.result _ residual.ensures.1 ∙ ap (λ (f : BlockFault). Err f) c.in_err-reaching.ensures.0)
+
+pub returns-then-to-from-clause-stops : goal.returns-then-to-from-clause-stops
+returns-then-to-from-clause-stops g c =
+    pieces-judged c.args.tree.now c.in_ok-pieces.pieces c.judged.result c.args.blocks.now.draft
+    (g.D.Disk.size c.args.disk.now) c.judged.ensures
+
+pub returns-in_err-items-clause-stops : goal.returns-in_err-items-clause-stops
+returns-in_err-items-clause-stops g c =
+    let residual = c.from_residual-in_err-items in
+    let read = c.in_ok-last.ensures.read in
+    pieces-way (List Item) residual.result c.args.tree.now c.args.blocks.now.draft c.last_to.new.blocks.draft
+    (g.D.Disk.size c.args.disk.now) (g.D.Disk.size c.last_to.new.disk) c.in_err-items.field-0.0 residual.ensures.1
+    read.draft read.size c.in_err-items.ensures.stops
+
+pub returns-in_err-add_pieces-clause-stops : goal.returns-in_err-add_pieces-clause-stops
+returns-in_err-add_pieces-clause-stops g c =
+    let residual = c.from_residual-in_err-add_pieces in
+    pieces-added (Unit {0}) c.args.tree.now c.as_slice.result.now c.in_ok-pieces.pieces c.add_pieces.new.pieces
+    residual.result c.in_err-add_pieces.field-0.0 c.args.blocks.now.draft (g.D.Disk.size c.args.disk.now)
+    residual.ensures.1 c.in_err-add_pieces.ensures
+
+pub returns-clause-stops : goal.returns-clause-stops
+returns-clause-stops g c =
+    pieces-judged c.args.tree.now c.add_pieces.new.pieces c.judged-2.result c.args.blocks.now.draft
+    (g.D.Disk.size c.args.disk.now) c.judged-2.ensures

@@ -7,6 +7,10 @@ use Rattle.qg_blocks.specs.Told.{BreaksNone}
 use Rattle.qg_descent.specs.Reading.{last_upto}
 use Rattle.qg_inodes.proofs.PiecesRead.{are-met-alone, are-met-more, files-read, handed, judged-broken, judged-found}
 use Rattle.qg_inodes.proofs.PiecesRead.{judged-sound, misread-broken, misread-sound, steps-more, unread-before}
+use Rattle.std.proofs.Common.{refl}
+use Rattle.std.specs.Prelude.{Option}
+use Rattle.qg_node.specs.declared.item.Item.{Item}
+use Rattle.qg_inodes.proofs.Stopped.{pieces-err, pieces-judged, pieces-unread, pieces-way}
 use Rattle.qg_inodes.proofs.pieces.pieces_meeting.Goals as goal
 
 -- ---- where the last item says nothing
@@ -191,3 +195,36 @@ returns-clause-broken g c events is =
     in
     judged-broken root draft c.args.ino c.args.from c.args.to c.push.new.self history events c.judged-2.result is
     c.judged-2.ensures met
+
+-- ---- over any disk
+
+pub returns-in_err-last-clause-stops : goal.returns-in_err-last-clause-stops
+returns-in_err-last-clause-stops g c =
+    let draft = c.args.blocks.now.draft in
+    let bytes = g.D.Disk.size c.args.disk.now in
+    pieces-way (Option Item) c.from_residual.result c.args.tree.now draft draft bytes bytes
+    c.in_err-last.field-0.0 c.from_residual.ensures.1 refl refl c.in_err-last.ensures.stops
+
+pub returns-in_err-reaching-clause-stops : goal.returns-in_err-reaching-clause-stops
+returns-in_err-reaching-clause-stops g c =
+    let residual = c.from_residual-in_err-reaching in
+    pieces-unread residual.result c.args.tree.now c.args.blocks.now.draft (g.D.Disk.size c.args.disk.now)
+    (handed residual.result _ residual.ensures.1 ∙ ap (λ (f : BlockFault). Err f) c.in_err-reaching.ensures.0)
+
+pub returns-in_default-clause-stops : goal.returns-in_default-clause-stops
+returns-in_default-clause-stops g c =
+    pieces-judged c.args.tree.now c.in_ok-pieces.pieces c.judged.result c.args.blocks.now.draft
+    (g.D.Disk.size c.args.disk.now) c.judged.ensures
+
+pub returns-in_err-pieces-2-clause-stops : goal.returns-in_err-pieces-2-clause-stops
+returns-in_err-pieces-2-clause-stops g c =
+    let residual = c.from_residual-in_err-pieces-2 in
+    let read = c.in_ok-last.ensures.read in
+    pieces-err (List Piece) residual.result c.args.tree.now c.args.blocks.now.draft c.last_to.new.blocks.draft
+    (g.D.Disk.size c.args.disk.now) (g.D.Disk.size c.last_to.new.disk) c.in_err-pieces-2.field-0.0 residual.ensures.1
+    read.draft read.size c.in_err-pieces-2.ensures.stops
+
+pub returns-clause-stops : goal.returns-clause-stops
+returns-clause-stops g c =
+    pieces-judged c.args.tree.now _ c.judged-2.result c.args.blocks.now.draft
+    (g.D.Disk.size c.args.disk.now) c.judged-2.ensures

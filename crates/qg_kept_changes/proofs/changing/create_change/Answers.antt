@@ -17,7 +17,8 @@ use Rattle.qg_kept.proofs.Whole.{handed-sound}
 use Rattle.qg_descent.specs.Tree.{Root}
 use Rattle.qg_kept.proofs.Runs.{state-held}
 use Rattle.qg_kept.specs.declared.kept.Kept.{Kept}
-use Rattle.qg_kept.specs.Keeping.{IsKept, IsKeptOf}
+use Rattle.qg_kept.specs.declared.kept.KeptSubvolume.{KeptSubvolume}
+use Rattle.qg_kept.specs.Keeping.{IsKept, IsKeptOf, kept_at}
 use Rattle.qg_kept_changes.proofs.Added.{group-may-come, number-good}
 use Rattle.qg_kept_changes.proofs.CreatedKept.{changed-created, kept-created, number-new}
 use Rattle.qg_kept_changes.proofs.GroupAdded.{group-created, quota-created, rest-grouped}
@@ -25,6 +26,9 @@ use Rattle.qg_kept.proofs.Looked.{is-subvolume}
 use Rattle.qg_kept.proofs.Stepped.{tree-kept}
 use Rattle.qg_kept_changes.proofs.Trees.{held-for}
 use Rattle.qg_kept_changes.proofs.Young.{known-now}
+use Rattle.std.proofs.Common.{inr}
+use Rattle.qg_blocks.proofs.Stopping.{misfit-refs}
+use Rattle.qg_kept.proofs.Stopped.{first-err}
 use Rattle.qg_kept_changes.proofs.changing.create_change.Goals as goal
 
 -- ---- what is asked
@@ -129,10 +133,10 @@ made_next tree sub next to_come same is =
     } in made)
 
 made_snapshots : (old new : Kept) (tree : Root) (snapshot : ℕ) → snapshot ≡ 0
-    → new.snapshots ≡ old.snapshots ++ (tree.owner, snapshot) ∷ []
-    → new.snapshots ≡ old.snapshots ++ (tree.owner, 0) ∷ []
+    → new.snapshots ≡ old.snapshots ++ (tree.owner, kept_at snapshot) ∷ []
+    → new.snapshots ≡ old.snapshots ++ (tree.owner, kept_at 0) ∷ []
 made_snapshots old new tree snapshot none is =
-    is ∙ (λ i. let table : List (ℕ × ℕ) = old.snapshots ++ (tree.owner, none i) ∷ [] in table)
+    is ∙ (λ i. let table : List (ℕ × KeptSubvolume) = old.snapshots ++ (tree.owner, kept_at (none i)) ∷ [] in table)
 
 pub returns-clause-kept : goal.returns-clause-kept
 returns-clause-kept g c =
@@ -202,3 +206,13 @@ returns-clause-changed g c = λ state keeps none.
     c.in_ok-tree.ensures.begun.slots
     (known-now kept c.args.sub c.stand_for.new.self c.create.new.book c.stand_for.ensures
     keeps.keeps.holds.stands.book.next c.in_ok-tree.ensures.begun.book)
+
+-- ---- over any disk
+
+pub returns-then-ne-clause-stops : goal.returns-then-ne-clause-stops
+returns-then-ne-clause-stops g c = inr (inr (inr misfit-refs))
+
+pub returns-in_err-tree-clause-stops : goal.returns-in_err-tree-clause-stops
+returns-in_err-tree-clause-stops g c =
+    first-err Root c.from_residual.result c.in_err-tree.field-0.0 c.args.kept.now (g.D.Disk.size c.args.disk.now)
+    c.from_residual.ensures.1 c.in_err-tree.ensures.stops

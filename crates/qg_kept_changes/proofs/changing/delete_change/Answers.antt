@@ -30,6 +30,9 @@ use Rattle.qg_kept.proofs.Known.{sub-known}
 use Rattle.qg_kept.proofs.Looked.{is-subvolume}
 use Rattle.qg_kept.proofs.Stepped.{tree-kept}
 use Rattle.qg_kept_changes.proofs.Trees.{held-for, tree-is}
+use Rattle.std.proofs.Common.{inr, refl}
+use Rattle.qg_blocks.proofs.Stopping.{misfit-refs, stops-err}
+use Rattle.qg_kept.proofs.Stopped.{sizes-turned}
 use Rattle.qg_kept_changes.proofs.changing.delete_change.Goals as goal
 
 -- ---- what is asked
@@ -213,3 +216,18 @@ returns-clause-changed g c = λ state keeps none count.
     (λ at what known. inl (ap (λ (r : TreeRefs). what_in (book_of r.refs at))
     (sym (c.stand_for.ensures ∙ ap (λ (k : Kept). record k.fs.refs { tree = c.args.sub }) c.take_tree.ensures.rest))
     ∙ c.in_ok-drop_all.ensures.book.known.known at what known))
+
+-- ---- over any disk
+
+pub returns-in_default-clause-stops : goal.returns-in_default-clause-stops
+returns-in_default-clause-stops g c = inr (inr (inr misfit-refs))
+
+pub returns-in_err-drop_all-clause-stops : goal.returns-in_err-drop_all-clause-stops
+returns-in_err-drop_all-clause-stops g c =
+    let old = c.args.kept.now in
+    let taken = c.take_tree.new.kept in
+    let bytes = g.D.Disk.size c.args.disk.now in
+    let same = ap (λ (k : Kept). k.fs.land.blocks.draft.sizes) c.take_tree.ensures.rest
+    ∙ sizes-turned old c.turn_to.new.kept c.turn_to.ensures.same in
+    stops-err (Unit {0}) c.from_residual.result c.in_err-drop_all.field-0.0 taken.fs.land.blocks.draft.sizes
+    old.fs.land.blocks.draft.sizes bytes bytes c.from_residual.ensures.1 same refl c.in_err-drop_all.ensures.stops

@@ -18,7 +18,7 @@ use Rattle.qg_descent.specs.Tree.{Root}
 use Rattle.qg_kept.specs.FsLawsKeeping.{other_names}
 use Rattle.qg_kept.proofs.Runs.{state-held}
 use Rattle.qg_kept.specs.declared.kept.Kept.{Kept}
-use Rattle.qg_kept.specs.Keeping.{IsFitted, IsKept, IsKeptOf}
+use Rattle.qg_kept.specs.Keeping.{IsFitted, IsKept, IsKeptOf, kept_at}
 use Rattle.qg_kept_changes.proofs.Added.{group-may-come, level-lowest, number-good}
 use Rattle.qg_kept_changes.proofs.CreatedKept.{number-new}
 use Rattle.qg_kept_changes.proofs.GroupAdded.{group-snapped, parents-may-be, quota-snapped, rest-grouped}
@@ -29,6 +29,7 @@ use Rattle.qg_kept.proofs.Stepped.{tree-kept}
 use Rattle.qg_kept.proofs.Tables.{listed-key}
 use Rattle.qg_kept_changes.proofs.Trees.{held-for, tree-is}
 use Rattle.qg_kept_changes.proofs.Young.{known-now}
+use Rattle.qg_kept.proofs.Stopped.{first-err}
 use Rattle.qg_kept_changes.proofs.changing.snap_change.Goals as goal
 
 -- ---- what is asked
@@ -108,7 +109,7 @@ returns-in_err-tree-clause-sound g c = λ state events keeps told.
 marked_others : (old mid new : Kept) (land : Ground) (now : TreeRefs) (sub stamp : ℕ) (tree : Root)
     → mid ≡ record old {
       fs = record old.fs { land = land; refs = now };
-      snapshots = with_value sub stamp old.snapshots;
+      snapshots = with_value sub (kept_at stamp) old.snapshots;
     }
     → new.fs.others.items ≡ mid.fs.others.items ++ tree ∷ [] → new.fs.others.items ≡ old.fs.others.items ++ tree ∷ []
 marked_others old mid new land now sub stamp tree is others =
@@ -117,15 +118,16 @@ marked_others old mid new land now sub stamp tree is others =
 marked_snapshots : (old mid new : Kept) (land : Ground) (now : TreeRefs) (sub stamp : ℕ) (tree : Root)
     → mid ≡ record old {
       fs = record old.fs { land = land; refs = now };
-      snapshots = with_value sub stamp old.snapshots;
+      snapshots = with_value sub (kept_at stamp) old.snapshots;
     }
     → old.fs.tree.owner ≡ sub → stamp ≡ old.fs.tree.next
-    → new.snapshots ≡ mid.snapshots ++ (tree.owner, stamp) ∷ []
+    → new.snapshots ≡ mid.snapshots ++ (tree.owner, kept_at stamp) ∷ []
     → new.snapshots
-    ≡ with_value old.fs.tree.owner old.fs.tree.next old.snapshots ++ (tree.owner, old.fs.tree.next) ∷ []
+    ≡ with_value old.fs.tree.owner (kept_at old.fs.tree.next) old.snapshots
+    ++ (tree.owner, kept_at old.fs.tree.next) ∷ []
 marked_snapshots old mid new land now sub stamp tree is hand dated snapshots =
-    snapshots ∙ ap (λ (k : Kept). k.snapshots ++ (tree.owner, stamp) ∷ []) is
-    ∙ (λ i. with_value (sym hand i) (dated i) old.snapshots ++ (tree.owner, dated i) ∷ [])
+    snapshots ∙ ap (λ (k : Kept). k.snapshots ++ (tree.owner, kept_at stamp) ∷ []) is
+    ∙ (λ i. with_value (sym hand i) (kept_at (dated i)) old.snapshots ++ (tree.owner, kept_at (dated i)) ∷ [])
 
 pub returns-clause-kept : goal.returns-clause-kept
 returns-clause-kept g c =
@@ -201,3 +203,10 @@ returns-clause-changed g c = λ state keeps none.
     c.in_ok-tree.ensures.begun.slots
     (known-now kept c.args.copy c.stand_for.new.self c.snapshot.new.book c.stand_for.ensures
     keeps.keeps.holds.stands.book.next c.in_ok-tree.ensures.begun.book)
+
+-- ---- over any disk
+
+pub returns-in_err-tree-clause-stops : goal.returns-in_err-tree-clause-stops
+returns-in_err-tree-clause-stops g c =
+    first-err Root c.from_residual.result c.in_err-tree.field-0.0 c.args.kept.now (g.D.Disk.size c.args.disk.now)
+    c.from_residual.ensures.1 c.in_err-tree.ensures.stops

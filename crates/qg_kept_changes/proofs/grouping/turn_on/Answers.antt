@@ -6,14 +6,15 @@ use Rattle.qg_image.specs.Table.{keys_of}
 use Rattle.qg_image.specs.declared.quota.Quota.{Quota}
 use Rattle.qg_machine.specs.GroupChange.{quota_for}
 use Rattle.qg_kept_changes.proofs.grouping.turn_on.Goals as goal
+use Rattle.qg_kept.specs.declared.kept.KeptSubvolume.{KeptSubvolume}
 
 pub of_subvolumes-requires : goal.of_subvolumes-requires
 of_subvolumes-requires c =
-    subst (λ (table : List (ℕ × ℕ)). IsStrictlySortedBy nat_cmp (keys_of table)) (sym c.as_slice.ensures)
+    subst (λ (table : List (ℕ × KeptSubvolume)). IsStrictlySortedBy nat_cmp (keys_of table)) (sym c.as_slice.ensures)
     (sorted_from_strictly_increasing (keys_of c.args.kept.now.snapshots) c.requires.ascending)
 
 pub returns-clause-quota : goal.returns-clause-quota
 returns-clause-quota c =
     ap (λ (quota : Quota). Some quota)
     (c.in_ok-quota.ensures.quota
-    ∙ ap (λ (table : List (ℕ × ℕ)). quota_for c.args.stamp (keys_of table)) c.as_slice.ensures)
+    ∙ ap (λ (table : List (ℕ × KeptSubvolume)). quota_for c.args.stamp (keys_of table)) c.as_slice.ensures)

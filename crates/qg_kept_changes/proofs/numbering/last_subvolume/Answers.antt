@@ -3,6 +3,7 @@ use Rattle.std.specs.Prelude.{max}
 use Rattle.qg_image.specs.ItemMeaning.{is_subvolume_number}
 use Rattle.qg_kept_changes.proofs.Numbered.{greatest-more, number-below}
 use Rattle.qg_kept_changes.proofs.numbering.last_subvolume.Goals as goal
+use Rattle.qg_kept.specs.declared.kept.KeptSubvolume.{KeptSubvolume}
 
 pub loop-sub-init : goal.loop-sub-init
 loop-sub-init c = (refl, omega arith, omega arith)
@@ -15,7 +16,7 @@ loop-sub-preserved c =
     let most = c.loop-sub.invariant.2 in
     let low : c.loop-sub-item.result.0 < 2 ^ 48 =
     number-below c.loop-sub-item.result.0
-    (subst (λ (e : ℕ × ℕ). is_subvolume_number e.0 ≡ true) (sym c.loop-sub-item.is)
+    (subst (λ (e : ℕ × KeptSubvolume). is_subvolume_number e.0 ≡ true) (sym c.loop-sub-item.is)
     (c.requires.numbers c.loop-sub.sub-index c.loop-sub-item.result c.loop-sub-test.true)) in (
       last ∙ greatest-more 255 c.loop-sub.last c.loop-sub.sub-index c.args.snapshots.now c.loop-sub-item.result
           c.loop-sub-test.true c.loop-sub-item.is c.loop-sub.invariant.0,

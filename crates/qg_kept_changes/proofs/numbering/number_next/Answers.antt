@@ -7,10 +7,12 @@ use Rattle.qg_groups.specs.Changing.{groups_in}
 use Rattle.qg_groups.specs.Tracked.{quota_of}
 use Rattle.qg_kept_changes.proofs.Numbered.{next-is}
 use Rattle.qg_kept_changes.proofs.numbering.number_next.Goals as goal
+use Rattle.qg_kept.specs.declared.kept.KeptSubvolume.{KeptSubvolume}
 
 pub last_subvolume-last-requires : goal.last_subvolume-last-requires
 last_subvolume-last-requires c = record {
-  numbers = subst (λ (table : List (ℕ × ℕ)). All (λ (e : ℕ × ℕ). is_subvolume_number e.0 ≡ true) table)
+  numbers = subst
+      (λ (table : List (ℕ × KeptSubvolume)). All (λ (e : ℕ × KeptSubvolume). is_subvolume_number e.0 ≡ true) table)
       (sym c.as_slice.ensures) c.requires.fitted.subvolumes.numbers;
 }
 
@@ -20,7 +22,7 @@ returns-clause-value c =
     next-is (keys_of kept.snapshots) (groups_in (quota_of kept.quota)) c.last_subvolume-last.result
     c.last_in_quota.result
     (c.last_subvolume-last.ensures.value
-    ∙ ap (λ (table : List (ℕ × ℕ)). fold max 255 (keys_of table)) c.as_slice.ensures)
+    ∙ ap (λ (table : List (ℕ × KeptSubvolume)). fold max 255 (keys_of table)) c.as_slice.ensures)
     c.last_in_quota.ensures.value
 
 pub returns-clause-some : goal.returns-clause-some

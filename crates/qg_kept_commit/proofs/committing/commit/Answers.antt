@@ -6,6 +6,7 @@ use Rattle.qg_machine.specs.Refusals.{last_generation}
 use Rattle.qg_kept.specs.Calls.{commit_calls, unsure_calls}
 use Rattle.qg_kept.specs.FsLawsKeeping.{other_names}
 use Rattle.qg_kept.proofs.PiecesRead.{handed}
+use Rattle.qg_kept.proofs.Reserve.{finds-planned}
 use Rattle.qg_kept.proofs.Whole.{handed-sound}
 use Rattle.qg_kept_commit.proofs.Cleaned.{looked-nothing}
 use Rattle.qg_kept_commit.proofs.Commits.{commits-step, does_idle, does_refuse, early-state, far-step, pending-state}
@@ -39,7 +40,8 @@ returns-clause-step g c = λ state events keeps told.
     (pending-state c.args.kept.now state history keeps some)
     (early-state c.args.kept.now state history c.requires.kept.fitted keeps early) c.commit_now.new.kept
     c.in_ok-commit_now.ensures.kept.fitted
-    (c.in_ok-commit_now.ensures.commits state events (other_names state) keeps (keeps.reserved some) told)
+    (c.in_ok-commit_now.ensures.commits state events (other_names state) keeps
+    (finds-planned c.args.kept.now c.requires.kept.fitted (keeps.reserved some)) told)
 
 pub returns-clause-so_far : goal.returns-clause-so_far
 returns-clause-so_far g c = λ state events keeps told.
@@ -50,7 +52,8 @@ returns-clause-so_far g c = λ state events keeps told.
     far-step state events (g.D.Disk.history c.commit_now.new.disk)
     (pending-state c.args.kept.now state history keeps some)
     (early-state c.args.kept.now state history c.requires.kept.fitted keeps early) commit_calls
-    (c.in_ok-commit_now.ensures.so_far state events (other_names state) keeps (keeps.reserved some) told)
+    (c.in_ok-commit_now.ensures.so_far state events (other_names state) keeps
+    (finds-planned c.args.kept.now c.requires.kept.fitted (keeps.reserved some)) told)
 
 pub returns-in_err-commit_now-clause-so_far : goal.returns-in_err-commit_now-clause-so_far
 returns-in_err-commit_now-clause-so_far g c = λ state events keeps told.
@@ -61,13 +64,15 @@ returns-in_err-commit_now-clause-so_far g c = λ state events keeps told.
     far-step state events (g.D.Disk.history c.commit_now.new.disk)
     (pending-state c.args.kept.now state history keeps some)
     (early-state c.args.kept.now state history c.requires.kept.fitted keeps early) commit_calls
-    (c.in_err-commit_now.ensures.so_far state events (other_names state) keeps (keeps.reserved some) told)
+    (c.in_err-commit_now.ensures.so_far state events (other_names state) keeps
+    (finds-planned c.args.kept.now c.requires.kept.fitted (keeps.reserved some)) told)
 
 pub returns-in_err-commit_now-clause-sound : goal.returns-in_err-commit_now-clause-sound
 returns-in_err-commit_now-clause-sound g c = λ state events told keeps.
     let some : 0 < c.args.kept.now.pending = omega (arith, c.if-kept-eq0.false) in
     handed-sound (Unit {0}) c.from_residual.result _ (handed c.from_residual.result _ c.from_residual.ensures.1)
-    (c.in_err-commit_now.ensures.sound state events (other_names state) keeps (keeps.reserved some) told)
+    (c.in_err-commit_now.ensures.sound state events (other_names state) keeps
+    (finds-planned c.args.kept.now c.requires.kept.fitted (keeps.reserved some)) told)
 
 pub returns-then-kept-eq0-clause-idle : goal.returns-then-kept-eq0-clause-idle
 returns-then-kept-eq0-clause-idle g c = λ none.
@@ -90,17 +95,17 @@ commit_now-requires-clause-early g c = omega (arith, c.value.ensures, c.if-value
 
 pub returns-in_err-commit_now-clause-intact : goal.returns-in_err-commit_now-clause-intact
 returns-in_err-commit_now-clause-intact g c =
-    intact-handed c.from_residual.result _ g.D.Disk.takes_memory _ _
+    intact-handed c.from_residual.result _ g.D.Disk.takes_memory _ _ _ _
     (handed c.from_residual.result _ c.from_residual.ensures.1) c.in_err-commit_now.ensures.intact
 
 pub returns-then-kept-eq0-clause-intact : goal.returns-then-kept-eq0-clause-intact
-returns-then-kept-eq0-clause-intact g c = ended-intact _ g.D.Disk.takes_memory _ _
+returns-then-kept-eq0-clause-intact g c = ended-intact _ g.D.Disk.takes_memory _ _ _ _
 
 pub returns-then-value-gt-LAST_GENERATION-clause-intact : goal.returns-then-value-gt-LAST_GENERATION-clause-intact
-returns-then-value-gt-LAST_GENERATION-clause-intact g c = ended-intact _ g.D.Disk.takes_memory _ _
+returns-then-value-gt-LAST_GENERATION-clause-intact g c = ended-intact _ g.D.Disk.takes_memory _ _ _ _
 
 pub returns-clause-intact : goal.returns-clause-intact
-returns-clause-intact g c = ended-intact _ g.D.Disk.takes_memory _ _
+returns-clause-intact g c = ended-intact _ g.D.Disk.takes_memory _ _ _ _
 
 pub returns-in_err-commit_now-clause-err : goal.returns-in_err-commit_now-clause-err
 returns-in_err-commit_now-clause-err g c =
@@ -114,5 +119,6 @@ returns-in_err-commit_now-clause-err g c =
           far-step state events (g.D.Disk.history c.commit_now.new.disk)
           (pending-state c.args.kept.now state history keeps some)
           (early-state c.args.kept.now state history c.requires.kept.fitted keeps early) unsure_calls
-          (c.in_err-commit_now.ensures.stops state events (other_names state) keeps (keeps.reserved some) told);
+          (c.in_err-commit_now.ensures.stops state events (other_names state) keeps
+          (finds-planned c.args.kept.now c.requires.kept.fitted (keeps.reserved some)) told);
     })

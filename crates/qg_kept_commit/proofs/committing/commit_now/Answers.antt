@@ -10,6 +10,9 @@ use Rattle.qg_kept_commit.proofs.CommitKeeps.{plan-still}
 use Rattle.qg_kept_commit.proofs.CommitOver.{backed-then, calls-over, committed-on, kept-forgotten, kept-then}
 use Rattle.qg_kept_commit.proofs.CommitOver.{room-back, room-then, started, stopped-so, unfresh, written-then}
 use Rattle.qg_kept_commit.proofs.Commits.{stops-starts}
+use Rattle.qg_num.specs.declared.fault.BlockFault.TheVariants.{NoMemory}
+use Rattle.qg_blocks.proofs.Stopping.{stops-memory}
+use Rattle.qg_kept.proofs.Stopped.{first-err}
 use Rattle.qg_kept_commit.proofs.Intact.{ended-intact, stops-intact, written-intact}
 use Rattle.qg_kept_commit.proofs.OnDisk.{on-err, on-error}
 use Rattle.qg_kept_commit.proofs.committing.commit_now.Goals as goal
@@ -279,20 +282,27 @@ returns-in_err-trees-clause-sizes g c = (
 
 pub returns-in_err-plan-clause-intact : goal.returns-in_err-plan-clause-intact
 returns-in_err-plan-clause-intact g c =
-    stops-intact c.from_residual.result g.D.Disk.takes_memory _ _ c.in_err-plan.ensures.looked.read.history
+    stops-intact c.from_residual.result g.D.Disk.takes_memory _ _ _ _ c.in_err-plan.ensures.looked.read.history
+    (first-err Plan c.from_residual.result c.in_err-plan.field-0.0 c.args.kept.now (g.D.Disk.size c.args.disk.now)
+    c.from_residual.ensures.1 c.in_err-plan.ensures.stops)
 
 pub returns-in_err-copy-clause-intact : goal.returns-in_err-copy-clause-intact
 returns-in_err-copy-clause-intact g c =
-    stops-intact c.from_residual-in_err-copy.result g.D.Disk.takes_memory _ _ c.in_ok-plan.ensures.looked.read.history
+    let residual = c.from_residual-in_err-copy in
+    let sizes = c.args.kept.now.fs.land.blocks.draft.sizes in
+    let bytes = g.D.Disk.size c.args.disk.now in
+    stops-intact residual.result g.D.Disk.takes_memory sizes bytes _ _ c.in_ok-plan.ensures.looked.read.history
+    (stops-memory residual.result sizes bytes (handed residual.result NoMemory residual.ensures.1))
 
 pub returns-in_err-trees-clause-intact : goal.returns-in_err-trees-clause-intact
 returns-in_err-trees-clause-intact g c =
     let history = g.D.Disk.history in
-    written-intact c.from_residual-in_err-trees.result _ g.D.Disk.takes_memory (history c.args.disk.now)
+    written-intact c.from_residual-in_err-trees.result _ g.D.Disk.takes_memory
+    c.args.kept.now.fs.land.blocks.draft.sizes (g.D.Disk.size c.args.disk.now) (history c.args.disk.now)
     (history c.plan_of.new.disk) (history c.write_trees.new.disk)
     (handed c.from_residual-in_err-trees.result _ c.from_residual-in_err-trees.ensures.1)
     c.in_ok-plan.ensures.looked.read.history c.in_err-trees.ensures.no_image
     (λ none refused. ap history (c.in_err-trees.ensures.memory none refused))
 
 pub returns-clause-intact : goal.returns-clause-intact
-returns-clause-intact g c = ended-intact _ g.D.Disk.takes_memory _ _
+returns-clause-intact g c = ended-intact _ g.D.Disk.takes_memory _ _ _ _

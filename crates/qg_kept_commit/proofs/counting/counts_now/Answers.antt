@@ -7,6 +7,8 @@ use Rattle.qg_kept.proofs.Whole.{handed-sound}
 use Rattle.qg_kept_commit.proofs.Cleaned.{nothing-surveyed, surveyed-keeps}
 use Rattle.qg_kept_commit.proofs.Counters.{order-still, quota-still, space-still}
 use Rattle.qg_kept_commit.proofs.OnOff.{never-off, none-off, off-told}
+use Rattle.qg_direct.specs.declared.surveyed.Surveyed.{Surveyed}
+use Rattle.qg_kept.proofs.Stopped.{first-err}
 use Rattle.qg_kept_commit.proofs.counting.counts_now.Goals as goal
 
 -- ---- quota is off
@@ -84,3 +86,10 @@ pub returns-in_err-nodes-clause-sound : goal.returns-in_err-nodes-clause-sound
 returns-in_err-nodes-clause-sound g c = λ state events names told keeps are.
     handed-sound (List Counters) c.from_residual.result _ (handed c.from_residual.result _ c.from_residual.ensures.1)
     (c.in_err-nodes.ensures.sound state events names told keeps are)
+
+-- ---- over any disk
+
+pub returns-in_err-nodes-clause-stops : goal.returns-in_err-nodes-clause-stops
+returns-in_err-nodes-clause-stops g c =
+    first-err (List Surveyed) c.from_residual.result c.in_err-nodes.field-0.0 c.args.kept.now
+    (g.D.Disk.size c.args.disk.now) c.from_residual.ensures.1 c.in_err-nodes.ensures.stops

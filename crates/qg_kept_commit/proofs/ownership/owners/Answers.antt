@@ -10,6 +10,7 @@ use Rattle.qg_kept_commit.specs.Planning.{root_of_tree}
 use Rattle.qg_kept_commit.proofs.ByNumber.{trees-are}
 use Rattle.qg_kept_commit.proofs.Cleaned.{looked-nothing, surveyed-keeps, surveyed-looked}
 use Rattle.qg_kept_commit.proofs.OwnersNow.{does_own, owners-now}
+use Rattle.qg_kept.proofs.Stopped.{first-err}
 use Rattle.qg_kept_commit.proofs.ownership.owners.Goals as goal
 
 pub owners_of-requires : goal.owners_of-requires
@@ -60,3 +61,11 @@ returns-clause-step g c = λ state keeps.
     c.as_slice-3.result.now c.as_slice-4.result.now c.in_ok-owners.owners
     (c.as_slice-3.ensures ∙ c.in_ok-roots.ensures ∙ ap (map root_of_tree) (c.as_slice-2.ensures.value ∙ are))
     (c.as_slice-4.ensures.value ∙ nodes) c.in_ok-owners.ensures)
+
+-- ---- over any disk
+
+pub returns-in_err-nodes-clause-stops : goal.returns-in_err-nodes-clause-stops
+returns-in_err-nodes-clause-stops g c =
+    let residual = c.from_residual-in_err-nodes in
+    first-err (List Surveyed) residual.result c.in_err-nodes.field-0.0 c.args.kept.now
+    (g.D.Disk.size c.args.disk.now) residual.ensures.1 c.in_err-nodes.ensures.stops

@@ -15,6 +15,7 @@ use Rattle.qg_groups.specs.Tracked.{quota_of}
 use Rattle.qg_kept.proofs.PiecesRead.{handed}
 use Rattle.qg_kept.proofs.Whole.{handed-sound}
 use Rattle.qg_kept.specs.declared.kept.Kept.{Kept}
+use Rattle.qg_kept.specs.declared.kept.KeptSubvolume.{KeptSubvolume}
 use Rattle.qg_kept.specs.Keeping.{commit_need}
 use Rattle.qg_kept_commit.specs.Planning.{AreRootsBy, numbers_of}
 use Rattle.qg_kept_commit.proofs.ByNumber.{tree-back, trees-are}
@@ -25,6 +26,11 @@ use Rattle.qg_kept.proofs.KnownBook.{later-known}
 use Rattle.qg_kept_commit.proofs.OnOff.{groups-ascend, laid_by}
 use Rattle.qg_kept_commit.proofs.PlanNow.{lockstep, plan-so, plan-told, trees-moved}
 use Rattle.qg_kept_commit.proofs.RootsNow.{root-known}
+use Rattle.std.proofs.Common.{inr, refl}
+use Rattle.std.specs.Prelude.{Err}
+use Rattle.qg_num.specs.declared.rule.Rule.TheVariants.{Refs}
+use Rattle.qg_blocks.proofs.Stopping.{misfit-refs, stops-at, stops-err, stops-rule}
+use Rattle.qg_kept.proofs.Stopped.{first-err}
 use Rattle.qg_kept_commit.proofs.planning.plan_of.Goals as goal
 
 -- ---- what is asked
@@ -42,7 +48,7 @@ roots_now-requires g c =
           (g.D.Disk.history c.counts_now.new.disk) (g.D.Disk.size c.args.disk.now) (g.D.Disk.size c.counts_now.new.disk)
           c.in_ok-trees.trees.items c.requires.kept c.in_ok-counts.ensures.looked c.in_ok-trees.ensures.moved
           c.in_ok-trees.ensures.ascending
-          ∙ ap (λ (table : List (ℕ × ℕ)). keys_of table) (sym c.as_slice-3.ensures);
+          ∙ ap (λ (table : List (ℕ × KeptSubvolume)). keys_of table) (sym c.as_slice-3.ensures);
     }
 
 pub slots_for-requires : goal.slots_for-requires
@@ -78,7 +84,7 @@ returns-clause-plan g c =
       up = c.in_ok-trees.ensures.ascending;
       roots = subst (λ (trees : List Root). AreRootsBy c.counts_now.new.kept trees c.counts_now.new.kept.snapshots
           c.in_ok-roots.roots) c.as_slice-2.ensures.value
-          (subst (λ (table : List (ℕ × ℕ)). AreRootsBy c.counts_now.new.kept c.as_slice-2.result.now table
+          (subst (λ (table : List (ℕ × KeptSubvolume)). AreRootsBy c.counts_now.new.kept c.as_slice-2.result.now table
           c.in_ok-roots.roots) c.as_slice-3.ensures c.in_ok-roots.ensures.roots);
       quota = c.in_ok-quota.ensures
           ∙ (λ i. laid_by (c.next-generation.ensures i) (c.as_slice-4.ensures.value i) c.counts_now.new.kept.quota);
@@ -107,7 +113,7 @@ returns-clause-told g c = λ state names keeps.
       up = c.in_ok-trees.ensures.ascending;
       roots = subst (λ (trees : List Root). AreRootsBy c.counts_now.new.kept trees c.counts_now.new.kept.snapshots
           c.in_ok-roots.roots) c.as_slice-2.ensures.value
-          (subst (λ (table : List (ℕ × ℕ)). AreRootsBy c.counts_now.new.kept c.as_slice-2.result.now table
+          (subst (λ (table : List (ℕ × KeptSubvolume)). AreRootsBy c.counts_now.new.kept c.as_slice-2.result.now table
           c.in_ok-roots.roots) c.as_slice-3.ensures c.in_ok-roots.ensures.roots);
       quota = c.in_ok-quota.ensures
           ∙ (λ i. laid_by (c.next-generation.ensures i) (c.as_slice-4.ensures.value i) c.counts_now.new.kept.quota);
@@ -183,3 +189,33 @@ returns-in_err-trees-clause-kept g c = c.requires.kept
 pub returns-in_err-trees-clause-looked : goal.returns-in_err-trees-clause-looked
 returns-in_err-trees-clause-looked g c =
     nothing-surveyed c.args.kept.now (g.D.Disk.history c.args.disk.now) (g.D.Disk.size c.args.disk.now)
+
+-- ---- over any disk
+
+pub returns-in_err-counts-clause-stops : goal.returns-in_err-counts-clause-stops
+returns-in_err-counts-clause-stops g c =
+    let residual = c.from_residual-in_err-counts in
+    first-err (List Counters) residual.result c.in_err-counts.field-0.0 c.args.kept.now
+    (g.D.Disk.size c.args.disk.now) residual.ensures.1 c.in_err-counts.ensures.stops
+
+pub returns-in_err-roots-clause-stops : goal.returns-in_err-roots-clause-stops
+returns-in_err-roots-clause-stops g c =
+    let residual = c.from_residual-in_err-roots in
+    let sizes = c.args.kept.now.fs.land.blocks.draft.sizes in
+    let bytes = g.D.Disk.size c.args.disk.now in
+    let fault = c.in_err-roots.field-0.0 in
+    stops-err (List (ℕ × RootItem)) residual.result fault sizes sizes bytes bytes residual.ensures.1 refl refl
+    (stops-rule {A = List (ℕ × RootItem)} (Err fault) Refs sizes bytes misfit-refs c.in_err-roots.ensures.refs)
+
+pub returns-in-Some-clause-stops : goal.returns-in-Some-clause-stops
+returns-in-Some-clause-stops g c = inr (inr (inr misfit-refs))
+
+pub returns-in_err-slots-clause-stops : goal.returns-in_err-slots-clause-stops
+returns-in_err-slots-clause-stops g c =
+    let residual = c.from_residual-in_err-slots in
+    let sizes = c.args.kept.now.fs.land.blocks.draft.sizes in
+    let bytes = g.D.Disk.size c.args.disk.now in
+    let fault = c.in_err-slots.field-0.0 in
+    stops-err (List ℕ) residual.result fault sizes sizes bytes bytes residual.ensures.1 refl refl
+    (stops-at {A = List ℕ} (Err fault) Refs c.counts_now.new.kept.fs.tree.address sizes bytes misfit-refs
+    c.in_err-slots.ensures.short)

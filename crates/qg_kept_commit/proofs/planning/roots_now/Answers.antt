@@ -8,6 +8,9 @@ use Rattle.qg_kept.proofs.PiecesRead.{handed}
 use Rattle.qg_kept.proofs.Whole.{handed-sound}
 use Rattle.qg_kept_commit.specs.Planning.{IsRootIn, KnowsRoot}
 use Rattle.qg_kept_commit.proofs.RootsNow.{AreRootsFirst, all-roots, lockstep-within, more-roots, no-roots}
+use Rattle.std.specs.Prelude.{Err}
+use Rattle.qg_num.specs.declared.rule.Rule.TheVariants.{Refs}
+use Rattle.qg_blocks.proofs.Stopping.{names-at, rule-err}
 use Rattle.qg_kept_commit.proofs.planning.roots_now.Goals as goal
 
 pub loop-i-init : goal.loop-i-init
@@ -24,8 +27,9 @@ loop-i-preserved c =
     more-roots c.args.kept.now c.args.trees.now c.args.snapshots.now c.loop-i.i c.loop-i.roots c.push.new.self
     c.index-snapshots-i.result c.index-trees-i.result c.in_ok-root.root c.requires.lockstep c.loop-i-test.true
     c.index-snapshots-i.is c.index-trees-i.is c.loop-i.invariant
-    (subst (λ (book : List (ℕ × Reference)). IsRootIn book c.index-trees-i.result c.index-snapshots-i.result.1
-    c.in_ok-root.root) c.refs.ensures c.in_ok-root.ensures.root) c.in_ok-push.ensures.ok
+    (subst (λ (book : List (ℕ × Reference)). IsRootIn book c.index-trees-i.result
+    c.index-snapshots-i.result.1.last_snapshot c.in_ok-root.root) c.refs.ensures c.in_ok-root.ensures.root)
+    c.in_ok-push.ensures.ok
 
 pub returns-clause-roots : goal.returns-clause-roots
 returns-clause-roots c =
@@ -41,3 +45,9 @@ returns-in_err-root-clause-sound c = λ known.
     (subst (λ (tree : Root). Contains c.args.trees.now tree) (sym c.index-trees-i.is)
     (Contains-get_or c.args.trees.now c.loop-i.i c.index-trees-i.result
     (lockstep-within c.args.trees.now c.args.snapshots.now c.loop-i.i c.requires.lockstep c.loop-i-test.true))))))
+
+pub returns-in_err-root-clause-refs : goal.returns-in_err-root-clause-refs
+returns-in_err-root-clause-refs c =
+    let fault = c.in_err-root.field-0.0 in
+    rule-err RootItem c.from_residual.result fault Refs c.from_residual.ensures.1
+    (names-at {A = RootItem} (Err fault) Refs c.index-trees-i.result.address c.in_err-root.ensures.unknown)

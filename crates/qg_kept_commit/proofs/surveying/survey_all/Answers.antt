@@ -8,6 +8,7 @@ use Rattle.qg_kept.proofs.PiecesRead.{handed}
 use Rattle.qg_kept.proofs.Whole.{handed-sound}
 use Rattle.qg_kept_commit.proofs.Cleaned.{held-now, nothing-surveyed, surveyed-kept, surveyed-there}
 use Rattle.qg_kept_commit.proofs.SurveyedAll.{editable-now, next-same-now, order-now}
+use Rattle.qg_kept.proofs.Stopped.{first-err}
 use Rattle.qg_kept_commit.proofs.surveying.survey_all.Goals as goal
 
 -- ---- what is asked
@@ -134,3 +135,10 @@ returns-then-len-slots-clause-looked g c =
     surveyed-there c.args.kept.now c.survey.new.land (g.D.Disk.history c.args.disk.now)
     (g.D.Disk.history c.survey.new.disk) (g.D.Disk.size c.args.disk.now) (g.D.Disk.size c.survey.new.disk)
     c.args.kept.now.fs.refs.next c.survey.ensures.read c.survey.ensures.space
+
+-- ---- over any disk
+
+pub returns-in_err-nodes-clause-stops : goal.returns-in_err-nodes-clause-stops
+returns-in_err-nodes-clause-stops g c =
+    first-err (List Surveyed) c.from_residual.result c.in_err-nodes.field-0.0 c.args.kept.now
+    (g.D.Disk.size c.args.disk.now) c.from_residual.ensures.1 c.in_err-nodes.ensures.stops

@@ -11,6 +11,12 @@ use Rattle.qg_snap.proofs.Begun.{Calls, created-then, leaf-dated, leaf-low, leaf
 use Rattle.qg_snap.proofs.Given.{step-one}
 use Rattle.qg_snap.proofs.Knowing.{goes-made}
 use Rattle.qg_snap.proofs.Putting.{fits-made}
+use Rattle.std.proofs.Common.{ap, refl}
+use Rattle.std.specs.Prelude.{Err}
+use Rattle.qg_num.specs.declared.fault.BlockFault.{BlockFault}
+use Rattle.qg_num.specs.declared.rule.Rule.TheVariants.{Refs}
+use Rattle.qg_blocks.proofs.Stopping.{misfit-refs, stops-err, stops-misfit, stops-none}
+use Rattle.qg_descent.specs.Tree.{Root}
 use Rattle.qg_snap.proofs.creating.create.Goals as goal
 
 pub make_node-requires-clause-ready : goal.make_node-requires-clause-ready
@@ -123,3 +129,19 @@ returns-clause-rests g c =
 
 pub returns-clause-reads : goal.returns-clause-reads
 returns-clause-reads g c = c.make_node.ensures.reads 1 (λ q. omega arith)
+
+-- ---- over any disk
+
+pub returns-in_err-now-clause-stops : goal.returns-in_err-now-clause-stops
+returns-in_err-now-clause-stops g c =
+    let residual = c.from_residual in
+    let sizes = c.args.land.now.blocks.draft.sizes in
+    let bytes = g.D.Disk.size c.args.disk.now in
+    let fault = c.in_err-now.field-0.0 in
+    stops-err ℕ residual.result fault sizes sizes bytes bytes residual.ensures.1 refl refl
+    (stops-none {A = ℕ} (Err fault) sizes bytes c.in_err-now.ensures.unbroken)
+
+pub returns-in-Some-clause-stops : goal.returns-in-Some-clause-stops
+returns-in-Some-clause-stops g c =
+    stops-misfit {A = Root} (Err c.misfit_at.result) Refs c.in-Some.address c.args.land.now.blocks.draft.sizes
+    (g.D.Disk.size c.args.disk.now) misfit-refs (ap (λ (f : BlockFault). Err f) c.misfit_at.ensures)

@@ -3,6 +3,8 @@ use Rattle.qg_extents.specs.Table.{book_of}
 use Rattle.qg_tree_refs.specs.declared.tree_refs.TreeRefs.{TreeRefs}
 use Rattle.qg_tree_refs.proofs.Gains.{CanGive-one, Gives-more, Gives-none}
 use Rattle.qg_snap.proofs.Given.{unbroken-handed}
+use Rattle.qg_num.specs.declared.rule.Rule.TheVariants.{Refs}
+use Rattle.qg_blocks.proofs.Stopping.{rule-err}
 use Rattle.qg_snap.proofs.sharing.give_all.Goals as goal
 
 pub loop-owing-init : goal.loop-owing-init
@@ -25,3 +27,8 @@ loop-owing-preserved c =
       others = c.give.ensures.others
           ∙ ap (λ (book : TreeRefs). record book { refs = c.give.new.book.refs }) met.others;
     }
+
+pub returns-in_err-give-clause-refs : goal.returns-in_err-give-clause-refs
+returns-in_err-give-clause-refs c =
+    rule-err (Unit {0}) c.from_residual.result c.in_err-give.field-0.0 Refs c.from_residual.ensures.1
+    c.in_err-give.ensures.refs

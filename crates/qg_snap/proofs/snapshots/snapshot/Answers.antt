@@ -28,6 +28,12 @@ use Rattle.qg_snap.proofs.Heavier.{heavier-then}
 use Rattle.qg_snap.proofs.Knowing.{goes-given}
 use Rattle.qg_snap.proofs.Putting.{fits-made}
 use Rattle.qg_snap.proofs.Source.{has-root, root-formed, root-told}
+use Rattle.std.specs.Prelude.{Err}
+use Rattle.qg_num.specs.declared.fault.BlockFault.{BlockFault}
+use Rattle.qg_num.specs.declared.rule.Rule.TheVariants.{Refs}
+use Rattle.qg_image.specs.declared.tree.Tree.TheVariants.{Files}
+use Rattle.qg_blocks.proofs.Stopping.{misfit-refs, stops-err, stops-misfit, stops-none, stops-rule}
+use Rattle.qg_descent.proofs.Stopping.{stops-visit}
 use Rattle.qg_snap.proofs.snapshots.snapshot.Goals as goal
 
 pub visit-requires : goal.visit-requires
@@ -245,3 +251,34 @@ returns-clause-reads g c =
     let made = c.make_node.ensures.reads 1 (λ q. omega arith) in
     let visited = c.visit.ensures.reads in
     omega (arith, made, visited)
+
+-- ---- over any disk
+
+pub returns-in_err-visit-clause-stops : goal.returns-in_err-visit-clause-stops
+returns-in_err-visit-clause-stops g c =
+    stops-visit c.from_residual.result c.in_err-visit.field-0.0 Files c.args.source.now c.args.land.now.blocks.draft
+    (g.D.Disk.size c.args.disk.now) c.way-way.result.expected c.way-way.result.address c.from_residual.ensures.1
+    c.in_err-visit.ensures.stops
+
+pub returns-in_err-now-clause-stops : goal.returns-in_err-now-clause-stops
+returns-in_err-now-clause-stops g c =
+    let residual = c.from_residual-in_err-now in
+    let sizes = c.args.land.now.blocks.draft.sizes in
+    let bytes = g.D.Disk.size c.args.disk.now in
+    let fault = c.in_err-now.field-0.0 in
+    stops-err ℕ residual.result fault sizes sizes bytes bytes residual.ensures.1 refl refl
+    (stops-none {A = ℕ} (Err fault) sizes bytes c.in_err-now.ensures.unbroken)
+
+pub returns-in-Some-clause-stops : goal.returns-in-Some-clause-stops
+returns-in-Some-clause-stops g c =
+    stops-misfit {A = Root} (Err c.misfit_at.result) Refs c.in-Some.address c.args.land.now.blocks.draft.sizes
+    (g.D.Disk.size c.args.disk.now) misfit-refs (ap (λ (f : BlockFault). Err f) c.misfit_at.ensures)
+
+pub returns-in_err-give_all-clause-stops : goal.returns-in_err-give_all-clause-stops
+returns-in_err-give_all-clause-stops g c =
+    let residual = c.from_residual-in_err-give_all in
+    let sizes = c.args.land.now.blocks.draft.sizes in
+    let bytes = g.D.Disk.size c.args.disk.now in
+    let fault = c.in_err-give_all.field-0.0 in
+    stops-err (Unit {0}) residual.result fault sizes sizes bytes bytes residual.ensures.1 refl refl
+    (stops-rule {A = Unit {0}} (Err fault) Refs sizes bytes misfit-refs c.in_err-give_all.ensures.refs)

@@ -3,6 +3,7 @@ use Rattle.qg_num.specs.declared.answer.Answer.TheVariants.{Done, Refused}
 use Rattle.qg_space.specs.Holding.{free_slots}
 use Rattle.qg_groups.specs.Tracked.{quota_of}
 use Rattle.qg_kept_commit.proofs.PiecesRead.{handed}
+use Rattle.qg_kept_commit.proofs.Reserve.{finds-planned}
 use Rattle.qg_kept_commit.proofs.Whole.{handed-sound}
 use Rattle.qg_kept_commit.specs.FsLawsKeeping.{other_names}
 use Rattle.qg_kept_commit.specs.Keeping.{structural_need_of}
@@ -188,7 +189,8 @@ returns-in_err-commit_now-clause-so_far g c = λ state events keeps told.
     ∙ ap (commit_refusal c.args.kept.now) (sym c.copies_of-copies.ensures) ∙ sym c.in_ok-why.ensures.value
     ∙ c.in_default-2.is)
     (c.in_ok-commit_pending.ensures.so_far state events keeps told)
-    (c.in_err-commit_now.ensures.so_far change.changed first.between (other_names first.before) change.keeps change.room
+    (c.in_err-commit_now.ensures.so_far change.changed first.between (other_names first.before) change.keeps
+    (finds-planned c.change_groups.new.kept c.in_ok-change_groups.ensures.fitted change.room)
     first.told)
 
 pub returns-in_err-commit_now-clause-sound : goal.returns-in_err-commit_now-clause-sound
@@ -199,7 +201,8 @@ returns-in_err-commit_now-clause-sound g c = λ state events told keeps.
     c.in_ok-commit_pending.ensures.settled.pending in
     handed-sound (Unit {0}) c.from_residual-in_err-commit_now.result _
     (handed c.from_residual-in_err-commit_now.result _ c.from_residual-in_err-commit_now.ensures.1)
-    (c.in_err-commit_now.ensures.sound change.changed first.between (other_names first.before) change.keeps change.room
+    (c.in_err-commit_now.ensures.sound change.changed first.between (other_names first.before) change.keeps
+    (finds-planned c.change_groups.new.kept c.in_ok-change_groups.ensures.fitted change.room)
     first.told)
 
 pub returns-in_err-commit_now-clause-err : goal.returns-in_err-commit_now-clause-err
@@ -221,7 +224,8 @@ returns-in_err-commit_now-clause-err g c =
     c.in_ok-commit_pending.ensures.settled.pending in
     made-second state given Done mid new c.commit_now.new.kept events between between first change refl
     (held-regrouped first.before change.changed given Done c.requires.group change.changes) last
-    (c.in_err-commit_now.ensures.stops change.changed first.between (other_names first.before) change.keeps change.room
+    (c.in_err-commit_now.ensures.stops change.changed first.between (other_names first.before) change.keeps
+    (finds-planned c.change_groups.new.kept c.in_ok-change_groups.ensures.fitted change.room)
     first.told)))
 
 pub returns-clause-step : goal.returns-clause-step
@@ -234,7 +238,7 @@ returns-clause-step g c = λ state events keeps told.
     let change = c.in_ok-change_groups.ensures.changed first.before between first.keeps
     c.in_ok-commit_pending.ensures.settled.pending in
     let second = c.in_ok-commit_now.ensures.commits change.changed first.between (other_names first.before) change.keeps
-    change.room first.told in
+    (finds-planned c.change_groups.new.kept c.in_ok-change_groups.ensures.fitted change.room) first.told in
     does-structural state given Done mid new c.commit_now.new.kept events between between first change refl
     (held-regrouped first.before change.changed given Done c.requires.group change.changes)
     (g.D.Disk.history c.commit_now.new.disk) second
@@ -266,7 +270,8 @@ returns-clause-so_far g c = λ state events keeps told.
     ∙ ap (commit_refusal c.args.kept.now) (sym c.copies_of-copies.ensures) ∙ sym c.in_ok-why.ensures.value
     ∙ c.in_default-2.is)
     (c.in_ok-commit_pending.ensures.so_far state events keeps told)
-    (c.in_ok-commit_now.ensures.so_far change.changed first.between (other_names first.before) change.keeps change.room
+    (c.in_ok-commit_now.ensures.so_far change.changed first.between (other_names first.before) change.keeps
+    (finds-planned c.change_groups.new.kept c.in_ok-change_groups.ensures.fitted change.room)
     first.told)
 
 -- ---- over any disk

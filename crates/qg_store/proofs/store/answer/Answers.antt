@@ -1,7 +1,7 @@
-use Rattle.std.proofs.Common.{◌≡◌, ◌∙◌, ℕ, true, List, [], ap, inl, refl, subst, sym}
+use Rattle.std.proofs.Common.{◌≡◌, ◌∙◌, ℕ, true, List, [], ap, inl, refl, rules, subst, sym}
 use Rattle.std.specs.Prelude.{IfOk}
 use Rattle.qg_num.specs.declared.command.Command.{Command}
-use Rattle.qg_num.specs.declared.command.Command.TheVariants.{Clone, Delete, Ls, Owners, Show, Snap, SubCreate}
+use Rattle.qg_num.specs.declared.command.Command.TheVariants.{Clone, Commit, Delete, Ls, Owners, Show, Snap, SubCreate}
 use Rattle.qg_num.specs.declared.command.Command.TheVariants.{Truncate, Unlink, Write}
 use Rattle.qg_grammar.specs.ScriptText.{is_in_grammar}
 use Rattle.qg_blocks.proofs.Broken.{broken-any, broken-then}
@@ -9,6 +9,8 @@ use Rattle.qg_kept_commit.specs.Types.{Kept}
 use Rattle.qg_kept_commit.specs.Answering.{Answered, AnswersOn, IsDoneSoFar}
 use Rattle.qg_kept_commit.proofs.OnDisk.{each-given, last-always, last-given, last-same, on-disk, so-far-commit}
 use Rattle.qg_kept_commit.proofs.OnDisk.{still-commit, still-structural, unchanged-looked}
+use Rattle.qg_store.proofs.Counted.{asks-given, asks-grouped}
+use Rattle.qg_file_commands.specs.Reading.{AsksForFew}
 use Rattle.qg_store.proofs.Served.{inode_told, target_told}
 use Rattle.qg_store.proofs.Shown.{does_show}
 use Rattle.qg_store.proofs.Structured.{intact-given}
@@ -324,3 +326,68 @@ pub returns-in-Delete-clause-intact : goal.returns-in-Delete-clause-intact
 returns-in-Delete-clause-intact g c =
     intact-given c.args.command.now (Delete c.in-Delete.sub) c.args.kept.now c.delete.new.kept _ _ c.delete.result
     c.in-Delete.is c.delete.ensures.intact
+
+-- ---- how much is read
+
+pub returns-in-Write-clause-reads : goal.returns-in-Write-clause-reads
+returns-in-Write-clause-reads g c =
+    subst (λ (command : Command). IfOk c.write.result (λ answer. AsksForFew c.args.kept.now
+    (g.D.Disk.history c.args.disk.now) command answer c.args.reads.now c.write.new.reads)) (sym c.in-Write.is)
+    c.write.ensures.reads
+
+pub returns-in-Clone-clause-reads : goal.returns-in-Clone-clause-reads
+returns-in-Clone-clause-reads g c =
+    subst (λ (command : Command). IfOk c.clone.result (λ answer. AsksForFew c.args.kept.now
+    (g.D.Disk.history c.args.disk.now) command answer c.args.reads.now c.clone.new.reads)) (sym c.in-Clone.is)
+    c.clone.ensures.reads
+
+pub returns-in-Truncate-clause-reads : goal.returns-in-Truncate-clause-reads
+returns-in-Truncate-clause-reads g c =
+    subst (λ (command : Command). IfOk c.truncate.result (λ answer. AsksForFew c.args.kept.now
+    (g.D.Disk.history c.args.disk.now) command answer c.args.reads.now c.truncate.new.reads)) (sym c.in-Truncate.is)
+    c.truncate.ensures.reads
+
+pub returns-in-Unlink-clause-reads : goal.returns-in-Unlink-clause-reads
+returns-in-Unlink-clause-reads g c =
+    subst (λ (command : Command). IfOk c.unlink.result (λ answer. AsksForFew c.args.kept.now
+    (g.D.Disk.history c.args.disk.now) command answer c.args.reads.now c.unlink.new.reads)) (sym c.in-Unlink.is)
+    c.unlink.ensures.reads
+
+pub returns-in-Commit-clause-reads : goal.returns-in-Commit-clause-reads
+returns-in-Commit-clause-reads g c =
+    asks-given c.commit.result c.args.kept.now (g.D.Disk.history c.args.disk.now) c.args.command.now Commit _ _
+    c.in-Commit.is refl
+
+pub returns-in-SubCreate-clause-reads : goal.returns-in-SubCreate-clause-reads
+returns-in-SubCreate-clause-reads g c =
+    asks-given c.create.result c.args.kept.now (g.D.Disk.history c.args.disk.now) c.args.command.now SubCreate _ _
+    c.in-SubCreate.is refl
+
+pub returns-in-Snap-clause-reads : goal.returns-in-Snap-clause-reads
+returns-in-Snap-clause-reads g c =
+    asks-given c.snap.result c.args.kept.now (g.D.Disk.history c.args.disk.now) c.args.command.now
+    (Snap c.in-Snap.sub c.in-Snap.groups) _ _
+    c.in-Snap.is refl
+
+pub returns-in-Delete-clause-reads : goal.returns-in-Delete-clause-reads
+returns-in-Delete-clause-reads g c =
+    asks-given c.delete.result c.args.kept.now (g.D.Disk.history c.args.disk.now) c.args.command.now
+    (Delete c.in-Delete.sub) _ _
+    c.in-Delete.is refl
+
+pub returns-in-Ls-clause-reads : goal.returns-in-Ls-clause-reads
+returns-in-Ls-clause-reads g c =
+    asks-given c.list.result c.args.kept.now (g.D.Disk.history c.args.disk.now) c.args.command.now
+    (Ls c.in-Ls.sub c.in-Ls.ino) _ _
+    c.in-Ls.is refl
+
+pub returns-in-Owners-clause-reads : goal.returns-in-Owners-clause-reads
+returns-in-Owners-clause-reads g c =
+    asks-given c.owners.result c.args.kept.now (g.D.Disk.history c.args.disk.now) c.args.command.now
+    (Owners c.in-Owners.address) _ _
+    c.in-Owners.is refl
+
+pub returns-in-QuotaOn-clause-reads : goal.returns-in-QuotaOn-clause-reads
+returns-in-QuotaOn-clause-reads g c =
+    asks-grouped c.regroup.result c.args.kept.now (g.D.Disk.history c.args.disk.now) c.args.command.now _ _
+    (search rules)

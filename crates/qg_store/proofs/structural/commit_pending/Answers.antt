@@ -1,6 +1,7 @@
 use Rattle.std.proofs.Common.{arith, inl, refl}
 use Rattle.qg_kept_commit.specs.Calls.{commit_calls, unsure_calls}
 use Rattle.qg_kept_commit.specs.FsLawsKeeping.{other_names}
+use Rattle.qg_kept_commit.proofs.Reserve.{finds-planned}
 use Rattle.qg_store.proofs.Committed.{committed-none, committed-some, on-if, room-committed, room-same}
 use Rattle.qg_kept_changes.proofs.Fitting.{on-ok}
 use Rattle.qg_store.proofs.Committed.{on-err-then, settled-committed, settled-same, so-far-pending, some-number}
@@ -53,19 +54,22 @@ returns-clause-committed g c = λ state events keeps told.
     on-if _ _ c.commit_now.result
     (committed-some c.args.kept.now state events (g.D.Disk.history c.args.disk.now) c.requires.kept.fitted keeps
     c.commit_now.new.kept (g.D.Disk.history c.commit_now.new.disk) some)
-    (c.commit_now.ensures.commits state events (other_names state) keeps (keeps.reserved some) told)
+    (c.commit_now.ensures.commits state events (other_names state) keeps
+    (finds-planned c.args.kept.now c.requires.kept.fitted (keeps.reserved some)) told)
 
 pub returns-clause-so_far : goal.returns-clause-so_far
 returns-clause-so_far g c = λ state events keeps told.
     let some = some-number c.args.kept.now.pending c.if-kept-eq0.false in
     so-far-pending c.args.kept.now state events (g.D.Disk.history c.args.disk.now) c.requires.kept.fitted keeps
     commit_calls (g.D.Disk.history c.commit_now.new.disk) some c.requires.early
-    (c.commit_now.ensures.so_far state events (other_names state) keeps (keeps.reserved some) told)
+    (c.commit_now.ensures.so_far state events (other_names state) keeps
+    (finds-planned c.args.kept.now c.requires.kept.fitted (keeps.reserved some)) told)
 
 pub returns-clause-sound : goal.returns-clause-sound
 returns-clause-sound g c = λ state events told keeps.
     let some = some-number c.args.kept.now.pending c.if-kept-eq0.false in
-    c.commit_now.ensures.sound state events (other_names state) keeps (keeps.reserved some) told
+    c.commit_now.ensures.sound state events (other_names state) keeps
+    (finds-planned c.args.kept.now c.requires.kept.fitted (keeps.reserved some)) told
 
 pub returns-clause-calls : goal.returns-clause-calls
 returns-clause-calls g c =
@@ -84,4 +88,5 @@ returns-clause-err g c =
     on-err-then _ _ c.commit_now.result
     (so-far-pending c.args.kept.now state events (g.D.Disk.history c.args.disk.now) c.requires.kept.fitted keeps
     unsure_calls (g.D.Disk.history c.commit_now.new.disk) some c.requires.early)
-    (c.commit_now.ensures.stops state events (other_names state) keeps (keeps.reserved some) told))
+    (c.commit_now.ensures.stops state events (other_names state) keeps
+    (finds-planned c.args.kept.now c.requires.kept.fitted (keeps.reserved some)) told))

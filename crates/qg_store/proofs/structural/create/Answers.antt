@@ -5,6 +5,7 @@ use Rattle.qg_num.specs.declared.refusal.Refusal.TheVariants as why
 use Rattle.qg_blocks.proofs.Broken.{broken-any}
 use Rattle.qg_space.specs.Holding.{free_slots}
 use Rattle.qg_kept_commit.proofs.PiecesRead.{handed}
+use Rattle.qg_kept_commit.proofs.Reserve.{finds-planned}
 use Rattle.qg_kept_commit.proofs.Whole.{handed-sound}
 use Rattle.qg_kept_commit.specs.FsLawsKeeping.{other_names}
 use Rattle.qg_kept_commit.specs.Keeping.{structural_need_of}
@@ -179,7 +180,8 @@ returns-in_err-commit_now-clause-so_far g c = λ state events keeps told.
     c.number_next-number.ensures.value c.are_too_many.ensures c.if-are_too_many.false) ∙ sym c.in_ok-why.ensures.value
     ∙ c.in_default.is)
     (c.in_ok-commit_pending.ensures.so_far state events keeps told)
-    (c.in_err-commit_now.ensures.so_far change.changed first.between (other_names first.before) change.keeps change.room
+    (c.in_err-commit_now.ensures.so_far change.changed first.between (other_names first.before) change.keeps
+    (finds-planned c.create_change.new.kept c.in_ok-create_change.ensures.kept.fitted change.room)
     (c.in_ok-create_change.ensures.apart.0 ∙ first.told))
 
 pub returns-in_err-commit_now-clause-sound : goal.returns-in_err-commit_now-clause-sound
@@ -189,7 +191,8 @@ returns-in_err-commit_now-clause-sound g c = λ state events told keeps.
     c.in_ok-commit_pending.ensures.settled.pending in
     handed-sound (Unit {0}) c.from_residual-in_err-commit_now.result _
     (handed c.from_residual-in_err-commit_now.result _ c.from_residual-in_err-commit_now.ensures.1)
-    (c.in_err-commit_now.ensures.sound change.changed first.between (other_names first.before) change.keeps change.room
+    (c.in_err-commit_now.ensures.sound change.changed first.between (other_names first.before) change.keeps
+    (finds-planned c.create_change.new.kept c.in_ok-create_change.ensures.kept.fitted change.room)
     (c.in_ok-create_change.ensures.apart.0 ∙ first.told))
 
 pub returns-in_err-commit_now-clause-err : goal.returns-in_err-commit_now-clause-err
@@ -209,7 +212,8 @@ returns-in_err-commit_now-clause-err g c =
     made-second state SubCreate (Sub c.new-sub.result) c.commit_pending.new.kept c.create_change.new.kept
     c.commit_now.new.kept events between after first change c.in_ok-create_change.ensures.apart.0
     (held-created first.before change.changed (Sub c.new-sub.result) change.changes) last
-    (c.in_err-commit_now.ensures.stops change.changed first.between (other_names first.before) change.keeps change.room
+    (c.in_err-commit_now.ensures.stops change.changed first.between (other_names first.before) change.keeps
+    (finds-planned c.create_change.new.kept c.in_ok-create_change.ensures.kept.fitted change.room)
     (c.in_ok-create_change.ensures.apart.0 ∙ first.told))))
 
 pub returns-clause-step : goal.returns-clause-step
@@ -222,7 +226,8 @@ returns-clause-step g c = λ state events keeps told.
     let change = c.in_ok-create_change.ensures.changed first.before first.keeps
     c.in_ok-commit_pending.ensures.settled.pending in
     let second = c.in_ok-commit_now.ensures.commits change.changed first.between (other_names first.before) change.keeps
-    change.room (c.in_ok-create_change.ensures.apart.0 ∙ first.told) in
+    (finds-planned c.create_change.new.kept c.in_ok-create_change.ensures.kept.fitted change.room)
+    (c.in_ok-create_change.ensures.apart.0 ∙ first.told) in
     let few = too-many-by kept 0 c.number_next-number.result c.are_too_many.result false
     c.number_next-number.ensures.value c.are_too_many.ensures c.if-are_too_many.false in
     does-structural state SubCreate (Sub c.new-sub.result) c.commit_pending.new.kept c.create_change.new.kept
@@ -251,7 +256,8 @@ returns-clause-so_far g c = λ state events keeps told.
     c.number_next-number.ensures.value c.are_too_many.ensures c.if-are_too_many.false) ∙ sym c.in_ok-why.ensures.value
     ∙ c.in_default.is)
     (c.in_ok-commit_pending.ensures.so_far state events keeps told)
-    (c.in_ok-commit_now.ensures.so_far change.changed first.between (other_names first.before) change.keeps change.room
+    (c.in_ok-commit_now.ensures.so_far change.changed first.between (other_names first.before) change.keeps
+    (finds-planned c.create_change.new.kept c.in_ok-create_change.ensures.kept.fitted change.room)
     (c.in_ok-create_change.ensures.apart.0 ∙ first.told))
 
 -- ---- over any disk

@@ -7,6 +7,7 @@ use Rattle.qg_machine.specs.Refusals.{nodes_reached}
 use Rattle.qg_blocks.proofs.Broken.{broken-any}
 use Rattle.qg_space.specs.Holding.{free_slots}
 use Rattle.qg_kept_commit.proofs.PiecesRead.{handed}
+use Rattle.qg_kept_commit.proofs.Reserve.{finds-planned}
 use Rattle.qg_kept_commit.proofs.Whole.{handed-sound}
 use Rattle.qg_kept_commit.specs.FsLawsKeeping.{other_names}
 use Rattle.qg_kept_commit.specs.Types.{Kept}
@@ -21,6 +22,7 @@ use Rattle.qg_store.proofs.Structured.{does-structural, early-second, held-delet
 use Rattle.qg_store.proofs.Structured.{intact-first, intact-handed, made-second, reached-settled, so-far-first}
 use Rattle.qg_store.proofs.Structured.{so-far-second}
 use Rattle.qg_kept_commit.proofs.Turned.{looked-refl, looked-turned}
+use Rattle.qg_kept_commit.specs.Types.{KeptSubvolume}
 use Rattle.qg_store.proofs.structural.delete.Goals as goal
 
 pub turn_to-requires : goal.turn_to-requires
@@ -195,7 +197,7 @@ delete_change-requires g c =
     let settled = c.in_ok-commit_pending.ensures.settled in
     record {
       kept = c.in_ok-commit_pending.ensures.kept;
-      there = ap (λ (table : List (ℕ × ℕ)). has_key c.args.sub table)
+      there = ap (λ (table : List (ℕ × KeptSubvolume)). has_key c.args.sub table)
           (settled.snapshots ∙ ap (λ (k : Kept). k.snapshots) c.in_ok-copies.ensures.looked.same
           ∙ ap (λ (k : Kept). k.snapshots) c.turn_to.ensures.same.rest)
           ∙ sym c.turn_to.ensures.there ∙ c.if-not-turn_to.false;
@@ -298,7 +300,8 @@ returns-in_err-commit_now-clause-so_far g c = λ state events given told.
     ∙ ap (λ (n : ℕ). 18 + nodes_reached state n) (c.turn_to.ensures.hand c.if-not-turn_to.false)))
     ∙ sym c.in_ok-why.ensures.value ∙ c.in_default.is)
     (c.in_ok-commit_pending.ensures.so_far state events keeps (looked.history ∙ told))
-    (c.in_err-commit_now.ensures.so_far change.changed first.between (other_names first.before) change.keeps change.room
+    (c.in_err-commit_now.ensures.so_far change.changed first.between (other_names first.before) change.keeps
+    (finds-planned c.delete_change.new.kept c.in_ok-delete_change.ensures.kept.fitted change.room)
     (c.in_ok-delete_change.ensures.apart.0 ∙ first.told))
 
 pub returns-in_err-commit_now-clause-sound : goal.returns-in_err-commit_now-clause-sound
@@ -316,7 +319,8 @@ returns-in_err-commit_now-clause-sound g c = λ state events told given.
     ∙ ap (λ (n : ℕ). 18 + n) (sym (reached-settled state first.earlier first.before first.first c.args.sub))) in
     handed-sound (Unit {0}) c.from_residual-in_err-commit_now.result _
     (handed c.from_residual-in_err-commit_now.result _ c.from_residual-in_err-commit_now.ensures.1)
-    (c.in_err-commit_now.ensures.sound change.changed first.between (other_names first.before) change.keeps change.room
+    (c.in_err-commit_now.ensures.sound change.changed first.between (other_names first.before) change.keeps
+    (finds-planned c.delete_change.new.kept c.in_ok-delete_change.ensures.kept.fitted change.room)
     (c.in_ok-delete_change.ensures.apart.0 ∙ first.told))
 
 pub returns-in_err-commit_now-clause-err : goal.returns-in_err-commit_now-clause-err
@@ -348,7 +352,8 @@ returns-in_err-commit_now-clause-err g c =
     made-second state (Delete c.args.sub) Done c.commit_pending.new.kept c.delete_change.new.kept
     c.commit_now.new.kept events between after first change c.in_ok-delete_change.ensures.apart.0
     (held-deleted first.before change.changed c.args.sub Done change.changes) last
-    (c.in_err-commit_now.ensures.stops change.changed first.between (other_names first.before) change.keeps change.room
+    (c.in_err-commit_now.ensures.stops change.changed first.between (other_names first.before) change.keeps
+    (finds-planned c.delete_change.new.kept c.in_ok-delete_change.ensures.kept.fitted change.room)
     (c.in_ok-delete_change.ensures.apart.0 ∙ first.told))))
 
 pub returns-clause-step : goal.returns-clause-step
@@ -369,7 +374,8 @@ returns-clause-step g c = λ state events given told.
     ∙ ap (λ (n : ℕ). 18 + nodes_reached state n) (c.turn_to.ensures.hand c.if-not-turn_to.false)
     ∙ ap (λ (n : ℕ). 18 + n) (sym (reached-settled state first.earlier first.before first.first c.args.sub))) in
     let second = c.in_ok-commit_now.ensures.commits change.changed first.between (other_names first.before) change.keeps
-    change.room (c.in_ok-delete_change.ensures.apart.0 ∙ first.told) in
+    (finds-planned c.delete_change.new.kept c.in_ok-delete_change.ensures.kept.fitted change.room)
+    (c.in_ok-delete_change.ensures.apart.0 ∙ first.told) in
     does-structural state (Delete c.args.sub) Done c.commit_pending.new.kept c.delete_change.new.kept
     c.commit_now.new.kept events between after first change c.in_ok-delete_change.ensures.apart.0
     (held-deleted first.before change.changed c.args.sub Done change.changes)
@@ -413,7 +419,8 @@ returns-clause-so_far g c = λ state events given told.
     ∙ ap (λ (n : ℕ). 18 + nodes_reached state n) (c.turn_to.ensures.hand c.if-not-turn_to.false)))
     ∙ sym c.in_ok-why.ensures.value ∙ c.in_default.is)
     (c.in_ok-commit_pending.ensures.so_far state events keeps (looked.history ∙ told))
-    (c.in_ok-commit_now.ensures.so_far change.changed first.between (other_names first.before) change.keeps change.room
+    (c.in_ok-commit_now.ensures.so_far change.changed first.between (other_names first.before) change.keeps
+    (finds-planned c.delete_change.new.kept c.in_ok-delete_change.ensures.kept.fitted change.room)
     (c.in_ok-delete_change.ensures.apart.0 ∙ first.told))
 
 -- ---- over any disk

@@ -5,6 +5,7 @@ use Rattle.qg_num.specs.declared.refusal.Refusal.TheVariants as why
 use Rattle.qg_blocks.proofs.Broken.{broken-any}
 use Rattle.qg_space.specs.Holding.{free_slots}
 use Rattle.qg_kept_commit.proofs.PiecesRead.{handed}
+use Rattle.qg_kept_commit.proofs.Reserve.{finds-planned}
 use Rattle.qg_kept_commit.proofs.Whole.{handed-sound}
 use Rattle.qg_kept_commit.specs.FsLawsKeeping.{other_names}
 use Rattle.qg_kept_commit.specs.Types.{Kept}
@@ -326,7 +327,8 @@ returns-in_err-commit_now-clause-so_far g c = λ state events given told.
     ∙ ap (commit_refusal c.turn_to.new.kept) (sym c.in_ok-copies.ensures)
     ∙ sym c.in_ok-why-2.ensures.value ∙ c.in_default-2.is)
     (c.in_ok-commit_pending.ensures.so_far state events keeps told)
-    (c.in_err-commit_now.ensures.so_far change.changed first.between (other_names first.before) change.keeps change.room
+    (c.in_err-commit_now.ensures.so_far change.changed first.between (other_names first.before) change.keeps
+    (finds-planned c.snap_change.new.kept c.in_ok-snap_change.ensures.kept.fitted change.room)
     (c.in_ok-snap_change.ensures.apart.0 ∙ first.told))
 
 pub returns-in_err-commit_now-clause-sound : goal.returns-in_err-commit_now-clause-sound
@@ -338,7 +340,8 @@ returns-in_err-commit_now-clause-sound g c = λ state events told given.
     c.in_ok-commit_pending.ensures.settled.pending in
     handed-sound (Unit {0}) c.from_residual-in_err-commit_now.result _
     (handed c.from_residual-in_err-commit_now.result _ c.from_residual-in_err-commit_now.ensures.1)
-    (c.in_err-commit_now.ensures.sound change.changed first.between (other_names first.before) change.keeps change.room
+    (c.in_err-commit_now.ensures.sound change.changed first.between (other_names first.before) change.keeps
+    (finds-planned c.snap_change.new.kept c.in_ok-snap_change.ensures.kept.fitted change.room)
     (c.in_ok-snap_change.ensures.apart.0 ∙ first.told))
 
 pub returns-in_err-commit_now-clause-err : goal.returns-in_err-commit_now-clause-err
@@ -364,7 +367,8 @@ returns-in_err-commit_now-clause-err g c =
     c.snap_change.new.kept
     c.commit_now.new.kept events between after first change c.in_ok-snap_change.ensures.apart.0
     (held-snapped first.before change.changed c.args.sub c.args.parents.now (Sub c.new-copy.result) change.changes) last
-    (c.in_err-commit_now.ensures.stops change.changed first.between (other_names first.before) change.keeps change.room
+    (c.in_err-commit_now.ensures.stops change.changed first.between (other_names first.before) change.keeps
+    (finds-planned c.snap_change.new.kept c.in_ok-snap_change.ensures.kept.fitted change.room)
     (c.in_ok-snap_change.ensures.apart.0 ∙ first.told))))
 
 pub returns-clause-step : goal.returns-clause-step
@@ -379,7 +383,8 @@ returns-clause-step g c = λ state events given told.
     let change = c.in_ok-snap_change.ensures.changed first.before first.keeps
     c.in_ok-commit_pending.ensures.settled.pending in
     let second = c.in_ok-commit_now.ensures.commits change.changed first.between (other_names first.before) change.keeps
-    change.room (c.in_ok-snap_change.ensures.apart.0 ∙ first.told) in
+    (finds-planned c.snap_change.new.kept c.in_ok-snap_change.ensures.kept.fitted change.room)
+    (c.in_ok-snap_change.ensures.apart.0 ∙ first.told) in
     let few = too-many-by kept (length c.args.parents.now) c.number_next-number.result c.are_too_many.result false
     c.number_next-number.ensures.value c.are_too_many.ensures c.if-are_too_many.false in
     does-structural state (Snap c.args.sub c.args.parents.now) (Sub c.new-copy.result) c.commit_pending.new.kept
@@ -424,7 +429,8 @@ returns-clause-so_far g c = λ state events given told.
     ∙ ap (commit_refusal c.turn_to.new.kept) (sym c.in_ok-copies.ensures)
     ∙ sym c.in_ok-why-2.ensures.value ∙ c.in_default-2.is)
     (c.in_ok-commit_pending.ensures.so_far state events keeps told)
-    (c.in_ok-commit_now.ensures.so_far change.changed first.between (other_names first.before) change.keeps change.room
+    (c.in_ok-commit_now.ensures.so_far change.changed first.between (other_names first.before) change.keeps
+    (finds-planned c.snap_change.new.kept c.in_ok-snap_change.ensures.kept.fitted change.room)
     (c.in_ok-snap_change.ensures.apart.0 ∙ first.told))
 
 -- ---- over any disk

@@ -18,6 +18,10 @@ use Rattle.qg_survey.proofs.Rounds.{surveyed-on, surveyed-stops}
 use Rattle.qg_survey.proofs.Stepped.{ends-there, goes-higher, goes-none, inner-goes, leaf-goes}
 use Rattle.qg_survey.proofs.surveying.+surveying.Goals.{survey_under-then-level-gt0+in_ok-survey_each}
 use Rattle.qg_survey.proofs.surveying.+surveying.Goals.{survey_under-else-level-gt0}
+use Rattle.qg_image.specs.declared.tree.Tree.TheVariants.{Files}
+use Rattle.qg_blocks.specs.Held.{Draft}
+use Rattle.qg_blocks.proofs.Stopping.{stops-err}
+use Rattle.qg_descent.proofs.Stopping.{stops-visit}
 use Rattle.qg_survey.proofs.surveying.+surveying.Goals as goal
 
 pub survey_each-returns-in_err-survey_under-clause-surveyed :
@@ -246,3 +250,29 @@ survey_under-returns-clause-readable g t c = elim c.if-level-gt0.branch [
       rw w.blocks-is (rw w.disk-is w.in_ok-survey_each.ensures.readable)
   | survey_under-else-level-gt0 w ↦ rw w.blocks-is (rw w.disk-is c.visit.ensures.readable)
 ]
+
+-- ---- over any disk
+
+pub survey_under-returns-in_err-visit-clause-stops :
+    goal.survey_under-returns-in_err-visit-clause-stops
+survey_under-returns-in_err-visit-clause-stops g t c =
+    stops-visit c.from_residual.result c.in_err-visit.field-0.0 Files c.args.tree.now c.args.blocks.now.draft
+    (g.D.Disk.size c.args.disk.now) c.args.way.now.expected c.args.way.now.address c.from_residual.ensures.1
+    c.in_err-visit.ensures.stops
+
+pub survey_under-returns-in_err-survey_each-clause-stops :
+    goal.survey_under-returns-in_err-survey_each-clause-stops
+survey_under-returns-in_err-survey_each-clause-stops g t c =
+    let residual = c.from_residual-in_err-survey_each in
+    let read = c.visit.ensures.read in
+    stops-err (Unit {0}) residual.result c.in_err-survey_each.field-0.0 c.visit.new.blocks.draft.sizes
+    c.args.blocks.now.draft.sizes (g.D.Disk.size c.visit.new.disk) (g.D.Disk.size c.args.disk.now)
+    residual.ensures.1 (ap (λ (d : Draft). d.sizes) read.draft) read.size c.in_err-survey_each.ensures.stops
+
+pub survey_each-returns-in_err-survey_under-clause-stops :
+    goal.survey_each-returns-in_err-survey_under-clause-stops
+survey_each-returns-in_err-survey_under-clause-stops g t c =
+    let read = c.ways.invariant.read in
+    stops-err (Unit {0}) c.from_residual.result c.in_err-survey_under.field-0.0 c.ways.blocks.draft.sizes
+    c.args.blocks.now.draft.sizes (g.D.Disk.size c.ways.disk) (g.D.Disk.size c.args.disk.now)
+    c.from_residual.ensures.1 (ap (λ (d : Draft). d.sizes) read.draft) read.size c.in_err-survey_under.ensures.stops

@@ -7,6 +7,8 @@ use Rattle.qg_drop.proofs.Whole.{tells-held}
 use Rattle.qg_survey.specs.Surveying.{AreRead}
 use Rattle.qg_survey.proofs.Held.{all-read, marks-told, once-read, read-none, trees-lead, trees-next}
 use Rattle.qg_survey.proofs.Ordered.{links-are}
+use Rattle.std.proofs.Common.{refl}
+use Rattle.qg_blocks.proofs.Stopping.{stops-err}
 use Rattle.qg_survey.proofs.surveying.survey.Goals as goal
 
 pub survey_trees-surveyed-requires : goal.survey_trees-surveyed-requires
@@ -118,3 +120,12 @@ returns-clause-editable g c =
     (g.D.Disk.history c.args.disk.now) (g.D.Disk.history c.survey_trees-surveyed.new.disk)
     (g.D.Disk.size c.args.disk.now)
     (g.D.Disk.size c.survey_trees-surveyed.new.disk) c.args.book.now.next c.requires.editable made.read.size rests
+
+-- ---- over any disk
+
+pub returns-in_err-surveyed-clause-stops : goal.returns-in_err-surveyed-clause-stops
+returns-in_err-surveyed-clause-stops g c =
+    let sizes = c.args.land.now.blocks.draft.sizes in
+    let bytes = g.D.Disk.size c.args.disk.now in
+    stops-err (Unit {0}) c.from_residual.result _ sizes sizes bytes bytes c.from_residual.ensures.1 refl refl
+    c.in_err-surveyed.ensures.stops

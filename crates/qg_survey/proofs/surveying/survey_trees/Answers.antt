@@ -9,6 +9,8 @@ use Rattle.qg_drop.proofs.Resting.{unbroken-handed}
 use Rattle.qg_survey.specs.Surveying.{EndsBelow, GoesOn, LeadsOn}
 use Rattle.qg_survey.proofs.Reading.{on-err}
 use Rattle.qg_survey.proofs.Rounds.{gone-on, gone-stops, tree-leads}
+use Rattle.qg_blocks.specs.Held.{Draft}
+use Rattle.qg_blocks.proofs.Stopping.{stops-err}
 use Rattle.qg_survey.proofs.surveying.survey_trees.Goals as goal
 
 pub survey_under-requires-clause-levelled : goal.survey_under-requires-clause-levelled
@@ -84,3 +86,12 @@ trees-preserved g c =
           (g.D.Disk.size c.trees.disk) (g.D.Disk.size c.survey_under.new.disk) met.read made.read;
       count = let now = made.cause.fine in let before = met.count in omega (arith, now, before);
     }
+
+-- ---- over any disk
+
+pub returns-in_err-survey_under-clause-stops : goal.returns-in_err-survey_under-clause-stops
+returns-in_err-survey_under-clause-stops g c =
+    let read = c.trees.invariant.read in
+    stops-err (Unit {0}) c.from_residual.result c.in_err-survey_under.field-0.0 c.trees.blocks.draft.sizes
+    c.args.blocks.now.draft.sizes (g.D.Disk.size c.trees.disk) (g.D.Disk.size c.args.disk.now)
+    c.from_residual.ensures.1 (ap (λ (d : Draft). d.sizes) read.draft) read.size c.in_err-survey_under.ensures.stops

@@ -20,6 +20,9 @@ use Rattle.qg_tree_edits.proofs.Unfit.{unfit-under}
 use Rattle.qg_tree_edits.specs.Failing.{CantGrow, FailsUnder, IsUnfit}
 use Rattle.qg_tree_edits.specs.declared.instead.Instead.{Instead}
 use Rattle.std.proofs.lemmas.Result.{err_from_is_err_and}
+use Rattle.std.proofs.Common.{refl}
+use Rattle.qg_blocks.proofs.Stopping.{stops-err}
+use Rattle.qg_tree_edits.proofs.Stopped.{stops-after}
 use Rattle.qg_tree_edits.proofs.changing.edit_tree.Goals as goal
 
 pub returns-in_err-instead-clause-reads : goal.returns-in_err-instead-clause-reads
@@ -207,3 +210,15 @@ pub returns-clause-book : goal.returns-clause-book
 returns-clause-book g c =
     let book = c.set_root.ensures.book in
     record { stands = book.stands; settled = λ settled. book.settled (c.in_ok-instead.ensures.book.settled settled) }
+
+-- ---- over any disk
+
+pub returns-in_err-instead-clause-stops : goal.returns-in_err-instead-clause-stops
+returns-in_err-instead-clause-stops g c =
+    let sizes = c.args.land.now.blocks.draft.sizes in
+    let bytes = g.D.Disk.size c.args.disk.now in
+    stops-err Instead c.from_residual.result c.in_err-instead.field-0.0 sizes sizes bytes bytes
+    c.from_residual.ensures.1 refl refl c.in_err-instead.ensures.stops
+
+pub returns-clause-stops : goal.returns-clause-stops
+returns-clause-stops g c = stops-after c.set_root.result c.edit_under.ensures.rests c.set_root.ensures.stops

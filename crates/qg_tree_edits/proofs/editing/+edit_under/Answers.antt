@@ -40,6 +40,9 @@ use Rattle.qg_tree_edits.proofs.Owners.{placed-owners}
 use Rattle.qg_tree_edits.proofs.Naming.{names-none, names-other}
 use Rattle.qg_tree_edits.proofs.Unfit.{fails-above, fails-below, fails-read, leads-down, owned-stands, placed-stands}
 use Rattle.qg_tree_edits.specs.Failing.{CantSettle, FailsUnder, IsRefused}
+use Rattle.std.proofs.Common.{refl}
+use Rattle.qg_blocks.proofs.Stopping.{stops-err, stops-none}
+use Rattle.qg_tree_edits.proofs.Stopped.{stops-err-after}
 use Rattle.qg_tree_edits.proofs.editing.+edit_under.Goals as goal
 
 pub place_for-place-requires-clause-inner : goal.place_for-place-requires-clause-inner
@@ -584,3 +587,36 @@ returns-clause-book g t c =
       settled = λ settled. book.settled (c.in_ok-rest.ensures.book.settled
           (c.in_ok-child.ensures.book.settled (c.in_ok-now.ensures.book.settled settled)));
     }
+
+-- ---- over any disk
+
+pub returns-then-level-eq0-clause-stops : goal.returns-then-level-eq0-clause-stops
+returns-then-level-eq0-clause-stops g t c = c.edit_there.ensures.stops
+
+pub returns-in_err-now-clause-stops : goal.returns-in_err-now-clause-stops
+returns-in_err-now-clause-stops g t c =
+    let sizes = c.args.land.now.blocks.draft.sizes in
+    let bytes = g.D.Disk.size c.args.disk.now in
+    stops-err ℕ c.from_residual.result c.in_err-now.field-0.0 sizes sizes bytes bytes c.from_residual.ensures.1 refl
+    refl c.in_err-now.ensures.stops
+
+pub returns-in_err-child-clause-stops : goal.returns-in_err-child-clause-stops
+returns-in_err-child-clause-stops g t c =
+    let residual = c.from_residual-in_err-child in
+    stops-err-after Instead residual.result c.in_err-child.field-0.0 residual.ensures.1 c.own.ensures.rests
+    c.in_err-child.ensures.stops
+
+pub returns-in_err-rest-clause-stops : goal.returns-in_err-rest-clause-stops
+returns-in_err-rest-clause-stops g t c =
+    let residual = c.from_residual-in_err-rest in
+    let first = LeavesBe-after c.args.land.now c.own.new.land c.edit_under.new.land (g.D.Disk.history c.args.disk.now)
+    (g.D.Disk.history c.own.new.disk) (g.D.Disk.history c.edit_under.new.disk) (g.D.Disk.size c.args.disk.now)
+    (g.D.Disk.size c.own.new.disk) (g.D.Disk.size c.edit_under.new.disk) c.args.tree.now.next c.own.ensures.rests
+    c.edit_under.ensures.rests in
+    stops-err-after (Option Node) residual.result c.in_err-rest.field-0.0 residual.ensures.1 first
+    c.in_err-rest.ensures.stops
+
+pub returns-clause-stops : goal.returns-clause-stops
+returns-clause-stops g t c =
+    stops-none c.place_rest.result c.args.land.now.blocks.draft.sizes (g.D.Disk.size c.args.disk.now)
+    c.place_rest.ensures.unbroken

@@ -32,6 +32,8 @@ use Rattle.qg_tree_edits.proofs.Naming.{names-none, names-other}
 use Rattle.qg_tree_edits.proofs.Unfit.{fails-leaf, fails-read, owned-stands, placed-stands}
 use Rattle.qg_tree_edits.specs.Failing.{FailsUnder, IsRefused}
 use Rattle.qg_edit.specs.Answering.{IsBrokenByChange}
+use Rattle.qg_blocks.proofs.Stopping.{stops-err, stops-none}
+use Rattle.qg_tree_edits.proofs.Stopped.{misfit-change, stops-names-err}
 use Rattle.qg_tree_edits.proofs.editing.edit_there.Goals as goal
 
 pub rewrite_leaf-requires-clause-sizes : goal.rewrite_leaf-requires-clause-sizes
@@ -328,3 +330,29 @@ returns-clause-book g c =
           (rewritten-levels mid set now owned.mine owned.here rewritten stays.stays)
           (c.in_ok-now.ensures.book.settled settled));
     }
+
+-- ---- over any disk
+
+pub returns-in_err-now-clause-stops : goal.returns-in_err-now-clause-stops
+returns-in_err-now-clause-stops g c =
+    let sizes = c.args.land.now.blocks.draft.sizes in
+    let bytes = g.D.Disk.size c.args.disk.now in
+    stops-err ℕ c.from_residual.result c.in_err-now.field-0.0 sizes sizes bytes bytes c.from_residual.ensures.1 refl
+    refl c.in_err-now.ensures.stops
+
+pub returns-in_err-rest-clause-stops : goal.returns-in_err-rest-clause-stops
+returns-in_err-rest-clause-stops g c =
+    let residual = c.from_residual-in_err-rest in
+    let nodesize = c.own.new.land.space.sizes.nodesize in
+    let edit = c.args.edit in
+    let owned = c.in_ok-now.ensures.owned.is in
+    stops-names-err (Option Node) residual.result c.in_err-rest.field-0.0
+    (IsBrokenByChange nodesize edit.key edit.change owned.mine) c.args.land.now.blocks.draft.sizes
+    (g.D.Disk.size c.args.disk.now) residual.ensures.1
+    (λ rule address bad. misfit-change nodesize edit.key edit.change owned.mine rule address bad)
+    (c.in_err-rest.ensures.fails.broken owned.mine owned.here)
+
+pub returns-clause-stops : goal.returns-clause-stops
+returns-clause-stops g c =
+    stops-none c.place_rest.result c.args.land.now.blocks.draft.sizes (g.D.Disk.size c.args.disk.now)
+    c.place_rest.ensures.unbroken

@@ -15,6 +15,10 @@ use Rattle.qg_tree_edits.proofs.Rejoined.{unbroken-other}
 use Rattle.qg_device.proofs.Causes.{cause-handed, cause-none}
 use Rattle.qg_tree_edits.specs.Failing.{ArentJoined}
 use Rattle.qg_shape.specs.declared.joining.Joined.{Joined}
+use Rattle.std.proofs.Common.{◌∙◌}
+use Rattle.qg_blocks.proofs.Stopping.{stops-err, stops-read}
+use Rattle.std.specs.Prelude.{Err}
+use Rattle.qg_tree_edits.proofs.Stopped.{misfit-merge, stops-names-err}
 use Rattle.qg_tree_edits.proofs.joining.unite.Goals as goal
 
 -- ---- they are not joined
@@ -118,13 +122,13 @@ returns-in_err-leave_node-in-Whole-clause-fails g c =
     rw (p.1, p.2) (record {
       sound = λ events is a b here there front short short'.
           fresh-unbroken (Unit {0}) Instead fault draft (content events) c.args.right joined.b joined.right_there
-          (call.answers events is);
+          (call.fails.answers events is);
       broken = λ events is a b here there. names-none_other Instead Instead fault
           (ArentJoined c.leave_node.new.land c.args.left c.args.right a b)
           (fresh-unbroken (Unit {0}) Instead fault draft (content events) c.args.right joined.b joined.right_there
-          (call.answers events is));
+          (call.fails.answers events is));
       cause = cause-handed (Unit {0}) Instead faults faults (g.D.Disk.faults c.leave_node.new.disk) fault (omega arith)
-          call.cause;
+          call.fails.cause;
     })
 
 pub returns-in_err-leave_node-in-Whole-clause-drafted : goal.returns-in_err-leave_node-in-Whole-clause-drafted
@@ -144,7 +148,7 @@ returns-in_err-leave_node-in-Whole-clause-drafted g c generation drafted =
 
 pub returns-in_ok-leave_node-in-Whole-clause-fails : goal.returns-in_ok-leave_node-in-Whole-clause-fails
 returns-in_ok-leave_node-in-Whole-clause-fails g c =
-    let cause = c.in_ok-leave_node-in-Whole.ensures.cause in
+    let cause = c.in_ok-leave_node-in-Whole.ensures.fails.cause in
     record {
       sound = λ events is a b here there front short short'. tt;
       broken = λ events is a b here there. tt;
@@ -178,3 +182,29 @@ returns-in_ok-leave_node-in-Whole-clause-drafted g c generation drafted =
           (joined-empties old new left right c.requires.apart pair are kind joined c.in-Whole.is
           (one.drafted.each right joined.b joined.right_there).kept.placed) settled;
     }
+
+-- ---- over any disk
+
+pub returns-in_err-join_nodes-clause-stops : goal.returns-in_err-join_nodes-clause-stops
+returns-in_err-join_nodes-clause-stops g c =
+    let pair = c.requires.pair in
+    stops-names-err Joined c.from_residual.result c.in_err-join_nodes.field-0.0
+    (ArentJoined c.join_nodes.new.land c.args.left c.args.right pair.a pair.b) c.args.land.now.blocks.draft.sizes
+    (g.D.Disk.size c.args.disk.now) c.from_residual.ensures.1
+    (λ rule address bad. misfit-merge pair.a pair.b rule address bad.broken)
+    (c.in_err-join_nodes.ensures.broken pair.a pair.b pair.left_here pair.right_here)
+
+pub returns-in_err-leave_node-in-Whole-clause-stops : goal.returns-in_err-leave_node-in-Whole-clause-stops
+returns-in_err-leave_node-in-Whole-clause-stops g c =
+    let residual = c.from_residual-in_err-leave_node-in-Whole in
+    let old = c.args.land.now in
+    let mid = c.join_nodes.new.land in
+    let are = c.join_nodes.ensures.rewritten in
+    let bytes = g.D.Disk.size c.args.disk.now in
+    let fault = c.in_err-leave_node-in-Whole.field-0.0 in
+    let sizes = (later-spares old mid c.args.left c.args.right c.requires.apart c.requires.pair are).sizes
+    ∙ (first-spares old mid c.args.left c.args.right c.requires.apart c.requires.pair are).sizes in
+    stops-err (Unit {0}) residual.result fault mid.blocks.draft.sizes old.blocks.draft.sizes bytes bytes
+    residual.ensures.1 sizes refl
+    (stops-read {A = Unit {0}} (Err fault) mid.blocks.draft.sizes bytes c.args.right
+    c.in_err-leave_node-in-Whole.ensures.broken)

@@ -14,6 +14,8 @@ use Rattle.qg_tree_edits.proofs.ToldOwned.{tells-owned}
 use Rattle.qg_ground.proofs.Owners.{IsOwnedBy-after, IsOwnedBy-draft, IsOwnedBy-owned}
 use Rattle.qg_tree_edits.proofs.Naming.{names-none, names-refused}
 use Rattle.qg_tree_edits.specs.Failing.{IsRefused}
+use Rattle.qg_descent.proofs.Stopping.{stops-visit}
+use Rattle.qg_blocks.proofs.Stopping.{stops-read, stops-same}
 use Rattle.qg_tree_edits.proofs.owning.own.Goals as goal
 
 pub visit-requires : goal.visit-requires
@@ -152,3 +154,20 @@ returns-clause-book g c =
           (g.met.B.Book.keeps c.args.book.now land mid c.args.disk.now c.visit.new.disk read.history refl
           (KeepsLevels-draft land mid read.draft) settled);
     }
+
+-- ---- over any disk
+
+pub returns-in_err-visit-clause-stops : goal.returns-in_err-visit-clause-stops
+returns-in_err-visit-clause-stops g c =
+    stops-visit c.from_residual.result c.in_err-visit.field-0.0 g.P.TreePart.tree c.args.tree.now
+    c.args.land.now.blocks.draft (g.D.Disk.size c.args.disk.now) c.args.way.now.expected c.args.way.now.address
+    c.from_residual.ensures.1 c.in_err-visit.ensures.stops
+
+pub returns-clause-stops : goal.returns-clause-stops
+returns-clause-stops g c =
+    let mid = c.visit.new.blocks.draft in
+    let read = c.visit.ensures.read in
+    let held = g.D.Disk.size c.visit.new.disk in
+    stops-same c.own_node.result mid.sizes c.args.land.now.blocks.draft.sizes held (g.D.Disk.size c.args.disk.now)
+    (ap (λ (d : Draft). d.sizes) read.draft) read.size
+    (stops-read c.own_node.result mid.sizes held c.args.way.now.address c.own_node.ensures.broken)

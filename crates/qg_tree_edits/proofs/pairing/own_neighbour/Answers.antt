@@ -17,6 +17,11 @@ use Rattle.qg_tree_edits.proofs.ToldBeside.{beside-judged, beside-taken, beside-
 use Rattle.qg_tree_edits.proofs.Naming.{names-other}
 use Rattle.qg_tree_edits.proofs.Unfit.{beside-child, misread-same}
 use Rattle.qg_tree_edits.specs.Failing.{IsRefused, LacksNeighbour}
+use Rattle.std.proofs.Common.{ap}
+use Rattle.qg_num.specs.declared.fault.BlockFault.{BlockFault}
+use Rattle.qg_num.specs.declared.rule.Rule.TheVariants.{Refs}
+use Rattle.qg_blocks.proofs.Stopping.{misfit-refs, stops-err, stops-misfit}
+use Rattle.qg_tree_edits.proofs.Stopped.{stops-lone}
 use Rattle.qg_tree_edits.proofs.pairing.own_neighbour.Goals as goal
 
 pub neighbour_of-requires-clause-inner : goal.neighbour_of-requires-clause-inner
@@ -151,3 +156,28 @@ returns-then-eq-clause-fails g c =
           (Err c.unfit-then-eq.result) c.in_ok-other.ensures.fails.cause.fine
           (λ is. let unfit = c.unfit-then-eq.ensures in cc);
     }
+
+-- ---- over any disk
+
+pub returns-in_default-clause-stops : goal.returns-in_default-clause-stops
+returns-in_default-clause-stops g c =
+    let land = c.args.land.now in
+    let at = c.args.at in
+    let fresh = c.requires.place.fresh in
+    let same = fresh-held land.blocks at fresh.node c.peek.result.now fresh.here c.peek.ensures in
+    let lone : length (own_pointers fresh.node) ≡ 1 =
+    subst (λ (n : Node). length (own_pointers n) ≡ 1) same c.in_default.ensures in
+    stops-lone {A = Pair} (Err c.unfit.result) land c.args.tree.now.next at fresh.node (g.D.Disk.size c.args.disk.now)
+    c.requires.editable.drafted fresh.here lone (ap (λ (f : BlockFault). Err f) c.unfit.ensures)
+
+pub returns-in_err-other-clause-stops : goal.returns-in_err-other-clause-stops
+returns-in_err-other-clause-stops g c =
+    let sizes = c.args.land.now.blocks.draft.sizes in
+    let bytes = g.D.Disk.size c.args.disk.now in
+    stops-err ℕ c.from_residual.result c.in_err-other.field-0.0 sizes sizes bytes bytes c.from_residual.ensures.1 refl
+    refl c.in_err-other.ensures.stops
+
+pub returns-then-eq-clause-stops : goal.returns-then-eq-clause-stops
+returns-then-eq-clause-stops g c =
+    stops-misfit {A = Pair} (Err c.unfit-then-eq.result) Refs c.args.at c.args.land.now.blocks.draft.sizes
+    (g.D.Disk.size c.args.disk.now) misfit-refs (ap (λ (f : BlockFault). Err f) c.unfit-then-eq.ensures)

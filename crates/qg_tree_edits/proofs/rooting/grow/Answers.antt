@@ -1,4 +1,4 @@
-use Rattle.std.proofs.Common.{◌≡◌, ◌+◌, ℕ, [], ◌∷◌, add-one, refl, sym, ap, subst, ◌∙◌, inl, Err, arith}
+use Rattle.std.proofs.Common.{◌≡◌, ◌+◌, ℕ, [], ◌∷◌, add-one, refl, sym, ap, subst, ◌∙◌, inl, inr, Err, arith}
 use Rattle.std.proofs.lemmas.Result.{err_from_is_err_and}
 use Rattle.qg_node.specs.declared.node.Node.{Node}
 use Rattle.qg_node.specs.Nodes.{header_of}
@@ -21,6 +21,10 @@ use Rattle.qg_device.proofs.Causes.{cause-handed, cause-none, cause-other}
 use Rattle.qg_tree_edits.specs.Rooting.{StaysTree}
 use Rattle.qg_tree_edits.proofs.Unfit.{cant-grow}
 use Rattle.qg_tree_edits.specs.Failing.{CantGrow}
+use Rattle.qg_num.specs.declared.rule.Rule.{Rule}
+use Rattle.qg_blocks.specs.Stopping.{IsMisfit}
+use Rattle.qg_blocks.proofs.Stopping.{misfit-refs, stops-err, stops-none}
+use Rattle.qg_tree_edits.proofs.Stopped.{stops-names-err}
 use Rattle.qg_tree_edits.proofs.rooting.grow.Goals as goal
 
 pub make_node-requires-clause-ready : goal.make_node-requires-clause-ready
@@ -159,3 +163,23 @@ returns-in_err-root-clause-fails g c =
       cause = cause-handed ℕ (Unit {0}) old old (g.D.Disk.faults c.make_node.new.disk) fault (omega arith)
           c.in_err-root.ensures.fails.cause;
     })
+
+-- ---- over any disk
+
+pub returns-then-height-ge-HIGHEST-clause-stops : goal.returns-then-height-ge-HIGHEST-clause-stops
+returns-then-height-ge-HIGHEST-clause-stops g c = inr (inr (inr misfit-refs))
+
+pub returns-in_err-node-clause-stops : goal.returns-in_err-node-clause-stops
+returns-in_err-node-clause-stops g c =
+    stops-names-err Node c.from_residual.result c.in_err-node.field-0.0 _ c.args.land.now.blocks.draft.sizes
+    (g.D.Disk.size c.args.disk.now) c.from_residual.ensures.1
+    (λ rule address bad. subst (λ (r : Rule). IsMisfit r) (sym bad.0) misfit-refs) c.in_err-node.ensures.broken
+
+pub returns-in_err-root-clause-stops : goal.returns-in_err-root-clause-stops
+returns-in_err-root-clause-stops g c =
+    let residual = c.from_residual-in_err-root in
+    let sizes = c.args.land.now.blocks.draft.sizes in
+    let bytes = g.D.Disk.size c.args.disk.now in
+    let fault = c.in_err-root.field-0.0 in
+    stops-err ℕ residual.result fault sizes sizes bytes bytes residual.ensures.1 refl refl
+    (stops-none {A = ℕ} (Err fault) sizes bytes c.in_err-root.ensures.unbroken)

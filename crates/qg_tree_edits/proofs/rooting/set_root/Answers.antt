@@ -67,3 +67,11 @@ returns-in-None-clause-fails g c =
           (fails.sound events told_is);
       cause = fails.cause;
     }
+
+-- ---- over any disk
+
+pub returns-in-Some-clause-stops : goal.returns-in-Some-clause-stops
+returns-in-Some-clause-stops g c = c.grow.ensures.stops
+
+pub returns-in-None-clause-stops : goal.returns-in-None-clause-stops
+returns-in-None-clause-stops g c = c.shrink.ensures.stops

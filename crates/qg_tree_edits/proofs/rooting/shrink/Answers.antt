@@ -22,6 +22,8 @@ use Rattle.qg_device.proofs.Causes.{cause-handed}
 use Rattle.qg_tree_edits.proofs.United.{fresh-unbroken}
 use Rattle.qg_ground.proofs.Owners.{IsOwnedBy-after, IsOwnedBy-draft, IsOwnedBy-left}
 use Rattle.qg_tree_edits.proofs.Owners.{rewritten-owners}
+use Rattle.std.specs.Prelude.{Err}
+use Rattle.qg_blocks.proofs.Stopping.{stops-err, stops-read}
 use Rattle.qg_tree_edits.proofs.rooting.shrink.Goals as goal
 
 pub clear_at-requires-clause-size : goal.clear_at-requires-clause-size
@@ -180,9 +182,9 @@ returns-in_err-leave_node-in-Some-clause-fails g c =
     rw (p.1, p.2) (record {
       sound = λ events is. fresh-unbroken (Unit {0}) (Unit {0}) fault c.clear_at.new.land.blocks.draft (content events)
           c.args.now (cleared fresh.node) (c.clear_at.ensures.here fresh.node fresh.here)
-          (c.in_err-leave_node-in-Some.ensures.answers events is);
+          (c.in_err-leave_node-in-Some.ensures.fails.answers events is);
       cause = cause-handed (Unit {0}) (Unit {0}) old old (g.D.Disk.faults c.leave_node.new.disk) fault (omega arith)
-          c.in_err-leave_node-in-Some.ensures.cause;
+          c.in_err-leave_node-in-Some.ensures.fails.cause;
     })
 
 pub returns-in_err-leave_node-in-Some-clause-rests : goal.returns-in_err-leave_node-in-Some-clause-rests
@@ -226,3 +228,24 @@ returns-in_ok-leave_node-in-Some-clause-book g c =
           (c.clear_at.ensures.cleared fresh.node fresh.here) (c.clear_at.ensures.here fresh.node fresh.here)
           (c.requires.editable.drafted.each c.args.now fresh.node fresh.here).kept.placed) settled;
     }
+
+-- ---- over any disk
+
+pub returns-in_err-leave_node-in-Some-clause-stops : goal.returns-in_err-leave_node-in-Some-clause-stops
+returns-in_err-leave_node-in-Some-clause-stops g c =
+    let old = c.args.land.now in
+    let mid = c.clear_at.new.land in
+    let bytes = g.D.Disk.size c.args.disk.now in
+    let fault = c.in_err-leave_node-in-Some.field-0.0 in
+    let fresh = c.requires.fresh in
+    let rewritten = c.clear_at.ensures.cleared fresh.node fresh.here in
+    let sizes = (rewritten-spares old mid c.args.now c.args.tree.now.next fresh.node fresh.here rewritten).sizes in
+    stops-err (Unit {0}) c.from_residual.result fault mid.blocks.draft.sizes old.blocks.draft.sizes bytes bytes
+    c.from_residual.ensures.1 sizes refl
+    (stops-read {A = Unit {0}} (Err fault) mid.blocks.draft.sizes bytes c.args.now
+    c.in_err-leave_node-in-Some.ensures.broken)
+
+pub returns-in_ok-leave_node-in-Some-clause-fails : goal.returns-in_ok-leave_node-in-Some-clause-fails
+returns-in_ok-leave_node-in-Some-clause-fails g c =
+    let cause = c.in_ok-leave_node-in-Some.ensures.fails.cause in
+    record { sound = λ events is. tt; cause = record { fine = cause.fine; met = tt } }

@@ -32,6 +32,11 @@ use Rattle.qg_tree_edits.proofs.Unfit.{misled-then, paired-one, paired-over}
 use Rattle.qg_tree_edits.specs.Failing.{ArentJoined, CantSettle, IsMisled, LacksNeighbour, NamesOnly}
 use Rattle.qg_tree_edits.proofs.Rewritten.{same_node}
 use Rattle.qg_blocks.specs.Told.{fresh_at}
+use Rattle.std.proofs.Common.{sym}
+use Rattle.qg_num.specs.declared.rule.Rule.{Rule}
+use Rattle.qg_blocks.specs.Stopping.{IsMisfit}
+use Rattle.qg_blocks.proofs.Stopping.{misfit-refs, stops-err}
+use Rattle.qg_tree_edits.proofs.Stopped.{stops-err-after, stops-names}
 use Rattle.qg_tree_edits.proofs.settling.join_child.Goals as goal
 
 pub unite-requires-clause-apart : goal.unite-requires-clause-apart
@@ -442,3 +447,43 @@ returns-clause-book g c =
           (c.in_ok-pair.ensures.book.settled settled)))
           (c.lead_to.ensures.rest node here);
     }
+
+-- ---- over any disk
+
+pub returns-in_err-pair-clause-stops : goal.returns-in_err-pair-clause-stops
+returns-in_err-pair-clause-stops g c =
+    let sizes = c.args.land.now.blocks.draft.sizes in
+    let bytes = g.D.Disk.size c.args.disk.now in
+    stops-err Pair c.from_residual.result c.in_err-pair.field-0.0 sizes sizes bytes bytes c.from_residual.ensures.1 refl
+    refl c.in_err-pair.ensures.stops
+
+pub returns-in_err-instead-clause-stops : goal.returns-in_err-instead-clause-stops
+returns-in_err-instead-clause-stops g c =
+    let residual = c.from_residual-in_err-instead in
+    stops-err-after Instead residual.result c.in_err-instead.field-0.0 residual.ensures.1 c.own_neighbour.ensures.rests
+    c.in_err-instead.ensures.stops
+
+pub returns-clause-stops : goal.returns-clause-stops
+returns-clause-stops g c =
+    let tree = g.P.TreePart.tree in
+    let root = c.args.tree.now in
+    let land = c.args.land.now in
+    let mid = c.own_neighbour.new.land in
+    let both = c.unite.new.land in
+    let history = g.D.Disk.history c.args.disk.now in
+    let later = g.D.Disk.history c.own_neighbour.new.disk in
+    let last = g.D.Disk.history c.unite.new.disk in
+    let mine = c.requires.place.fresh.node in
+    let high = c.requires.place.fresh.levelled in
+    let pair = c.in_ok-pair.pair in
+    let instead = c.in_ok-instead.instead in
+    let rests = c.own_neighbour.ensures.rests.rests in
+    let after = (c.unite.ensures.drafted root.next rests.drafted).rests in
+    let paired = c.in_ok-pair.ensures.paired.is mine c.requires.place.fresh.here in
+    let there = rejoined-above tree root land mid both history later last (own_pointers mine) c.args.to c.args.level
+    c.args.place c.args.child pair instead paired rests c.requires.child.fresh c.requires.child.thin
+    c.in_ok-instead.ensures.united after c.args.at mine c.requires.place.fresh.here (omega (arith, high)) in
+    stops-names c.lead_to.result (IsMisled both mine pair.front (pair.front + 2) instead) land.blocks.draft.sizes
+    (g.D.Disk.size c.args.disk.now)
+    (λ rule address bad. subst (λ (r : Rule). IsMisfit r) (sym bad.refs) misfit-refs)
+    (c.lead_to.ensures.fails.broken mine there)

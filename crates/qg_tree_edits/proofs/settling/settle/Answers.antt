@@ -24,6 +24,10 @@ use Rattle.qg_tree_edits.specs.Failing.{CantSettle, IsMisled, NamesOnly}
 use Rattle.qg_tree_edits.proofs.Rewritten.{same_node}
 use Rattle.qg_blocks.specs.Told.{fresh_at}
 use Rattle.qg_node.specs.declared.node.Node.{Node}
+use Rattle.qg_num.specs.declared.rule.Rule.{Rule}
+use Rattle.qg_blocks.specs.Stopping.{IsMisfit}
+use Rattle.qg_blocks.proofs.Stopping.{misfit-refs}
+use Rattle.qg_tree_edits.proofs.Stopped.{stops-names}
 use Rattle.qg_tree_edits.proofs.settling.settle.Goals as goal
 
 pub is_too_thin-requires-clause-size : goal.is_too_thin-requires-clause-size
@@ -244,3 +248,17 @@ returns-clause-book g c =
           (rewritten-levels land new at node here rewritten cut.stays) stood)
           (c.lead_to.ensures.rest node here);
     }
+
+-- ---- over any disk
+
+pub returns-then-is_too_thin-clause-stops : goal.returns-then-is_too_thin-clause-stops
+returns-then-is_too_thin-clause-stops g c = c.join_child.ensures.stops
+
+pub returns-clause-stops : goal.returns-clause-stops
+returns-clause-stops g c =
+    let land = c.args.land.now in
+    let parent = c.requires.place.fresh in
+    stops-names c.lead_to.result (IsMisled land parent.node c.args.place (c.args.place + 1) c.args.child)
+    land.blocks.draft.sizes (g.D.Disk.size c.args.disk.now)
+    (λ rule address bad. subst (λ (r : Rule). IsMisfit r) (sym bad.refs) misfit-refs)
+    (c.lead_to.ensures.fails.broken parent.node parent.here)

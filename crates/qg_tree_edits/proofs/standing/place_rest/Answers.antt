@@ -8,6 +8,9 @@ use Rattle.qg_ground.specs.Land.{IsDrafted}
 use Rattle.qg_tree_edits.specs.Editing.{with_owner}
 use Rattle.qg_tree_edits.proofs.Placed.{Moves-made, StandsInstead-made}
 use Rattle.qg_tree_edits.proofs.PlacedBehind.{IsNode-with_owner, with_owner-generation, with_owner-level}
+use Rattle.std.proofs.lemmas.Result.{err_from_is_err_and}
+use Rattle.qg_tree_edits.specs.declared.instead.Instead.{Instead}
+use Rattle.qg_tree_edits.proofs.Rejoined.{unbroken-other}
 use Rattle.qg_tree_edits.proofs.standing.place_rest.Goals as goal
 
 -- ---- what was cut off may be written, whoever owns it
@@ -83,3 +86,8 @@ returns-in_ok-more-in-Some-clause-rests g c =
 
 pub returns-in_ok-more-in-Some-clause-reads : goal.returns-in_ok-more-in-Some-clause-reads
 returns-in_ok-more-in-Some-clause-reads g c most all = c.make_node.ensures.reads most (λ q. all c.args.book.now q)
+
+pub returns-in_err-more-in-Some-clause-unbroken : goal.returns-in_err-more-in-Some-clause-unbroken
+returns-in_err-more-in-Some-clause-unbroken g c =
+    let p = err_from_is_err_and c.from_residual.result c.from_residual.ensures.1 in
+    rw (p.1, p.2) (unbroken-other ℕ Instead c.in_err-more-in-Some.field-0.0 c.in_err-more-in-Some.ensures.unbroken)

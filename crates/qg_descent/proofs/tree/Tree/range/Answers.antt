@@ -1,9 +1,11 @@
-use Rattle.std.proofs.Common.{◌+◌, ◌++◌, List, length, arith, sym, ap}
+use Rattle.std.proofs.Common.{◌+◌, ◌++◌, List, length, arith, sym, ap, Option}
+use Rattle.qg_num.specs.declared.key.Key.{Key}
 use Rattle.qg_node.specs.declared.item.Item.{Item}
 use Rattle.qg_descent.specs.Reading.{items_within}
 use Rattle.qg_descent.proofs.Ranges.{gathered-begun, gathered-part, gathered-spent, spent-last, within_some}
 use Rattle.qg_descent.proofs.Reached.{tells-read}
 use Rattle.qg_descent.proofs.Visits.{HasRead-after}
+use Rattle.qg_descent.proofs.Stopping.{on_way-err}
 use Rattle.qg_descent.proofs.tree.Tree.range.Goals as goal
 
 pub leaves-init : goal.leaves-init
@@ -35,6 +37,14 @@ returns-in_err-next-2-clause-reads g c items tells =
     spent-last (c.args.self.now.height + 1) (length (items_within first to items)) c.leaves.reads
     c.gather-in-Some.new.reads _ steps
     (omega (arith, c.in_err-next-2.ensures.reads)) (within_some first to items upto there)
+
+pub returns-in_err-next-2-clause-stops : goal.returns-in_err-next-2-clause-stops
+returns-in_err-next-2-clause-stops g c =
+    let residual = c.from_residual-in_err-next-2 in
+    on_way-err (Option Key) residual.result g.P.TreePart.tree c.args.self.now c.args.blocks.now.draft
+    c.leaves.blocks.draft (g.D.Disk.size c.args.disk.now) (g.D.Disk.size c.leaves.disk)
+    c.in_err-next-2.field-0.0 residual.ensures.1 c.leaves.invariant.read.draft c.leaves.invariant.read.size
+    c.in_err-next-2.ensures.stops
 
 pub leaves-preserved : goal.leaves-preserved
 leaves-preserved g c =

@@ -9,15 +9,17 @@ use Rattle.qg_walk.proofs.Failures.{IsFormed-form}
 use Rattle.qg_blocks.specs.Told.{told}
 use Rattle.qg_descent.specs.declared.way.Way.{Way}
 use Rattle.qg_descent.specs.Tree.{super_of}
+use Rattle.qg_descent.specs.Stopping.{MayComeTo}
 use Rattle.qg_descent.specs.Way.{ComesTo, IsVisited, LeadsFor}
 use Rattle.qg_descent.proofs.Under.{level-told}
 use Rattle.qg_descent.proofs.Leads.{leads-past, on_way-root}
 use Rattle.qg_descent.proofs.Visits.{HasRead-after, visited-inner}
 use Rattle.qg_descent.proofs.Reached.{comes-step, fails-on_way, leads-on, reached, told-on_way, visited-step}
+use Rattle.qg_descent.proofs.Stopping.{may-come-step, stops-on_way}
 use Rattle.qg_descent.proofs.tree.Tree.reach.Goals as goal
 
 pub down-init : goal.down-init
-unfolding ComesTo
+unfolding ComesTo MayComeTo
 down-init g c =
     let root = c.args.self.now in
     let draft = c.args.blocks.now.draft in
@@ -32,6 +34,7 @@ down-init g c =
       levelled = ap (λ (e : Expected). e.level) c.way-way.ensures.expected ∙ ap Some (sym c.height-level.ensures);
       past = rw c.way-way.ensures.expected refl;
       comes = λ events is. rw none (c.way-way.ensures.expected, c.way-way.ensures.address);
+      led = rw none (c.way-way.ensures.expected, c.way-way.ensures.address);
       on = λ whole tells. rw (c.way-way.ensures.expected, c.way-way.ensures.address, c.height-level.ensures)
           (on_way-root g.P.TreePart.tree (super_of root draft) (told draft history) c.args.key root.height root.address
           whole tells);
@@ -55,6 +58,16 @@ returns-in_err-visit-clause-broken g c events is =
     (c.args.self.now.height - c.down.level) c.down.way.expected c.down.way.address
     c.in_err-visit.field-0.0 c.down.invariant.read.draft (c.down.invariant.comes events is)
     (c.in_err-visit.ensures.broken events (c.down.invariant.read.history ∙ is)))
+
+pub returns-in_err-visit-clause-stops : goal.returns-in_err-visit-clause-stops
+returns-in_err-visit-clause-stops g c =
+    let residual = c.from_residual in
+    let p = err_from_is_err_and residual.result residual.ensures.1 in
+    rw (p.1, p.2)
+    (stops-on_way (Unit {0}) Way g.P.TreePart.tree c.args.self.now c.args.blocks.now.draft c.down.blocks.draft
+    (g.D.Disk.size c.args.disk.now) (g.D.Disk.size c.down.disk) (c.args.self.now.height - c.down.level)
+    c.down.way.expected c.down.way.address c.in_err-visit.field-0.0 c.down.invariant.read.draft
+    c.down.invariant.read.size c.down.invariant.led c.in_err-visit.ensures.stops)
 
 pub next_way-way-requires-clause-some : goal.next_way-way-requires-clause-some
 next_way-way-requires-clause-some g c =
@@ -104,6 +117,11 @@ down-preserved g c =
           way.expected c.next_way-way.result.expected way.address c.next_way-way.result.address visited.node more
           (c.down.invariant.comes events is) there visited.formed
           (leads-on visited.node way.expected (c.down.level - 1) c.args.key c.next_way-way.result low leads);
+      led = may-come-step tree (super_of root draft) (root_expected (Some root.height) None) root.address
+          (root.height - c.down.level) (root.height - (c.down.level - 1))
+          way.expected c.next_way-way.result.expected way.address c.next_way-way.result.address visited.node more
+          c.down.invariant.led visited.kept visited.formed
+          (leads-on visited.node way.expected (c.down.level - 1) c.args.key c.next_way-way.result low leads);
       on = λ whole tells. visited-step tree (super_of root draft) draft history c.visit.new.blocks c.args.key
           c.down.level (c.down.level - 1) whole way c.next_way-way.result next visited leads
           (c.down.invariant.on whole tells);
@@ -127,6 +145,16 @@ returns-in_err-visit-2-clause-broken g c events is =
     (c.args.self.now.height - c.down.level) c.down.way.expected c.down.way.address
     c.in_err-visit-2.field-0.0 c.down.invariant.read.draft (c.down.invariant.comes events is)
     (c.in_err-visit-2.ensures.broken events (c.down.invariant.read.history ∙ is)))
+
+pub returns-in_err-visit-2-clause-stops : goal.returns-in_err-visit-2-clause-stops
+returns-in_err-visit-2-clause-stops g c =
+    let residual = c.from_residual-in_err-visit-2 in
+    let p = err_from_is_err_and residual.result residual.ensures.1 in
+    rw (p.1, p.2)
+    (stops-on_way (Unit {0}) Way g.P.TreePart.tree c.args.self.now c.args.blocks.now.draft c.down.blocks.draft
+    (g.D.Disk.size c.args.disk.now) (g.D.Disk.size c.down.disk) (c.args.self.now.height - c.down.level)
+    c.down.way.expected c.down.way.address c.in_err-visit-2.field-0.0 c.down.invariant.read.draft
+    c.down.invariant.read.size c.down.invariant.led c.in_err-visit-2.ensures.stops)
 
 pub returns-clause-reached : goal.returns-clause-reached
 returns-clause-reached g c =

@@ -5,6 +5,7 @@ use Rattle.qg_blocks.specs.Walk.{root_expected}
 use Rattle.qg_walk.specs.Added.{is_to}
 use Rattle.qg_blocks.specs.Told.{told}
 use Rattle.qg_descent.specs.Tree.{TellsTree, super_of}
+use Rattle.qg_descent.specs.Stopping.{MayComeTo}
 use Rattle.qg_descent.specs.Way.{ComesTo, HasRead, IsReadable}
 use Rattle.qg_descent.proofs.Leads.{IsOnWay}
 use Rattle.qg_descent.proofs.tree.Tree.reach.Given as goal
@@ -23,6 +24,8 @@ invariant-down g l = record {
       → ComesTo g.P.TreePart.tree (super_of l.fn.self l.fn.blocks.draft) (told l.fn.blocks.draft (Recorded events))
       (root_expected (Some l.fn.self.height) None) l.fn.self.address
       (l.fn.self.height - l.level) l.way.expected l.way.address;
+  led : MayComeTo g.P.TreePart.tree (super_of l.fn.self l.fn.blocks.draft) (root_expected (Some l.fn.self.height) None)
+      l.fn.self.address (l.fn.self.height - l.level) l.way.expected l.way.address;
   on : (whole : List Item) → TellsTree g.P.TreePart.tree l.fn.self l.fn.blocks.draft (g.D.Disk.history l.fn.disk) whole
       → IsOnWay g.P.TreePart.tree (super_of l.fn.self l.fn.blocks.draft)
       (told l.fn.blocks.draft (g.D.Disk.history l.fn.disk)) l.fn.key l.level l.way.expected l.way.address whole;

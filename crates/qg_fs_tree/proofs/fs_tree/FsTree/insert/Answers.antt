@@ -5,7 +5,10 @@ use Rattle.qg_refs.specs.declared.kept.Kept.{Kept}
 use Rattle.qg_extents.specs.Table.{IsTable}
 use Rattle.qg_tree_refs.proofs.Stepping.{Follows-none}
 use Rattle.qg_fs_tree.specs.declared.fs_tree.FsTree.{FsTree}
-use Rattle.qg_fs_tree.proofs.Called.{IsEditedTo-called, fits-called, fitting-sound}
+use Rattle.qg_fs_tree.proofs.Called.{IsEditedTo-called, fits-called, fitting-sound, fitting-stops}
+use Rattle.std.specs.Prelude.{Err}
+use Rattle.qg_num.specs.declared.rule.Rule.TheVariants.{Refs}
+use Rattle.qg_blocks.proofs.Stopping.{misfit-refs, stops-at, stops-err}
 use Rattle.qg_fs_tree.proofs.fs_tree.FsTree.insert.Goals as goal
 
 pub returns-in_err-insert-clause-reads : goal.returns-in_err-insert-clause-reads
@@ -59,3 +62,27 @@ returns-clause-sound g c events is items names stands there room =
     told.1
     in
     fitting-sound new.refs.misfit c.fitting.result c.fitting.ensures fits
+
+-- ---- over any disk
+
+pub returns-in_err-roomy-clause-stops : goal.returns-in_err-roomy-clause-stops
+returns-in_err-roomy-clause-stops g c =
+    let sizes = c.args.self.now.land.blocks.draft.sizes in
+    let bytes = g.D.Disk.size c.args.disk.now in
+    let fault = c.in_err-roomy.field-0.0 in
+    stops-err (Unit {0}) c.from_residual.result fault sizes sizes bytes bytes c.from_residual.ensures.1 refl refl
+    (stops-at {A = Unit {0}} (Err fault) Refs c.args.self.now.tree.address sizes bytes misfit-refs
+    c.in_err-roomy.ensures.only)
+
+pub returns-in_err-insert-clause-stops : goal.returns-in_err-insert-clause-stops
+returns-in_err-insert-clause-stops g c =
+    let residual = c.from_residual-in_err-insert in
+    let sizes = c.args.self.now.land.blocks.draft.sizes in
+    let bytes = g.D.Disk.size c.args.disk.now in
+    stops-err (Unit {0}) residual.result c.in_err-insert.field-0.0 sizes sizes bytes bytes residual.ensures.1 refl refl
+    c.in_err-insert.ensures.stops
+
+pub returns-clause-stops : goal.returns-clause-stops
+returns-clause-stops g c =
+    fitting-stops c.insert.new.book.misfit c.fitting.result c.args.self.now.land.blocks.draft.sizes
+    (g.D.Disk.size c.args.disk.now) c.fitting.ensures

@@ -8,7 +8,7 @@ use Rattle.qg_machine.specs.GroupChange.{quota_for}
 use Rattle.qg_groups.proofs.state.QuotaState.of_subvolumes.Goals as goal
 
 pub new-requires-2 : goal.new-requires-2
-new-requires-2 c =
+new-requires-2 g c =
     let made : Quota = quota_for c.args.stamp (keys_of c.args.subs.now) in
     let given : Quota = record { groups = c.in_ok-groups.groups; pairs = c.new.result } in
     record {

@@ -13,6 +13,7 @@ use Rattle.qg_blocks.specs.Told.{BreaksNone, IfBroken}
 use Rattle.qg_kept_commit.specs.Answering.{comes_to_disk}
 use Rattle.qg_kept_commit.specs.Keeping.{IsKeptOf}
 use Rattle.qg_kept_commit.specs.Stored.{ComesToDisk, IsIntact, IsStoreOf, Stored, is_of_image}
+use Rattle.qg_store.proofs.Counted.{steps-done, steps-stopped}
 use Rattle.qg_store.proofs.Outlived.{outlives}
 use Rattle.qg_store.proofs.store.Store.apply.Goals as goal
 
@@ -100,3 +101,19 @@ returns-in-Err-clause-intact g c = λ is.
     subst (λ (s : Stored). IsIntact c.args.command.now s.kept c.answer.new.kept (g.D.Disk.history c.args.disk.now)
     (g.D.Disk.history c.answer.new.disk)) c.self.view_is
     (of-image c.in-Err.fault _ c.in-Err.ensures.intact (ap is_of_image (sym c.stop_of-stop.ensures) ∙ is))
+
+-- ---- the steps that were taken
+
+pub returns-in-Some-clause-counts : goal.returns-in-Some-clause-counts
+returns-in-Some-clause-counts g c =
+    steps-stopped c.args.command.now _ c.args.self.now _ _ _ c.args.looks.now c.args.reads.now c.args.reads.now
+
+pub returns-in-Ok-clause-counts : goal.returns-in-Ok-clause-counts
+returns-in-Ok-clause-counts g c =
+    steps-done c.args.command.now _ c.args.self.now _ _ _ _ c.args.looks.now c.args.reads.now c.answer.new.reads
+    (λ state store. kept-in _ c.args.self.now state (g.D.Disk.history c.args.disk.now) c.self.view_is store)
+    c.in-Ok.ensures.reads
+
+pub returns-in-Err-clause-counts : goal.returns-in-Err-clause-counts
+returns-in-Err-clause-counts g c =
+    steps-stopped c.args.command.now _ c.args.self.now _ _ _ c.args.looks.now c.args.reads.now c.answer.new.reads
