@@ -6,6 +6,7 @@ ghost use Rattle.qg_num.specs.declared.command.Command.TheVariants.{Clone};
 ghost use Rattle.qg_image.specs.FilesOf.{inodes_end, least_inode};
 ghost use Rattle.qg_image.specs.Table.{value_at};
 ghost use Rattle.qg_image.specs.State.{State, Subvolume};
+ghost use Rattle.qg_blocks.specs.Stopping.{StopsForCause};
 ghost use Rattle.qg_blocks.specs.Told.{BreaksNone};
 ghost use Rattle.qg_file_items.specs.Pieces.{pieces_met};
 ghost use Rattle.qg_kept.specs.Files.{pieces_of};
@@ -55,6 +56,7 @@ pub fn clone<D: Disk, L: Ledger>(
         (Clone sub ino off len to_sub to_ino to_off) answer reads.old reads.new) }
     ensures superblock { kept.new.superblock ≡ kept.old.superblock }
     ensures apart { (D.history disk.new ≡ D.history disk.old) × (D.size disk.new ≡ D.size disk.old) }
+    ensures stops { StopsForCause result kept.old.fs.land.blocks.draft.sizes (D.size disk.old) }
     ensures cause { HasCause BlockFault.Disk (D.faults disk.old) (D.faults disk.new) result }
 {
     if !turn_to(kept, to_sub) {
@@ -127,6 +129,7 @@ fn clone_pieces<D: Disk, L: Ledger>(
         → IfOk result (λ answer. IsTrue (is_accepted answer) → reads.new ≤ reads.old + 53 * (change.pieces + 3)) }
     ensures superblock { kept.new.superblock ≡ kept.old.superblock }
     ensures apart { (D.history disk.new ≡ D.history disk.old) × (D.size disk.new ≡ D.size disk.old) }
+    ensures stops { StopsForCause result kept.old.fs.land.blocks.draft.sizes (D.size disk.old) }
     ensures cause { HasCause BlockFault.Disk (D.faults disk.old) (D.faults disk.new) result }
 {
     if !turn_to(kept, to_sub) {

@@ -6,6 +6,7 @@ ghost use Rattle.qg_image.specs.declared.file.File.{File as FileValue};
 ghost use Rattle.qg_image.specs.Table.{value_at};
 ghost use Rattle.qg_machine.specs.FileChange.{pieces_meeting};
 ghost use Rattle.qg_contents.specs.Written.{inode_of};
+ghost use Rattle.qg_blocks.specs.Stopping.{StopsForCause};
 ghost use Rattle.qg_blocks.specs.Told.{BreaksNone};
 ghost use Rattle.qg_files.specs.Apart.{AreApart};
 ghost use Rattle.qg_file_items.specs.Pieces.{pieces_met};
@@ -39,6 +40,7 @@ pub(crate) fn inode_in<D: Disk, L: Ledger>(
     ensures kept { IsKept kept.new (D.history disk.new) (D.size disk.new) }
     ensures looked { HasReadNodes kept.old kept.new (D.history disk.old) (D.history disk.new) (D.size disk.old)
         (D.size disk.new) }
+    ensures stops { StopsForCause result kept.old.fs.land.blocks.draft.sizes (D.size disk.old) }
     ensures cause { HasCause BlockFault.Disk (D.faults disk.old) (D.faults disk.new) result }
 {
     inode_of(
@@ -72,6 +74,7 @@ pub(crate) fn pieces_in<D: Disk, L: Ledger>(
     ensures kept { IsKept kept.new (D.history disk.new) (D.size disk.new) }
     ensures looked { HasReadNodes kept.old kept.new (D.history disk.old) (D.history disk.new) (D.size disk.old)
         (D.size disk.new) }
+    ensures stops { StopsForCause result kept.old.fs.land.blocks.draft.sizes (D.size disk.old) }
     ensures cause { HasCause BlockFault.Disk (D.faults disk.old) (D.faults disk.new) result }
 {
     pieces_meeting(
@@ -107,6 +110,7 @@ pub(crate) fn found_in<D: Disk, L: Ledger>(
     ensures kept { IsKept kept.new (D.history disk.new) (D.size disk.new) }
     ensures looked { HasReadNodes kept.old kept.new (D.history disk.old) (D.history disk.new) (D.size disk.old)
         (D.size disk.new) }
+    ensures stops { StopsForCause result kept.old.fs.land.blocks.draft.sizes (D.size disk.old) }
     ensures cause { HasCause BlockFault.Disk (D.faults disk.old) (D.faults disk.new) result }
 {
     let inode = inode_in(kept, disk, ino, reads)?;

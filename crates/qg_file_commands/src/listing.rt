@@ -4,6 +4,7 @@ ghost use Rattle.qg_device.specs.Cause.{HasCause};
 ghost use Rattle.qg_device.specs.History.{Event, Recorded};
 ghost use Rattle.qg_num.specs.declared.command.Command.TheVariants.{Ls};
 ghost use Rattle.qg_image.specs.State.{State};
+ghost use Rattle.qg_blocks.specs.Stopping.{StopsForCause};
 ghost use Rattle.qg_blocks.specs.Told.{BreaksNone};
 ghost use Rattle.qg_kept.specs.Answering.{Answered};
 ghost use Rattle.qg_kept.specs.Editing.{HasLooked};
@@ -31,6 +32,7 @@ pub fn list<D: Disk, L: Ledger>(
         → IsKeptOf kept.old state (D.history disk.old) → BreaksNone result }
     ensures looked { HasLooked kept.old kept.new (D.history disk.old) (D.history disk.new) (D.size disk.old)
         (D.size disk.new) }
+    ensures stops { StopsForCause result kept.old.fs.land.blocks.draft.sizes (D.size disk.old) }
     ensures cause { HasCause BlockFault.Disk (D.faults disk.old) (D.faults disk.new) result }
 {
     if !turn_to(kept, sub) {

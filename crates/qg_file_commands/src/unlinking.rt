@@ -4,6 +4,7 @@ ghost use Rattle.qg_device.specs.Cause.{HasCause};
 ghost use Rattle.qg_device.specs.History.{Event, Recorded};
 ghost use Rattle.qg_num.specs.declared.command.Command.TheVariants.{Unlink};
 ghost use Rattle.qg_image.specs.State.{State};
+ghost use Rattle.qg_blocks.specs.Stopping.{StopsForCause};
 ghost use Rattle.qg_blocks.specs.Told.{BreaksNone};
 ghost use Rattle.qg_kept.specs.Answering.{Answered, is_unchanging};
 ghost use Rattle.qg_kept.specs.Keeping.{IsKept, IsKeptOf, SameButClean};
@@ -36,6 +37,7 @@ pub fn unlink<D: Disk, L: Ledger>(
         (λ answer. AsksForFew kept.old (D.history disk.old) (Unlink sub ino) answer reads.old reads.new) }
     ensures superblock { kept.new.superblock ≡ kept.old.superblock }
     ensures apart { (D.history disk.new ≡ D.history disk.old) × (D.size disk.new ≡ D.size disk.old) }
+    ensures stops { StopsForCause result kept.old.fs.land.blocks.draft.sizes (D.size disk.old) }
     ensures cause { HasCause BlockFault.Disk (D.faults disk.old) (D.faults disk.new) result }
 {
     if !turn_to(kept, sub) {

@@ -6,6 +6,7 @@ ghost use Rattle.qg_num.specs.declared.command.Command.TheVariants.{Write};
 ghost use Rattle.qg_image.specs.FilesOf.{inodes_end, is_aligned, least_inode};
 ghost use Rattle.qg_image.specs.Space.{first_run};
 ghost use Rattle.qg_image.specs.State.{State};
+ghost use Rattle.qg_blocks.specs.Stopping.{StopsForCause};
 ghost use Rattle.qg_blocks.specs.Told.{BreaksNone};
 ghost use Rattle.qg_space.specs.Holding.{is_free_run};
 ghost use Rattle.qg_kept.specs.Answering.{Answered, is_unchanging};
@@ -45,6 +46,7 @@ pub fn write<D: Disk, L: Ledger>(
         (λ answer. AsksForFew kept.old (D.history disk.old) (Write sub ino off len) answer reads.old reads.new) }
     ensures superblock { kept.new.superblock ≡ kept.old.superblock }
     ensures apart { (D.history disk.new ≡ D.history disk.old) × (D.size disk.new ≡ D.size disk.old) }
+    ensures stops { StopsForCause result kept.old.fs.land.blocks.draft.sizes (D.size disk.old) }
     ensures cause { HasCause BlockFault.Disk (D.faults disk.old) (D.faults disk.new) result }
 {
     if !turn_to(kept, sub) {

@@ -23,6 +23,7 @@ use Rattle.qg_store.specs.Calls.{with_image}
 use Rattle.qg_store.specs.Fresh.{fresh_nodes, fresh_super}
 use Rattle.qg_store.specs.Mkfs.{HoldsFreshImage, StopsMaking}
 use Rattle.qg_store.specs.CommitOpening.{IsLookedAt}
+use Rattle.qg_store.specs.Stopping.{HasStopCause}
 use Rattle.qg_program.specs.Ends.{is_judged, is_made}
 use Rattle.qg_program.specs.Words.{AskToGenerate, AskToOpen, AskToRun}
 use Rattle.qg_program.specs.declared.status.Status.{Status}
@@ -88,11 +89,13 @@ abbrev pub TellsStop : Stop → List ℕ → Type 0
 TellsStop (stop.Image rule address) bytes = bytes ≡ broken_text rule address
 TellsStop _ bytes = ⊥
 
--- these bytes are the line of the rule that a store stopped for, and of its address
-pub record TellsWhy (stopped : Option BlockFault) (bytes : List ℕ) : Type 0 where
+-- these bytes are the line of the rule that a store of an image of these sizes stopped for, and of its address; and
+-- over a disk of so many bytes both are named for a cause
+pub record TellsWhy (sizes : Sizes) (size : ℕ) (stopped : Option BlockFault) (bytes : List ℕ) : Type 0 where
   pub rule : Rule
   pub address : ℕ
   pub cause : stopped ≡ Some (fault.Image rule address)
+  pub named : HasStopCause sizes size (stop.Image rule address)
   pub told : bytes ≡ broken_text rule address
 
 -- the line of some failure was put, and nothing else

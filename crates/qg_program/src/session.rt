@@ -8,7 +8,7 @@ ghost use Rattle.qg_grammar.specs.FailureText.{broken_text};
 ghost use Rattle.qg_grammar.specs.ScriptText.{is_in_grammar};
 ghost use Rattle.qg_image.specs.State.{State};
 ghost use Rattle.qg_store.specs.Answering.{AnswersOn, IsDoneSoFar};
-ghost use Rattle.qg_store.specs.Stored.{IsIntact, IsReady, IsStoreOf, is_of_image};
+ghost use Rattle.qg_store.specs.Stored.{IsIntact, IsReady, IsStoreOf, is_of_image, sizes_stored};
 ghost use Rattle.qg_program.specs.Ends.{is_stop};
 ghost use Rattle.qg_program.specs.Putting.{TellsFailure, TellsStop, TellsWhy};
 
@@ -52,7 +52,8 @@ impl<L: Ledger, M: Ledger> Session<L, M> {
         ensures ready { OnOk result (IsReady self.new.store (D.history disk.new) (D.size disk.new)) }
         ensures ends { IfErr result (λ status. IsTrue (is_stop status)) }
         ensures told { IfErr result (λ status. status ≡ Status.Image → TellsFailure text.new) }
-        ensures why { IfErr result (λ status. status ≡ Status.Image → TellsWhy self.new.store.stopped text.new) }
+        ensures why { IfErr result (λ status. status ≡ Status.Image → TellsWhy (sizes_stored self.old.store)
+            (D.size disk.old) self.new.store.stopped text.new) }
         ensures intact { IfErr result (λ status. status ≡ Status.Image
             → IsIntact command.now self.old.store.kept self.new.store.kept (D.history disk.old)
             (D.history disk.new)) }

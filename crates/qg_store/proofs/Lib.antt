@@ -12,3 +12,4 @@ pub mod LastCommits
 pub mod Chained
 pub mod Outlived
 pub mod Counted
+pub mod Stopped

@@ -10,4 +10,5 @@ pub use Rattle.qg_kept_commit.specs.Stored
 pub mod Structural
 pub mod Crashes
 pub mod Work
+pub mod Stopping
 pub mod Types

@@ -10,6 +10,8 @@ use Rattle.qg_image.specs.State.{State}
 use Rattle.qg_machine.specs.Refusals.{last_generation, refuse}
 use Rattle.qg_machine.specs.Step.{CommitsPending}
 use Rattle.qg_groups.specs.Tracked.{SameButCounts, quota_of}
+use Rattle.qg_super.specs.SuperText.{sizes_of}
+use Rattle.qg_blocks.specs.Stopping.{StopsForCause}
 use Rattle.qg_blocks.specs.Told.{IfBroken}
 use Rattle.qg_space.specs.Holding.{free_slots}
 use Rattle.qg_kept_commit.specs.Calls.{with_commit}
@@ -34,12 +36,14 @@ abbrev pub IsDoneFirst : State → List Event → History → Type 0
 IsDoneFirst old events history = (history ≡ Recorded events) ⊎ StartsCommit old events history
 
 -- Over a disk that tells or not: where nothing was pending, nothing was done; else all calls of a commit, or none where
--- a rule of the image was found broken
-pub record CallsPending (old new : Kept) (before after : History) (result : Result Unit BlockFault) : Type 0 where
+-- a rule of the image was found broken; and a rule is named only for a cause
+pub record CallsPending (old new : Kept) (before after : History) (bytes : ℕ) (result : Result Unit BlockFault)
+    : Type 0 where
   pub none : old.pending ≡ 0 → after ≡ before
   pub calls : OnOk result (0 < old.pending → (nodes : List Node)
       × (after ≡ history_after (with_commit new.superblock nodes) before))
   pub intact : IfBroken result (after ≡ before)
+  pub cause : StopsForCause result (sizes_of old.superblock) bytes
 
 -- ---- what was pending
 

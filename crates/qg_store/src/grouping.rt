@@ -5,12 +5,13 @@ ghost use Rattle.qg_device.specs.History.{Event, Recorded};
 ghost use Rattle.qg_num.specs.declared.answer.Answer.TheVariants.{Done};
 ghost use Rattle.qg_super.specs.SuperText.{sizes_of};
 ghost use Rattle.qg_image.specs.State.{State};
-ghost use Rattle.qg_blocks.specs.Told.{BreaksNone, IfBroken};
+ghost use Rattle.qg_blocks.specs.Told.{BreaksNone};
 ghost use Rattle.qg_groups.specs.Changing.{is_group_command};
 ghost use Rattle.qg_kept_commit.specs.Answering.{AnswersOn, IsDoneSoFar, is_unchanging};
 ghost use Rattle.qg_kept_commit.specs.Editing.{HasLooked};
 ghost use Rattle.qg_kept_commit.specs.Keeping.{IsFitted, IsKept, IsKeptOf};
-ghost use Rattle.qg_kept_commit.specs.Stored.{IsIntact, KnowsLast};
+ghost use Rattle.qg_kept_commit.specs.Stored.{KnowsLast};
+ghost use Rattle.qg_store.specs.Stopping.{StopsByRead};
 ghost use Rattle.qg_kept_changes.specs.Changing.{group_copies};
 
 use crate::structural::{COPIES, commit_pending, no_commit};
@@ -45,8 +46,8 @@ pub(crate) fn regroup<D: Disk, L: Ledger>(
         (D.history disk.old) (D.history disk.new) (D.size disk.old) (D.size disk.new)) }
     ensures err { IfErr result
         (λ fault. KnowsLast command.now kept.old kept.new (D.history disk.old) (D.history disk.new)) }
-    ensures intact { IfBroken result
-        (IsIntact command.now kept.old kept.new (D.history disk.old) (D.history disk.new)) }
+    ensures intact { StopsByRead result command.now kept.old kept.new (D.history disk.old) (D.history disk.new)
+        (D.size disk.old) }
     ensures sizes { (sizes_of kept.new.superblock ≡ sizes_of kept.old.superblock)
         × (D.size disk.old ≤ D.size disk.new) }
     ensures cause { HasCause BlockFault.Disk (D.faults disk.old) (D.faults disk.new) result }

@@ -11,7 +11,7 @@ ghost use Rattle.qg_grammar.specs.ScriptText.{is_in_grammar};
 ghost use Rattle.qg_image.specs.State.{State};
 ghost use Rattle.qg_image.specs.StateOf.{StateOf};
 ghost use Rattle.qg_image.specs.Verdict.{verdict};
-ghost use Rattle.qg_blocks.specs.Told.{BreaksNone, IfBroken};
+ghost use Rattle.qg_blocks.specs.Told.{BreaksNone};
 ghost use Rattle.qg_walk.specs.Fault.{TellsFailure};
 ghost use Rattle.qg_crashes.specs.Outcomes.{Rests};
 ghost use Rattle.qg_kept_commit.specs.Opened.{IsOpened, IsOpening, OutlivesCrashes};
@@ -22,9 +22,10 @@ ghost use Rattle.qg_store.specs.Work.{TakesSteps};
 ghost use Rattle.qg_file_commands.specs.Reading.{AsksForFew};
 ghost use Rattle.qg_kept_commit.specs.Editing.{HasLooked};
 ghost use Rattle.qg_kept_commit.specs.Keeping.{IsKept, IsKeptOf};
-ghost use Rattle.qg_kept_commit.specs.Stored.{ComesToDisk, DoesCommand, GoesOn, IsIntact, IsReady, IsStoreOf};
+ghost use Rattle.qg_kept_commit.specs.Stored.{ComesToDisk, DoesCommand, GoesOn, IsReady, IsStoreOf};
 ghost use Rattle.qg_kept_commit.specs.Stored.{IsStoreOver, IsUnchanged, KnowsLast, RunsOrStops, is_aborted};
-ghost use Rattle.qg_kept_commit.specs.Stored.{is_of_image, sizes_stored};
+ghost use Rattle.qg_kept_commit.specs.Stored.{sizes_stored};
+ghost use Rattle.qg_store.specs.Stopping.{StopsByRead, StopsStore};
 
 use crate::grouping::regroup;
 use crate::structural::{create, delete, snap};
@@ -134,10 +135,10 @@ impl Store {
         ensures still { (ComesToDisk self.old command.now → ⊥)
             → (D.history disk.new ≡ D.history disk.old) × (D.size disk.new ≡ D.size disk.old) }
 
-        // A stop by what was read leaves a disk as it was, but for the first commit of a structural command. After a
-        // stop nothing is done any more, and nothing is read.
-        ensures intact { IfErr result (λ stop. IsTrue (is_of_image stop)
-            → IsIntact command.now self.old.kept self.new.kept (D.history disk.old) (D.history disk.new)) }
+        // A stop by what was read leaves a disk as it was, but for the first commit of a structural command, and names
+        // a rule at an address only for a cause. After a stop nothing is done any more, and nothing is read.
+        ensures intact { StopsStore result command.now self.old self.new (D.history disk.old) (D.history disk.new)
+            (D.size disk.old) }
         ensures aborted { IfErr result (λ stop. IsTrue (is_aborted stop)
             → (disk.new ≡ disk.old) × (reads.new ≡ reads.old)) }
         ensures stops { RunsOrStops result command.now self.old self.new (D.history disk.old) (D.history disk.new) }
@@ -210,8 +211,8 @@ fn answer<D: Disk, M: Ledger>(
         → (D.history disk.new ≡ D.history disk.old) × (D.size disk.new ≡ D.size disk.old) }
     ensures err { IfErr result
         (λ fault. KnowsLast command.now kept.old kept.new (D.history disk.old) (D.history disk.new)) }
-    ensures intact { IfBroken result
-        (IsIntact command.now kept.old kept.new (D.history disk.old) (D.history disk.new)) }
+    ensures intact { StopsByRead result command.now kept.old kept.new (D.history disk.old) (D.history disk.new)
+        (D.size disk.old) }
     ensures reads { IfOk result
         (λ answer. AsksForFew kept.old (D.history disk.old) command.now answer reads.old reads.new) }
     ensures cause { HasCause BlockFault.Disk (D.faults disk.old) (D.faults disk.new) result }

@@ -7,6 +7,7 @@ ghost use Rattle.qg_num.specs.declared.command.Command.TheVariants.{Delete, Snap
 ghost use Rattle.qg_super.specs.SuperText.{sizes_of};
 ghost use Rattle.qg_image.specs.State.{State};
 ghost use Rattle.qg_machine.specs.Refusals.{nodes_reached};
+ghost use Rattle.qg_blocks.specs.Stopping.{StopsForCause};
 ghost use Rattle.qg_blocks.specs.Told.{BreaksNone, IfBroken};
 ghost use Rattle.qg_extents.specs.Table.{IsTable};
 ghost use Rattle.qg_space.specs.Holding.{free_slots};
@@ -56,6 +57,7 @@ pub(crate) fn create<D: Disk, L: Ledger>(
         (IsIntact SubCreate kept.old kept.new (D.history disk.old) (D.history disk.new)) }
     ensures sizes { (sizes_of kept.new.superblock ≡ sizes_of kept.old.superblock)
         × (D.size disk.old ≤ D.size disk.new) }
+    ensures stops { StopsForCause result (sizes_of kept.old.superblock) (D.size disk.old) }
     ensures cause { HasCause BlockFault.Disk (D.faults disk.old) (D.faults disk.new) result }
 {
     let number = number_next(kept);
@@ -99,6 +101,7 @@ pub(crate) fn snap<D: Disk, L: Ledger>(
         (IsIntact (Snap sub parents.now) kept.old kept.new (D.history disk.old) (D.history disk.new)) }
     ensures sizes { (sizes_of kept.new.superblock ≡ sizes_of kept.old.superblock)
         × (D.size disk.old ≤ D.size disk.new) }
+    ensures stops { StopsForCause result (sizes_of kept.old.superblock) (D.size disk.old) }
     ensures cause { HasCause BlockFault.Disk (D.faults disk.old) (D.faults disk.new) result }
 {
     if !turn_to(kept, sub) {
@@ -147,6 +150,7 @@ pub(crate) fn delete<D: Disk, L: Ledger>(
         (IsIntact (Delete sub) kept.old kept.new (D.history disk.old) (D.history disk.new)) }
     ensures sizes { (sizes_of kept.new.superblock ≡ sizes_of kept.old.superblock)
         × (D.size disk.old ≤ D.size disk.new) }
+    ensures stops { StopsForCause result (sizes_of kept.old.superblock) (D.size disk.old) }
     ensures cause { HasCause BlockFault.Disk (D.faults disk.old) (D.faults disk.new) result }
 {
     if sub.value() == TOP_LEVEL {
@@ -179,6 +183,7 @@ fn copies_of_tree<D: Disk, L: Ledger>(
     ensures kept { IsKept kept.new (D.history disk.new) (D.size disk.new) }
     ensures looked { HasReadNodes kept.old kept.new (D.history disk.old) (D.history disk.new) (D.size disk.old)
         (D.size disk.new) }
+    ensures stops { StopsForCause result kept.old.fs.land.blocks.draft.sizes (D.size disk.old) }
     ensures cause { HasCause BlockFault.Disk (D.faults disk.old) (D.faults disk.new) result }
 {
     let _ascending = kept.fs.refs.refs().len();
@@ -247,7 +252,7 @@ pub(crate) fn commit_pending<D: Disk, L: Ledger>(
         → D.history disk.old ≡ Recorded events → IsDoneFirst state events (D.history disk.new) }
     ensures sound { (state : State) (events : List Event) → D.history disk.old ≡ Recorded events
         → IsKeptOf kept.old state (D.history disk.old) → BreaksNone result }
-    ensures calls { CallsPending kept.old kept.new (D.history disk.old) (D.history disk.new) result }
+    ensures calls { CallsPending kept.old kept.new (D.history disk.old) (D.history disk.new) (D.size disk.old) result }
     ensures err { IfErr result
         (λ fault. StaysLast StopsPending kept.old kept.new (D.history disk.old) (D.history disk.new)) }
     ensures sizes { (sizes_of kept.new.superblock ≡ sizes_of kept.old.superblock)

@@ -24,6 +24,7 @@ use Rattle.qg_file_commands.proofs.Reasons.{missing-clone, none-there, other-clo
 use Rattle.qg_file_commands.proofs.Reasons.{some-there}
 use Rattle.qg_kept.proofs.Turned.{same-read, same-then, unchanged-then}
 use Rattle.qg_file_commands.proofs.Asked.{asked-then, source-pieces, source-read}
+use Rattle.qg_kept.proofs.Stopped.{stops-turned, turned-err}
 use Rattle.qg_file_commands.proofs.cloning.clone.Goals as goal
 
 pub turn_to-requires : goal.turn_to-requires
@@ -365,3 +366,33 @@ returns-clause-reads g c =
           (source-pieces state c.args.sub keeps.mine there c.args.ino c.args.off c.args.len c.args.to_sub c.args.to_ino
           c.args.to_off change told)),
     ))
+
+-- ---- over any disk
+
+pub returns-in_err-inode-clause-stops : goal.returns-in_err-inode-clause-stops
+returns-in_err-inode-clause-stops g c =
+    let residual = c.from_residual in
+    turned-err (Option InodeItem) residual.result c.in_err-inode.field-0.0 c.args.kept.now c.turn_to-2.new.kept
+    (g.D.Disk.size c.args.disk.now) (g.D.Disk.size c.args.disk.now) residual.ensures.1
+    (same-then c.args.kept.now c.turn_to.new.kept c.turn_to-2.new.kept c.turn_to.ensures.same c.turn_to-2.ensures.same)
+    refl c.in_err-inode.ensures.stops
+
+pub returns-in_err-source-clause-stops : goal.returns-in_err-source-clause-stops
+returns-in_err-source-clause-stops g c =
+    let residual = c.from_residual-in_err-source in
+    turned-err (List Piece) residual.result c.in_err-source.field-0.0 c.args.kept.now c.inode_in.new.kept
+    (g.D.Disk.size c.args.disk.now) (g.D.Disk.size c.inode_in.new.disk) residual.ensures.1
+    (same-read c.args.kept.now c.turn_to-2.new.kept c.inode_in.new.kept _ _ _ _
+    (same-then c.args.kept.now c.turn_to.new.kept c.turn_to-2.new.kept c.turn_to.ensures.same c.turn_to-2.ensures.same)
+    c.in_ok-inode.ensures.looked)
+    c.in_ok-inode.ensures.looked.size c.in_err-source.ensures.stops
+
+pub returns-clause-stops : goal.returns-clause-stops
+returns-clause-stops g c =
+    let same = same-read c.args.kept.now c.turn_to-2.new.kept c.pieces_in.new.kept _ _ _ _
+    (same-then c.args.kept.now c.turn_to.new.kept c.turn_to-2.new.kept c.turn_to.ensures.same c.turn_to-2.ensures.same)
+    (looked-again c.turn_to-2.new.kept c.inode_in.new.kept c.pieces_in.new.kept _ _ _ _ _ _
+    c.in_ok-inode.ensures.looked c.in_ok-source.ensures.looked) in
+    stops-turned c.clone_pieces.result c.args.kept.now c.pieces_in.new.kept (g.D.Disk.size c.args.disk.now)
+    (g.D.Disk.size c.pieces_in.new.disk) same
+    (c.in_ok-source.ensures.looked.size ∙ c.in_ok-inode.ensures.looked.size) c.clone_pieces.ensures.stops

@@ -18,6 +18,8 @@ use Rattle.qg_file_commands.proofs.Touched.{met-both}
 use Rattle.qg_kept.proofs.Turned.{same-read, source-tree}
 use Rattle.qg_machine.specs.FileChange.{pieces_meeting}
 use Rattle.qg_file_commands.proofs.Asked.{clone-pieces, target-reads}
+use Rattle.std.proofs.Common.{refl}
+use Rattle.qg_kept.proofs.Stopped.{turned-err}
 use Rattle.qg_file_commands.proofs.cloning.clone_pieces.Goals as goal
 
 pub turn_to-requires : goal.turn_to-requires
@@ -209,3 +211,22 @@ returns-clause-reads g c = λ state sub ino from change given there source told 
     (clone-pieces mid state between left c.in_ok-found.ensures.kept still c.in_ok-why.ensures.table change sub from
     there ino c.args.off c.args.len c.args.to_sub c.args.to_ino c.args.to_off
     (sym (c.turn_to.ensures.hand c.if-not-turn_to.false) ∙ owner-read kept mid before between bytes left looked) told)
+
+-- ---- over any disk
+
+pub returns-in_err-found-clause-stops : goal.returns-in_err-found-clause-stops
+returns-in_err-found-clause-stops g c =
+    let residual = c.from_residual in
+    turned-err (Found) residual.result c.in_err-found.field-0.0 c.args.kept.now c.turn_to.new.kept
+    (g.D.Disk.size c.args.disk.now) (g.D.Disk.size c.args.disk.now) residual.ensures.1
+    c.turn_to.ensures.same
+    refl c.in_err-found.ensures.stops
+
+pub returns-in_err-clone_into-clause-stops : goal.returns-in_err-clone_into-clause-stops
+returns-in_err-clone_into-clause-stops g c =
+    let residual = c.from_residual-in_err-clone_into in
+    turned-err (Unit {0}) residual.result c.in_err-clone_into.field-0.0 c.args.kept.now c.found_in.new.kept
+    (g.D.Disk.size c.args.disk.now) (g.D.Disk.size c.found_in.new.disk) residual.ensures.1
+    (same-read c.args.kept.now c.turn_to.new.kept c.found_in.new.kept _ _ _ _ c.turn_to.ensures.same
+    c.in_ok-found.ensures.looked)
+    c.in_ok-found.ensures.looked.size c.in_err-clone_into.ensures.stops

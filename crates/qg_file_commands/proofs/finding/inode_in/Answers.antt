@@ -1,5 +1,6 @@
 use Rattle.qg_kept.proofs.Looked.{is-near, is-readable, kept-read, tells-files}
 use Rattle.qg_file_commands.proofs.Asked.{low, way-reads}
+use Rattle.qg_kept.proofs.InodesStopped.{stops-pieces}
 use Rattle.qg_file_commands.proofs.finding.inode_in.Goals as goal
 
 pub inode_of-requires : goal.inode_of-requires
@@ -29,3 +30,8 @@ returns-clause-reads g c = λ files holds.
     way-reads c.args.reads.now c.inode_of.new.reads c.args.kept.now.fs.tree.height
     (low c.args.kept.now (g.D.Disk.history c.args.disk.now) (g.D.Disk.size c.args.disk.now) files c.requires.kept holds)
     c.inode_of.ensures.reads
+
+pub returns-clause-stops : goal.returns-clause-stops
+returns-clause-stops g c =
+    stops-pieces c.inode_of.result c.args.kept.now.fs.tree c.args.kept.now.fs.land.blocks.draft
+    (g.D.Disk.size c.args.disk.now) c.inode_of.ensures.stops

@@ -1,6 +1,7 @@
 use Rattle.qg_kept.proofs.Looked.{is-near, is-readable, kept-read, tells-files}
 use Rattle.qg_kept.specs.Files.{pieces_of}
 use Rattle.qg_file_commands.proofs.Asked.{low, pieces-read}
+use Rattle.qg_kept.proofs.InodesStopped.{stops-pieces}
 use Rattle.qg_file_commands.proofs.finding.pieces_in.Goals as goal
 
 pub pieces_meeting-requires : goal.pieces_meeting-requires
@@ -34,3 +35,8 @@ returns-clause-reads g c = λ files holds.
     (c.pieces_meeting.ensures.reads files
     (tells-files c.args.kept.now.fs (g.D.Disk.history c.args.disk.now) files holds
     (is-near c.args.kept.now c.requires.kept.fitted)))
+
+pub returns-clause-stops : goal.returns-clause-stops
+returns-clause-stops g c =
+    stops-pieces c.pieces_meeting.result c.args.kept.now.fs.tree c.args.kept.now.fs.land.blocks.draft
+    (g.D.Disk.size c.args.disk.now) c.pieces_meeting.ensures.stops

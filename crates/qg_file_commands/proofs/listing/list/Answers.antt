@@ -8,6 +8,9 @@ use Rattle.qg_file_commands.proofs.Listed.{lists, lists-no-file, lists-no-sub}
 use Rattle.qg_kept.proofs.Looked.{is-near, is-readable, keeps-looked, kept-read, looked-read, tells-files}
 use Rattle.qg_kept.proofs.Looked.{with_blocks}
 use Rattle.qg_kept.proofs.Turned.{looked-turned}
+use Rattle.std.specs.Prelude.{Err}
+use Rattle.qg_kept.proofs.InodesStopped.{stops-pieces}
+use Rattle.qg_kept.proofs.Stopped.{turned-err}
 use Rattle.qg_file_commands.proofs.listing.list.Goals as goal
 
 pub file_of-requires : goal.file_of-requires
@@ -117,3 +120,15 @@ returns-in-Some-clause-step g c = λ state given.
     (g.D.Disk.size c.file_of.new.disk) c.in_ok-file.ensures.read) keeps)
     c.in-Some.file (sym (c.turn_to.ensures.hand c.if-not-turn_to.false))
     (sym (c.in_ok-file.ensures.found keeps.files tells) ∙ c.in-Some.is)
+
+-- ---- over any disk
+
+pub returns-in_err-file-clause-stops : goal.returns-in_err-file-clause-stops
+returns-in_err-file-clause-stops g c =
+    let bytes = g.D.Disk.size c.args.disk.now in
+    let fault = c.in_err-file.field-0.0 in
+    let kept = c.turn_to.new.kept in
+    turned-err (Option File) c.from_residual.result fault c.args.kept.now kept bytes bytes c.from_residual.ensures.1
+    c.turn_to.ensures.same refl
+    (stops-pieces {A = Option File} (Err fault) kept.fs.tree kept.fs.land.blocks.draft bytes
+    c.in_err-file.ensures.stops)

@@ -23,6 +23,8 @@ use Rattle.qg_image.specs.FilesOf.{largest_size}
 use Rattle.qg_machine.specs.FileChange.{pieces_meeting}
 use Rattle.qg_kept.specs.Files.{pieces_of}
 use Rattle.qg_file_commands.proofs.Asked.{all-read, own-reads, unlink-pieces}
+use Rattle.std.proofs.Common.{refl}
+use Rattle.qg_kept.proofs.Stopped.{turned-err}
 use Rattle.qg_file_commands.proofs.unlinking.unlink.Goals as goal
 
 pub turn_to-requires : goal.turn_to-requires
@@ -283,3 +285,32 @@ returns-clause-reads g c = λ accepted state change keeps change_told.
     (c.in_ok-unlink.ensures.reads turned.files there.file still.keeps.holds there.is
     (own-met c.args.ino there.file turned.files there.is c.in_ok-met.met met)))
     (all-read c.args.ino there.file turned.files there.is turned.keeps.holds.writable ∙ pieces)
+
+-- ---- over any disk
+
+pub returns-in_err-inode_in-clause-stops : goal.returns-in_err-inode_in-clause-stops
+returns-in_err-inode_in-clause-stops g c =
+    let residual = c.from_residual in
+    turned-err (Option InodeItem) residual.result c.in_err-inode_in.field-0.0 c.args.kept.now c.turn_to.new.kept
+    (g.D.Disk.size c.args.disk.now) (g.D.Disk.size c.args.disk.now) residual.ensures.1
+    c.turn_to.ensures.same
+    refl c.in_err-inode_in.ensures.stops
+
+pub returns-in_err-met-clause-stops : goal.returns-in_err-met-clause-stops
+returns-in_err-met-clause-stops g c =
+    let residual = c.from_residual-in_err-met in
+    turned-err (List Piece) residual.result c.in_err-met.field-0.0 c.args.kept.now c.inode_in.new.kept
+    (g.D.Disk.size c.args.disk.now) (g.D.Disk.size c.inode_in.new.disk) residual.ensures.1
+    (same-read c.args.kept.now c.turn_to.new.kept c.inode_in.new.kept _ _ _ _ c.turn_to.ensures.same
+    c.in_ok-inode_in.ensures.looked)
+    c.in_ok-inode_in.ensures.looked.size c.in_err-met.ensures.stops
+
+pub returns-in_err-unlink-clause-stops : goal.returns-in_err-unlink-clause-stops
+returns-in_err-unlink-clause-stops g c =
+    let residual = c.from_residual-in_err-unlink in
+    turned-err (Unit {0}) residual.result c.in_err-unlink.field-0.0 c.args.kept.now c.pieces_in.new.kept
+    (g.D.Disk.size c.args.disk.now) (g.D.Disk.size c.pieces_in.new.disk) residual.ensures.1
+    (same-read c.args.kept.now c.turn_to.new.kept c.pieces_in.new.kept _ _ _ _ c.turn_to.ensures.same
+    (looked-again c.turn_to.new.kept c.inode_in.new.kept c.pieces_in.new.kept _ _ _ _ _ _
+    c.in_ok-inode_in.ensures.looked c.in_ok-met.ensures.looked))
+    (c.in_ok-met.ensures.looked.size ∙ c.in_ok-inode_in.ensures.looked.size) c.in_err-unlink.ensures.stops

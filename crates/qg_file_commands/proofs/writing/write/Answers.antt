@@ -23,6 +23,8 @@ use Rattle.qg_file_commands.proofs.Touched.{met-many}
 use Rattle.qg_kept.proofs.Turned.{same-read}
 use Rattle.qg_file_commands.proofs.Written.{lacks-run, lacks-slots, refuses-limit, refuses-range, written}
 use Rattle.qg_file_commands.proofs.Asked.{write-pieces, write-reads}
+use Rattle.std.proofs.Common.{refl}
+use Rattle.qg_kept.proofs.Stopped.{turned-err}
 use Rattle.qg_file_commands.proofs.writing.write.Goals as goal
 
 pub turn_to-requires : goal.turn_to-requires
@@ -318,3 +320,22 @@ returns-clause-reads g c = λ accepted state change given told.
     c.args.ino c.args.off c.args.len c.in-Some-run_for.run'
     (sym (c.turn_to.ensures.hand c.if-not-turn_to.false) ∙ owner-read kept mid before between bytes left looked)
     (c.in-Some-run_for.ensures.run state before bytes fits keeps) told)
+
+-- ---- over any disk
+
+pub returns-in_err-found-clause-stops : goal.returns-in_err-found-clause-stops
+returns-in_err-found-clause-stops g c =
+    let residual = c.from_residual-in_err-found in
+    turned-err (Found) residual.result c.in_err-found.field-0.0 c.args.kept.now c.turn_to.new.kept
+    (g.D.Disk.size c.args.disk.now) (g.D.Disk.size c.args.disk.now) residual.ensures.1
+    c.turn_to.ensures.same
+    refl c.in_err-found.ensures.stops
+
+pub returns-in_err-write-clause-stops : goal.returns-in_err-write-clause-stops
+returns-in_err-write-clause-stops g c =
+    let residual = c.from_residual-in_err-write in
+    turned-err (Unit {0}) residual.result c.in_err-write.field-0.0 c.args.kept.now c.found_in.new.kept
+    (g.D.Disk.size c.args.disk.now) (g.D.Disk.size c.found_in.new.disk) residual.ensures.1
+    (same-read c.args.kept.now c.turn_to.new.kept c.found_in.new.kept _ _ _ _ c.turn_to.ensures.same
+    c.in_ok-found.ensures.looked)
+    c.in_ok-found.ensures.looked.size c.in_err-write.ensures.stops

@@ -1,5 +1,6 @@
 use Rattle.std.proofs.Common.{◌≡◌, ◌∙◌, ◌≤◌, ℕ, None, Some, ap, inl, refl, subst, sym}
 use Rattle.qg_num.specs.declared.answer.Answer.TheVariants.{Done, Refused}
+use Rattle.qg_num.specs.declared.fault.BlockFault.TheVariants.{NoMemory}
 use Rattle.qg_space.specs.Holding.{free_slots}
 use Rattle.qg_groups.specs.Tracked.{quota_of}
 use Rattle.qg_kept_commit.proofs.PiecesRead.{handed}
@@ -19,6 +20,7 @@ use Rattle.qg_kept_commit.proofs.Stepped.{does_nothing}
 use Rattle.qg_store.proofs.Structured.{does-structural, early-second, held-regrouped, last-settled, made-first}
 use Rattle.qg_store.proofs.Structured.{intact-first, intact-handed, made-second, so-far-first, so-far-second}
 use Rattle.qg_kept_commit.proofs.Turned.{looked-refl}
+use Rattle.qg_store.proofs.Stopped.{pending-stored, read-memory, second-stored}
 use Rattle.qg_store.proofs.grouping.regroup.Goals as goal
 
 pub refusal_of-requires : goal.refusal_of-requires
@@ -276,27 +278,61 @@ returns-clause-so_far g c = λ state events keeps told.
 
 -- ---- over any disk
 
+pub returns-in-Some-clause-intact : goal.returns-in-Some-clause-intact
+returns-in-Some-clause-intact g c = record { intact = tt; cause = tt }
+
+pub returns-in-Some-2-clause-intact : goal.returns-in-Some-2-clause-intact
+returns-in-Some-2-clause-intact g c = record { intact = tt; cause = tt }
+
+pub returns-in_err-why-clause-intact : goal.returns-in_err-why-clause-intact
+returns-in_err-why-clause-intact g c =
+    let residual = c.from_residual in
+    read-memory residual.result c.args.command.now c.args.kept.now c.args.kept.now _ _ (g.D.Disk.size c.args.disk.now)
+    (handed residual.result NoMemory residual.ensures.1)
+
 pub returns-in_err-commit_pending-clause-intact : goal.returns-in_err-commit_pending-clause-intact
 returns-in_err-commit_pending-clause-intact g c =
     let residual = c.from_residual-in_err-commit_pending in
+    let before = g.D.Disk.history c.args.disk.now in
     let after = g.D.Disk.history c.commit_pending.new.disk in
-    intact-handed (Unit {0}) residual.result _ c.args.command.now c.args.kept.now c.commit_pending.new.kept
-    (g.D.Disk.history c.args.disk.now) after (after ≡ (g.D.Disk.history c.args.disk.now))
-    (handed residual.result _ residual.ensures.1) (λ same. inl (same)) c.in_err-commit_pending.ensures.calls.intact
+    let bytes = g.D.Disk.size c.args.disk.now in
+    record {
+      intact = intact-handed (Unit {0}) residual.result _ c.args.command.now c.args.kept.now c.commit_pending.new.kept
+          before after (after ≡ before) (handed residual.result _ residual.ensures.1) (λ same. inl same)
+          c.in_err-commit_pending.ensures.calls.intact;
+      cause = pending-stored (Unit {0}) residual.result _ c.args.kept.now c.args.kept.now bytes bytes
+          residual.ensures.1 refl refl c.in_err-commit_pending.ensures.calls.cause;
+    }
+
+pub returns-in_err-change_groups-clause-intact : goal.returns-in_err-change_groups-clause-intact
+returns-in_err-change_groups-clause-intact g c =
+    let residual = c.from_residual-in_err-change_groups in
+    read-memory residual.result c.args.command.now c.args.kept.now c.change_groups.new.kept _ _ (g.D.Disk.size c.args.disk.now)
+    (handed residual.result NoMemory residual.ensures.1)
 
 pub returns-in_err-commit_now-clause-intact : goal.returns-in_err-commit_now-clause-intact
 returns-in_err-commit_now-clause-intact g c =
     let residual = c.from_residual-in_err-commit_now in
+    let kept = c.args.kept.now in
+    let mid = c.commit_pending.new.kept in
+    let new = c.change_groups.new.kept in
+    let before = g.D.Disk.history c.args.disk.now in
+    let between = g.D.Disk.history c.commit_pending.new.disk in
     let last = g.D.Disk.history c.commit_now.new.disk in
-    intact-handed (Unit {0}) residual.result _ c.args.command.now c.args.kept.now c.commit_now.new.kept
-    (g.D.Disk.history c.args.disk.now) last (last ≡ (g.D.Disk.history c.commit_pending.new.disk))
-    (handed residual.result _ residual.ensures.1) (λ same.
-    intact-first c.args.command.now c.args.kept.now c.args.kept.now c.commit_pending.new.kept
-    c.commit_now.new.kept (g.D.Disk.history c.args.disk.now) (g.D.Disk.history c.args.disk.now)
-    (g.D.Disk.history c.commit_pending.new.disk) (g.D.Disk.history c.commit_now.new.disk)
-    (structural-group c.args.command.now c.requires.group) refl
-    refl
-    c.in_ok-commit_pending.ensures.calls.none c.in_ok-commit_pending.ensures.calls.calls
-    (c.in_err-commit_now.ensures.err ∙ superblock-regrouped c.commit_pending.new.kept c.change_groups.new.kept
-    c.in_ok-change_groups.ensures.rest)
-    (same)) c.in_err-commit_now.ensures.intact.broken
+    let bytes = g.D.Disk.size c.args.disk.now in
+    let grown = g.D.Disk.size c.commit_pending.new.disk in
+    let superblock = superblock-regrouped mid new c.in_ok-change_groups.ensures.rest in
+    record {
+      intact = intact-handed (Unit {0}) residual.result _ c.args.command.now kept c.commit_now.new.kept before last
+          (last ≡ between) (handed residual.result _ residual.ensures.1)
+          (λ same. intact-first c.args.command.now kept kept mid c.commit_now.new.kept before before between last
+          (structural-group c.args.command.now c.requires.group) refl refl
+          c.in_ok-commit_pending.ensures.calls.none c.in_ok-commit_pending.ensures.calls.calls
+          (c.in_err-commit_now.ensures.err ∙ superblock) same) c.in_err-commit_now.ensures.intact.broken;
+      cause = second-stored (Unit {0}) residual.result _ kept kept mid new bytes bytes grown grown residual.ensures.1
+          c.in_ok-change_groups.ensures.fitted refl c.in_ok-commit_pending.ensures.sizes.0 superblock refl
+          c.in_ok-commit_pending.ensures.sizes.1 refl c.in_err-commit_now.ensures.intact.cause;
+    }
+
+pub returns-clause-intact : goal.returns-clause-intact
+returns-clause-intact g c = record { intact = tt; cause = tt }

@@ -3,16 +3,20 @@ use Rattle.std.specs.Prelude.{IfOk}
 use Rattle.qg_num.specs.declared.command.Command.{Command}
 use Rattle.qg_num.specs.declared.command.Command.TheVariants.{Clone, Commit, Delete, Ls, Owners, Show, Snap, SubCreate}
 use Rattle.qg_num.specs.declared.command.Command.TheVariants.{Truncate, Unlink, Write}
+use Rattle.qg_num.specs.declared.fault.BlockFault.TheVariants.{NoMemory}
 use Rattle.qg_grammar.specs.ScriptText.{is_in_grammar}
 use Rattle.qg_blocks.proofs.Broken.{broken-any, broken-then}
+use Rattle.qg_kept_commit.proofs.PiecesRead.{handed}
 use Rattle.qg_kept_commit.specs.Types.{Kept}
 use Rattle.qg_kept_commit.specs.Answering.{Answered, AnswersOn, IsDoneSoFar}
 use Rattle.qg_kept_commit.proofs.OnDisk.{each-given, last-always, last-given, last-same, on-disk, so-far-commit}
 use Rattle.qg_kept_commit.proofs.OnDisk.{still-commit, still-structural, unchanged-looked}
 use Rattle.qg_store.proofs.Counted.{asks-given, asks-grouped}
 use Rattle.qg_file_commands.specs.Reading.{AsksForFew}
+use Rattle.qg_kept_commit.proofs.Stopped.{stops-stored}
 use Rattle.qg_store.proofs.Served.{inode_told, target_told}
 use Rattle.qg_store.proofs.Shown.{does_show}
+use Rattle.qg_store.proofs.Stopped.{read-memory}
 use Rattle.qg_store.proofs.Structured.{intact-given}
 use Rattle.qg_store.proofs.store.answer.Goals as goal
 
@@ -289,43 +293,85 @@ returns-in-Unlink-clause-err g c =
 -- ---- a rule of the image is found broken
 
 pub returns-in-Write-clause-intact : goal.returns-in-Write-clause-intact
-returns-in-Write-clause-intact g c = broken-any c.write.result _ (inl c.write.ensures.apart.0)
+returns-in-Write-clause-intact g c = record {
+  intact = broken-any c.write.result _ (inl c.write.ensures.apart.0);
+  cause = stops-stored c.write.result c.args.kept.now (g.D.Disk.size c.args.disk.now)
+      c.requires.kept.fitted c.write.ensures.stops;
+}
 
 pub returns-in-Clone-clause-intact : goal.returns-in-Clone-clause-intact
-returns-in-Clone-clause-intact g c = broken-any c.clone.result _ (inl c.clone.ensures.apart.0)
+returns-in-Clone-clause-intact g c = record {
+  intact = broken-any c.clone.result _ (inl c.clone.ensures.apart.0);
+  cause = stops-stored c.clone.result c.args.kept.now (g.D.Disk.size c.args.disk.now)
+      c.requires.kept.fitted c.clone.ensures.stops;
+}
 
 pub returns-in-Truncate-clause-intact : goal.returns-in-Truncate-clause-intact
-returns-in-Truncate-clause-intact g c = broken-any c.truncate.result _ (inl c.truncate.ensures.apart.0)
+returns-in-Truncate-clause-intact g c = record {
+  intact = broken-any c.truncate.result _ (inl c.truncate.ensures.apart.0);
+  cause = stops-stored c.truncate.result c.args.kept.now (g.D.Disk.size c.args.disk.now)
+      c.requires.kept.fitted c.truncate.ensures.stops;
+}
 
 pub returns-in-Unlink-clause-intact : goal.returns-in-Unlink-clause-intact
-returns-in-Unlink-clause-intact g c = broken-any c.unlink.result _ (inl c.unlink.ensures.apart.0)
+returns-in-Unlink-clause-intact g c = record {
+  intact = broken-any c.unlink.result _ (inl c.unlink.ensures.apart.0);
+  cause = stops-stored c.unlink.result c.args.kept.now (g.D.Disk.size c.args.disk.now)
+      c.requires.kept.fitted c.unlink.ensures.stops;
+}
 
 pub returns-in-Ls-clause-intact : goal.returns-in-Ls-clause-intact
-returns-in-Ls-clause-intact g c = broken-any c.list.result _ (inl c.list.ensures.looked.history)
+returns-in-Ls-clause-intact g c = record {
+  intact = broken-any c.list.result _ (inl c.list.ensures.looked.history);
+  cause = stops-stored c.list.result c.args.kept.now (g.D.Disk.size c.args.disk.now)
+      c.requires.kept.fitted c.list.ensures.stops;
+}
 
 pub returns-in-Owners-clause-intact : goal.returns-in-Owners-clause-intact
-returns-in-Owners-clause-intact g c = broken-any c.owners.result _ (inl c.owners.ensures.looked.history)
+returns-in-Owners-clause-intact g c = record {
+  intact = broken-any c.owners.result _ (inl c.owners.ensures.looked.history);
+  cause = stops-stored c.owners.result c.args.kept.now (g.D.Disk.size c.args.disk.now)
+      c.requires.kept.fitted c.owners.ensures.stops;
+}
+
+pub returns-in_ok-show-in-Show-clause-intact : goal.returns-in_ok-show-in-Show-clause-intact
+returns-in_ok-show-in-Show-clause-intact g c = record { intact = tt; cause = tt }
+
+pub returns-in_err-show-in-Show-clause-intact : goal.returns-in_err-show-in-Show-clause-intact
+returns-in_err-show-in-Show-clause-intact g c =
+    read-memory c.from_residual.result c.args.command.now c.args.kept.now c.args.kept.now _ _
+    (g.D.Disk.size c.args.disk.now) (handed c.from_residual.result NoMemory c.from_residual.ensures.1)
 
 pub returns-in-Commit-clause-intact : goal.returns-in-Commit-clause-intact
-returns-in-Commit-clause-intact g c =
-    broken-then c.commit.result _ _ (λ same. inl same) c.commit.ensures.intact.broken
+returns-in-Commit-clause-intact g c = record {
+  intact = broken-then c.commit.result _ _ (λ same. inl same) c.commit.ensures.intact.broken;
+  cause = stops-stored c.commit.result c.args.kept.now (g.D.Disk.size c.args.disk.now)
+      c.requires.kept.fitted c.commit.ensures.intact.cause;
+}
 
 pub returns-in-SubCreate-clause-intact : goal.returns-in-SubCreate-clause-intact
-returns-in-SubCreate-clause-intact g c =
-    intact-given c.args.command.now SubCreate c.args.kept.now c.create.new.kept _ _ c.create.result c.in-SubCreate.is
-    c.create.ensures.intact
+returns-in-SubCreate-clause-intact g c = record {
+  intact = intact-given c.args.command.now SubCreate c.args.kept.now c.create.new.kept _ _ c.create.result
+      c.in-SubCreate.is c.create.ensures.intact;
+  cause = c.create.ensures.stops;
+}
 
 pub returns-in-Snap-clause-intact : goal.returns-in-Snap-clause-intact
 returns-in-Snap-clause-intact g c =
     let at = c.in-Snap in
-    intact-given c.args.command.now (Snap at.sub c.as_slice.result.now) c.args.kept.now c.snap.new.kept _ _
-    c.snap.result (at.is ∙ ap (λ (groups : List ℕ). Snap at.sub groups) (sym c.as_slice.ensures))
-    c.snap.ensures.intact
+    record {
+      intact = intact-given c.args.command.now (Snap at.sub c.as_slice.result.now) c.args.kept.now c.snap.new.kept _ _
+          c.snap.result (at.is ∙ ap (λ (groups : List ℕ). Snap at.sub groups) (sym c.as_slice.ensures))
+          c.snap.ensures.intact;
+      cause = c.snap.ensures.stops;
+    }
 
 pub returns-in-Delete-clause-intact : goal.returns-in-Delete-clause-intact
-returns-in-Delete-clause-intact g c =
-    intact-given c.args.command.now (Delete c.in-Delete.sub) c.args.kept.now c.delete.new.kept _ _ c.delete.result
-    c.in-Delete.is c.delete.ensures.intact
+returns-in-Delete-clause-intact g c = record {
+  intact = intact-given c.args.command.now (Delete c.in-Delete.sub) c.args.kept.now c.delete.new.kept _ _
+      c.delete.result c.in-Delete.is c.delete.ensures.intact;
+  cause = c.delete.ensures.stops;
+}
 
 -- ---- how much is read
 

@@ -2,6 +2,7 @@ use Rattle.std.proofs.Common.{arith, inl, refl}
 use Rattle.qg_kept_commit.specs.Calls.{commit_calls, unsure_calls}
 use Rattle.qg_kept_commit.specs.FsLawsKeeping.{other_names}
 use Rattle.qg_kept_commit.proofs.Reserve.{finds-planned}
+use Rattle.qg_kept_commit.proofs.Stopped.{stops-stored}
 use Rattle.qg_store.proofs.Committed.{committed-none, committed-some, on-if, room-committed, room-same}
 use Rattle.qg_kept_changes.proofs.Fitting.{on-ok}
 use Rattle.qg_store.proofs.Committed.{on-err-then, settled-committed, settled-same, so-far-pending, some-number}
@@ -29,6 +30,7 @@ returns-then-kept-eq0-clause-calls g c = record {
   none = λ is. refl;
   calls = λ some. absurd (omega (arith, some, c.if-kept-eq0.true));
   intact = tt;
+  cause = tt;
 }
 
 -- ---- something is
@@ -78,6 +80,8 @@ returns-clause-calls g c =
       none = λ is. absurd (omega (arith, is, some));
       calls = on-ok _ _ c.commit_now.result (λ leaves some. (leaves.nodes, leaves.calls)) c.commit_now.ensures.leaves;
       intact = c.commit_now.ensures.intact.broken;
+      cause = stops-stored c.commit_now.result c.args.kept.now (g.D.Disk.size c.args.disk.now)
+          c.requires.kept.fitted c.commit_now.ensures.intact.cause;
     }
 
 pub returns-clause-err : goal.returns-clause-err

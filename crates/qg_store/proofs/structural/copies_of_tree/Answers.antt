@@ -8,6 +8,7 @@ use Rattle.qg_kept_commit.proofs.Looked.{hand-among, is-subvolume, kept-looked, 
 use Rattle.qg_kept_commit.proofs.Stepped.{tree-kept}
 use Rattle.qg_kept_commit.proofs.Tables.{key-of-value}
 use Rattle.qg_kept_changes.proofs.Trees.{tree-is}
+use Rattle.qg_kept_commit.proofs.Stopped.{first-err}
 use Rattle.qg_store.proofs.structural.copies_of_tree.Goals as goal
 
 pub count_nodes-requires : goal.count_nodes-requires
@@ -72,3 +73,10 @@ returns-clause-kept g c =
     kept-looked c.args.kept.now _ _ _ _ _ c.requires.kept
     (looked-land c.args.kept.now c.count_nodes.new.land _ _ _ _ c.in_ok-nodes.ensures.read c.in_ok-nodes.ensures.space)
     c.in_ok-nodes.ensures.editable.backed
+
+-- ---- over any disk
+
+pub returns-in_err-nodes-clause-stops : goal.returns-in_err-nodes-clause-stops
+returns-in_err-nodes-clause-stops g c =
+    first-err ℕ c.from_residual.result _ c.args.kept.now (g.D.Disk.size c.args.disk.now) c.from_residual.ensures.1
+    c.in_err-nodes.ensures.stops

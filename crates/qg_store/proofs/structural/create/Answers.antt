@@ -17,6 +17,7 @@ use Rattle.qg_kept_commit.proofs.Stepped.{does_nothing}
 use Rattle.qg_store.proofs.Structured.{does-structural, early-second, held-created, last-settled, made-first}
 use Rattle.qg_store.proofs.Structured.{intact-first, intact-handed, made-second, so-far-first, so-far-second}
 use Rattle.qg_kept_commit.proofs.Turned.{looked-refl}
+use Rattle.qg_store.proofs.Stopped.{change-stored, pending-stored, second-stored}
 use Rattle.qg_store.proofs.structural.create.Goals as goal
 
 pub number_next-number-requires : goal.number_next-number-requires
@@ -294,3 +295,32 @@ returns-in_err-commit_now-clause-intact g c =
     c.in_ok-commit_pending.ensures.calls.calls
     (c.in_err-commit_now.ensures.err ∙ c.in_ok-create_change.ensures.superblock)
     (same ∙ c.in_ok-create_change.ensures.apart.0)) c.in_err-commit_now.ensures.intact.broken
+
+pub returns-in_err-commit_pending-clause-stops : goal.returns-in_err-commit_pending-clause-stops
+returns-in_err-commit_pending-clause-stops g c =
+    let residual = c.from_residual-in_err-commit_pending in
+    pending-stored (Unit {0}) residual.result _ c.args.kept.now c.args.kept.now (g.D.Disk.size c.args.disk.now)
+    (g.D.Disk.size c.args.disk.now) residual.ensures.1 refl refl
+    c.in_err-commit_pending.ensures.calls.cause
+
+pub returns-in_err-create_change-clause-stops : goal.returns-in_err-create_change-clause-stops
+returns-in_err-create_change-clause-stops g c =
+    let residual = c.from_residual-in_err-create_change in
+    change-stored (Unit {0}) residual.result _ c.args.kept.now c.args.kept.now c.commit_pending.new.kept
+    (g.D.Disk.size c.args.disk.now) (g.D.Disk.size c.args.disk.now) (g.D.Disk.size c.commit_pending.new.disk)
+    residual.ensures.1 c.in_ok-commit_pending.ensures.kept.fitted
+    refl
+    c.in_ok-commit_pending.ensures.sizes.0 refl c.in_ok-commit_pending.ensures.sizes.1
+    c.in_err-create_change.ensures.stops
+
+pub returns-in_err-commit_now-clause-stops : goal.returns-in_err-commit_now-clause-stops
+returns-in_err-commit_now-clause-stops g c =
+    let residual = c.from_residual-in_err-commit_now in
+    second-stored (Unit {0}) residual.result _ c.args.kept.now c.args.kept.now c.commit_pending.new.kept
+    c.create_change.new.kept (g.D.Disk.size c.args.disk.now) (g.D.Disk.size c.args.disk.now)
+    (g.D.Disk.size c.commit_pending.new.disk) (g.D.Disk.size c.create_change.new.disk) residual.ensures.1
+    c.in_ok-create_change.ensures.kept.fitted
+    refl
+    c.in_ok-commit_pending.ensures.sizes.0 c.in_ok-create_change.ensures.superblock refl
+    c.in_ok-commit_pending.ensures.sizes.1 c.in_ok-create_change.ensures.apart.1
+    c.in_err-commit_now.ensures.intact.cause

@@ -23,6 +23,7 @@ use Rattle.qg_store.proofs.Structured.{intact-first, intact-handed, made-second,
 use Rattle.qg_store.proofs.Structured.{so-far-second}
 use Rattle.qg_kept_commit.proofs.Turned.{looked-refl, looked-turned}
 use Rattle.qg_kept_commit.specs.Types.{KeptSubvolume}
+use Rattle.qg_store.proofs.Stopped.{change-stored, first-stored, pending-stored, second-stored}
 use Rattle.qg_store.proofs.structural.delete.Goals as goal
 
 pub turn_to-requires : goal.turn_to-requires
@@ -470,3 +471,41 @@ returns-in_err-commit_now-clause-intact g c =
     c.in_ok-commit_pending.ensures.calls.none c.in_ok-commit_pending.ensures.calls.calls
     (c.in_err-commit_now.ensures.err ∙ c.in_ok-delete_change.ensures.superblock)
     (same ∙ c.in_ok-delete_change.ensures.apart.0)) c.in_err-commit_now.ensures.intact.broken
+
+pub returns-in_err-copies-clause-stops : goal.returns-in_err-copies-clause-stops
+returns-in_err-copies-clause-stops g c =
+    let history = g.D.Disk.history c.args.disk.now in
+    let bytes = g.D.Disk.size c.args.disk.now in
+    first-stored ℕ c.from_residual.result _ c.args.kept.now c.turn_to.new.kept bytes c.from_residual.ensures.1
+    (c.turn_to.ensures.kept history bytes c.requires.kept).fitted c.turn_to.ensures.superblock
+    c.in_err-copies.ensures.stops
+
+pub returns-in_err-commit_pending-clause-stops : goal.returns-in_err-commit_pending-clause-stops
+returns-in_err-commit_pending-clause-stops g c =
+    let residual = c.from_residual-in_err-commit_pending in
+    pending-stored (Unit {0}) residual.result _ c.args.kept.now c.copies_of_tree.new.kept
+    (g.D.Disk.size c.args.disk.now) (g.D.Disk.size c.copies_of_tree.new.disk) residual.ensures.1
+    (ap (λ (k : Kept). k.superblock) c.in_ok-copies.ensures.looked.same ∙ c.turn_to.ensures.superblock)
+    c.in_ok-copies.ensures.looked.size c.in_err-commit_pending.ensures.calls.cause
+
+pub returns-in_err-delete_change-clause-stops : goal.returns-in_err-delete_change-clause-stops
+returns-in_err-delete_change-clause-stops g c =
+    let residual = c.from_residual-in_err-delete_change in
+    change-stored (Unit {0}) residual.result _ c.args.kept.now c.copies_of_tree.new.kept c.commit_pending.new.kept
+    (g.D.Disk.size c.args.disk.now) (g.D.Disk.size c.copies_of_tree.new.disk) (g.D.Disk.size c.commit_pending.new.disk)
+    residual.ensures.1 c.in_ok-commit_pending.ensures.kept.fitted
+    (ap (λ (k : Kept). k.superblock) c.in_ok-copies.ensures.looked.same ∙ c.turn_to.ensures.superblock)
+    c.in_ok-commit_pending.ensures.sizes.0 c.in_ok-copies.ensures.looked.size c.in_ok-commit_pending.ensures.sizes.1
+    c.in_err-delete_change.ensures.stops
+
+pub returns-in_err-commit_now-clause-stops : goal.returns-in_err-commit_now-clause-stops
+returns-in_err-commit_now-clause-stops g c =
+    let residual = c.from_residual-in_err-commit_now in
+    second-stored (Unit {0}) residual.result _ c.args.kept.now c.copies_of_tree.new.kept c.commit_pending.new.kept
+    c.delete_change.new.kept (g.D.Disk.size c.args.disk.now) (g.D.Disk.size c.copies_of_tree.new.disk)
+    (g.D.Disk.size c.commit_pending.new.disk) (g.D.Disk.size c.delete_change.new.disk) residual.ensures.1
+    c.in_ok-delete_change.ensures.kept.fitted
+    (ap (λ (k : Kept). k.superblock) c.in_ok-copies.ensures.looked.same ∙ c.turn_to.ensures.superblock)
+    c.in_ok-commit_pending.ensures.sizes.0 c.in_ok-delete_change.ensures.superblock c.in_ok-copies.ensures.looked.size
+    c.in_ok-commit_pending.ensures.sizes.1 c.in_ok-delete_change.ensures.apart.1
+    c.in_err-commit_now.ensures.intact.cause

@@ -20,6 +20,7 @@ use Rattle.qg_store.proofs.Reasoned.{too-many-by, too-many-same}
 use Rattle.qg_kept_commit.proofs.Stepped.{does_nothing}
 use Rattle.qg_store.proofs.Structured.{does-structural, early-second, held-snapped, last-settled, made-first}
 use Rattle.qg_store.proofs.Structured.{intact-first, intact-handed, made-second, so-far-first, so-far-second}
+use Rattle.qg_store.proofs.Stopped.{change-stored, pending-stored, second-stored}
 use Rattle.qg_store.proofs.structural.snap.Goals as goal
 
 pub turn_to-requires : goal.turn_to-requires
@@ -469,3 +470,31 @@ returns-in_err-commit_now-clause-intact g c =
     c.in_ok-commit_pending.ensures.calls.none c.in_ok-commit_pending.ensures.calls.calls
     (c.in_err-commit_now.ensures.err ∙ c.in_ok-snap_change.ensures.superblock)
     (same ∙ c.in_ok-snap_change.ensures.apart.0)) c.in_err-commit_now.ensures.intact.broken
+
+pub returns-in_err-commit_pending-clause-stops : goal.returns-in_err-commit_pending-clause-stops
+returns-in_err-commit_pending-clause-stops g c =
+    let residual = c.from_residual-in_err-commit_pending in
+    pending-stored (Unit {0}) residual.result _ c.args.kept.now c.turn_to.new.kept (g.D.Disk.size c.args.disk.now)
+    (g.D.Disk.size c.args.disk.now) residual.ensures.1 c.turn_to.ensures.superblock refl
+    c.in_err-commit_pending.ensures.calls.cause
+
+pub returns-in_err-snap_change-clause-stops : goal.returns-in_err-snap_change-clause-stops
+returns-in_err-snap_change-clause-stops g c =
+    let residual = c.from_residual-in_err-snap_change in
+    change-stored (Unit {0}) residual.result _ c.args.kept.now c.turn_to.new.kept c.commit_pending.new.kept
+    (g.D.Disk.size c.args.disk.now) (g.D.Disk.size c.args.disk.now) (g.D.Disk.size c.commit_pending.new.disk)
+    residual.ensures.1 c.in_ok-commit_pending.ensures.kept.fitted
+    c.turn_to.ensures.superblock
+    c.in_ok-commit_pending.ensures.sizes.0 refl c.in_ok-commit_pending.ensures.sizes.1
+    c.in_err-snap_change.ensures.stops
+
+pub returns-in_err-commit_now-clause-stops : goal.returns-in_err-commit_now-clause-stops
+returns-in_err-commit_now-clause-stops g c =
+    let residual = c.from_residual-in_err-commit_now in
+    second-stored (Unit {0}) residual.result _ c.args.kept.now c.turn_to.new.kept c.commit_pending.new.kept
+    c.snap_change.new.kept (g.D.Disk.size c.args.disk.now) (g.D.Disk.size c.args.disk.now)
+    (g.D.Disk.size c.commit_pending.new.disk) (g.D.Disk.size c.snap_change.new.disk) residual.ensures.1
+    c.in_ok-snap_change.ensures.kept.fitted
+    c.turn_to.ensures.superblock
+    c.in_ok-commit_pending.ensures.sizes.0 c.in_ok-snap_change.ensures.superblock refl
+    c.in_ok-commit_pending.ensures.sizes.1 c.in_ok-snap_change.ensures.apart.1 c.in_err-commit_now.ensures.intact.cause

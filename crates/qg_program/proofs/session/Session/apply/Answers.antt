@@ -24,9 +24,9 @@ returns-in-Err-clause-told g c = λ is.
 
 pub returns-in-Err-clause-why : goal.returns-in-Err-clause-why
 returns-in-Err-clause-why g c = λ is.
-    tells-why c.in-Err.stop c.end_of.new.text c.args.command.now _ _ _ _ c.in-Err.ensures.stops
-    (c.end_of.ensures.told is)
+    tells-why c.in-Err.stop c.end_of.new.text c.args.command.now _ _ _ _ _ _ c.in-Err.ensures.stops
+    c.in-Err.ensures.intact.cause (c.end_of.ensures.told is)
 
 pub returns-in-Err-clause-intact : goal.returns-in-Err-clause-intact
 returns-in-Err-clause-intact g c = λ is.
-    c.in-Err.ensures.intact (tells-image c.in-Err.stop c.end_of.new.text (c.end_of.ensures.told is))
+    c.in-Err.ensures.intact.intact (tells-image c.in-Err.stop c.end_of.new.text (c.end_of.ensures.told is))

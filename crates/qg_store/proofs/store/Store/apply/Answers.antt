@@ -8,13 +8,17 @@ use Rattle.qg_num.specs.declared.command.Command.{Command}
 use Rattle.qg_num.specs.declared.command.Command.TheVariants.{Commit}
 use Rattle.qg_num.specs.declared.fault.BlockFault.{BlockFault}
 use Rattle.qg_num.specs.declared.fault.BlockFault.TheVariants.{Disk, Image, NoMemory}
+use Rattle.qg_num.specs.declared.fault.Stop.{Stop}
 use Rattle.qg_image.specs.State.{State}
+use Rattle.qg_blocks.specs.Stopping.{StopsForCause}
 use Rattle.qg_blocks.specs.Told.{BreaksNone, IfBroken}
 use Rattle.qg_kept_commit.specs.Answering.{comes_to_disk}
 use Rattle.qg_kept_commit.specs.Keeping.{IsKeptOf}
-use Rattle.qg_kept_commit.specs.Stored.{ComesToDisk, IsIntact, IsStoreOf, Stored, is_of_image}
+use Rattle.qg_kept_commit.specs.Stored.{ComesToDisk, IsIntact, IsStoreOf, Stored, is_of_image, sizes_stored}
 use Rattle.qg_store.proofs.Counted.{steps-done, steps-stopped}
+use Rattle.qg_store.specs.Stopping.{HasStopCause}
 use Rattle.qg_store.proofs.Outlived.{outlives}
+use Rattle.qg_store.proofs.Stopped.{cause-of-stop}
 use Rattle.qg_store.proofs.store.Store.apply.Goals as goal
 
 -- a fault that names no rule stops a store for no rule
@@ -96,11 +100,26 @@ of-image NoMemory Holds broken is = absurd (true≢false (sym is))
 of-image Disk Holds broken is = absurd (true≢false (sym is))
 of-image (Image rule address) Holds broken is = broken
 
+pub returns-in-Some-clause-intact : goal.returns-in-Some-clause-intact
+returns-in-Some-clause-intact g c = record { intact = λ is. absurd (true≢false (sym is)); cause = tt }
+
+pub returns-in-Ok-clause-intact : goal.returns-in-Ok-clause-intact
+returns-in-Ok-clause-intact g c = record { intact = tt; cause = tt }
+
 pub returns-in-Err-clause-intact : goal.returns-in-Err-clause-intact
-returns-in-Err-clause-intact g c = λ is.
-    subst (λ (s : Stored). IsIntact c.args.command.now s.kept c.answer.new.kept (g.D.Disk.history c.args.disk.now)
-    (g.D.Disk.history c.answer.new.disk)) c.self.view_is
-    (of-image c.in-Err.fault _ c.in-Err.ensures.intact (ap is_of_image (sym c.stop_of-stop.ensures) ∙ is))
+returns-in-Err-clause-intact g c =
+    let bytes = g.D.Disk.size c.args.disk.now in
+    record {
+      intact = λ is.
+          subst (λ (s : Stored). IsIntact c.args.command.now s.kept c.answer.new.kept
+          (g.D.Disk.history c.args.disk.now) (g.D.Disk.history c.answer.new.disk)) c.self.view_is
+          (of-image c.in-Err.fault _ c.in-Err.ensures.intact.intact (ap is_of_image (sym c.stop_of-stop.ensures) ∙ is));
+      cause = subst (λ (stop : Stop). HasStopCause (sizes_stored c.args.self.now) bytes stop)
+          (sym c.stop_of-stop.ensures)
+          (cause-of-stop c.in-Err.fault (sizes_stored c.args.self.now) bytes
+          (subst (λ (s : Stored). StopsForCause {A = Answer} (Err c.in-Err.fault) (sizes_stored s) bytes)
+          c.self.view_is c.in-Err.ensures.intact.cause));
+    }
 
 -- ---- the steps that were taken
 
