@@ -4,9 +4,9 @@ ghost use Rattle.std.specs.List.Sorted.{IsNonDecreasingBy, IsStrictlyIncreasing}
 ghost use Rattle.qg_image.specs.Table.{keys_of};
 ghost use Rattle.qg_image.specs.Owed.{part_address};
 
-use qg_home::Linked;
 use qg_image::ExtentPart;
 use qg_num::{Address, RootId};
+use qg_owner_rule::Linked;
 
 /// Whether roots ascend by the numbers of their subvolumes.
 pub(crate) fn do_roots_ascend(roots: &[(RootId, Address)]) -> bool

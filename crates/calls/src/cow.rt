@@ -1,6 +1,6 @@
 // Calls of which references change where a node that subvolume 5 made is copied or left.
 use call_lines::{Fault, told};
-use qg_cow::{Edits, Leaving, edits, leaving};
+use qg_cow_refs::{Edits, Leaving, edits, leaving};
 use qg_num::RootId;
 use std::alloc::Global;
 

@@ -1,7 +1,7 @@
 // Calls on groups and their relations.
 use call_lines::{Fault, add_group, add_word, told};
-use qg_hier::{HierFault, Hierarchy};
 use qg_num::GroupId;
+use qg_qgroups::{HierFault, Hierarchy};
 use std::alloc::Global;
 
 /// What a call gives that cannot be refused here.

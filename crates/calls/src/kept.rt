@@ -1,15 +1,14 @@
 // What the calls of a file are made on.
 use crate::{cow, edit, files, hier, limits, quota, shape, space};
 use call_lines::{Calls, Fault, first_word, numbers_of};
-use qg_hier::Hierarchy;
-use qg_limits::Limits;
 use qg_node::Node;
+use qg_qgroups::{Hierarchy, Limits};
 use qg_space::Space;
 use std::alloc::Global;
 
 /// What the calls of a file are made on: each has what the calls before it left.
 #[derive(Drop)]
-pub(crate) struct Kept {
+pub(crate) struct StructureCalls {
     file: Vec<u64>,
     space: Space,
     hierarchy: Hierarchy,
@@ -17,9 +16,9 @@ pub(crate) struct Kept {
     quota: Node,
 }
 
-impl Calls for Kept {
-    fn begin(alloc: Global) -> Result<Kept, Fault> {
-        Ok(Kept {
+impl Calls for StructureCalls {
+    fn begin(alloc: Global) -> Result<StructureCalls, Fault> {
+        Ok(StructureCalls {
             file: Vec::new(alloc),
             space: space::fresh(alloc)?,
             hierarchy: Hierarchy::new(alloc),

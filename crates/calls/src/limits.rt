@@ -1,7 +1,7 @@
 // Calls on the limits of groups.
 use call_lines::{Fault, add_group, add_word, told, told_number};
-use qg_limits::Limits;
 use qg_num::{Counters, GroupId, Which};
+use qg_qgroups::Limits;
 use std::alloc::Global;
 
 /// Holds so many bytes for one group, if the sum fits.

@@ -13,7 +13,7 @@ mod quota;
 mod shape;
 mod space;
 
-use crate::kept::Kept;
+use crate::kept::StructureCalls;
 use anyhow::Result;
 use call_lines::make_all;
 use std::process::ExitCode;
@@ -24,5 +24,5 @@ const FILES: [&str; 8] = [
 ];
 
 fn main(rt: HostRuntime) -> Result<ExitCode> {
-    make_all::<Kept, _>(&rt, &FILES)
+    make_all::<StructureCalls, _>(&rt, &FILES)
 }

@@ -1,8 +1,8 @@
 // Calls on the items of a quota tree, where subvolume 5 alone is live.
 use call_lines::{Fault, add_group, add_word, bytes_of, numbers_of, told, told_number};
-use qg_groups::QuotaState;
 use qg_node::{Body, Header, Item, Items, Node};
 use qg_num::{Address, Generation, GroupId, Key, RootId};
+use qg_qgroups::QuotaState;
 use qg_quota::{QuotaFault, from_items, to_items};
 use std::alloc::Global;
 

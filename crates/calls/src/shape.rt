@@ -11,8 +11,8 @@ use call_lines::{Fault, numbers_of, told, told_number};
 use qg_node::{Item, Node};
 use qg_num::{Address, Key};
 use qg_shape::{
-    Joined, child_for, find_item, first_key, insert_item, insert_pointer, is_overfull, is_thin,
-    join, pointer_to, remove_item, remove_pointer, replace_body, set_pointer, split,
+    Joined, child_for, find_item, insert_item, insert_pointer, is_overfull, is_thin, join,
+    pointer_to, remove_item, remove_pointer, replace_body, set_pointer, split,
 };
 use std::alloc::Global;
 
@@ -168,7 +168,7 @@ fn answer_of_one(
         ("find", [key]) => found(alloc, &leaf(alloc, keys, 0)?, key_of(*key)),
         ("lead", [key]) => led(alloc, &inner(alloc, keys)?, key_of(*key)),
         ("first-key", []) => {
-            let key = first_key(&leaf(alloc, keys, 0)?);
+            let key = leaf(alloc, keys, 0)?.first_key();
             told_number(alloc, key.map(|key| key.objectid))
         }
         ("pointer-to", []) => {

@@ -8,7 +8,7 @@ use std::alloc::Global;
 
 /// What the calls of a file are made on: each has what the calls before it left.
 #[derive(Drop)]
-pub(crate) struct Kept {
+pub(crate) struct FormatCalls {
     bytes: Vec<u8>,
     node: Node,
     generator: Generator,
@@ -32,9 +32,9 @@ fn answer_bytes(
     told(alloc, "done")
 }
 
-impl Calls for Kept {
-    fn begin(alloc: Global) -> Result<Kept, Fault> {
-        Ok(Kept {
+impl Calls for FormatCalls {
+    fn begin(alloc: Global) -> Result<FormatCalls, Fault> {
+        Ok(FormatCalls {
             bytes: Vec::new(alloc),
             node: nodes::empty(alloc),
             generator: Generator::new(alloc, 0, 0),

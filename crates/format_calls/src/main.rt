@@ -13,7 +13,7 @@ mod numbers;
 mod superblocks;
 mod words;
 
-use crate::kept::Kept;
+use crate::kept::FormatCalls;
 use anyhow::Result;
 use call_lines::make_all;
 use std::process::ExitCode;
@@ -31,5 +31,5 @@ const FILES: [&str; 8] = [
 ];
 
 fn main(rt: HostRuntime) -> Result<ExitCode> {
-    make_all::<Kept, _>(&rt, &FILES)
+    make_all::<FormatCalls, _>(&rt, &FILES)
 }

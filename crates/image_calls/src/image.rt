@@ -7,19 +7,19 @@ ghost use Rattle.qg_image.specs.Table.{keys_of};
 use crate::books::told_item;
 use crate::refs::reference_of;
 use call_lines::{Fault, add_word, first_word, numbers_of, told, told_if, told_number};
+use qg_backref_rule::{
+    Owing, Thing, owed_failure, owing_of_root, owings_of_node, references_failure, sort_things,
+    thing_of_extent, thing_of_node,
+};
 use qg_extents::{Extents, RefsFault};
-use qg_gathered::{Judged, NodesRead, judge_references};
-use qg_home::{Linked, homeless, linked_of};
 use qg_image::{Element, ExtentPart, Failure};
 use qg_items::kind::EXTENT_DATA;
 use qg_items::{EXTENT_DATA_BYTES, ExtentData, ExtentItem, write_extent_data};
 use qg_node::{Body, Header, Item, Items, Node, Pointer, Pointers};
 use qg_num::{Address, Generation, Key, RootId, Rule};
-use qg_owed::{
-    Owing, Thing, owed_failure, owing_of_root, owings_of_node, references_failure, sort_things,
-    thing_of_extent, thing_of_node,
-};
-use qg_reached::{Reached, SetId, reached_from};
+use qg_owner_rule::{Linked, homeless, linked_of};
+use qg_qgroup_counts::{Reached, SetId, reached_from};
+use qg_shared_walk::{NodesRead, ReferenceVerdict, judge_references};
 use qg_walk::NodeList;
 use std::alloc::Global;
 
@@ -391,8 +391,8 @@ fn judge_gathered(alloc: Global, image: &Image) -> Result<String, Fault> {
     let read = gathered(alloc, image)?;
     let extents = read.extents(alloc)?;
     match judge_references(alloc, read, roots, extents.as_slice(), parts)? {
-        Judged::Breaks(failure) => told_failure(alloc, Some(failure)),
-        Judged::Keeps(_) => told(alloc, "none"),
+        ReferenceVerdict::Breaks(failure) => told_failure(alloc, Some(failure)),
+        ReferenceVerdict::Keeps(_) => told(alloc, "none"),
     }
 }
 

@@ -8,15 +8,15 @@ use std::alloc::Global;
 
 /// What the calls of a file are made on: each has what the calls before it left.
 #[derive(Drop)]
-pub(crate) struct Kept {
+pub(crate) struct ImageCalls {
     refs: RefList,
     books: Weighed,
     image: Image,
 }
 
-impl Calls for Kept {
-    fn begin(alloc: Global) -> Result<Kept, Fault> {
-        Ok(Kept {
+impl Calls for ImageCalls {
+    fn begin(alloc: Global) -> Result<ImageCalls, Fault> {
+        Ok(ImageCalls {
             refs: RefList::new(alloc),
             books: books::empty(alloc)?,
             image: Image::new(alloc),

@@ -7,7 +7,7 @@ mod image;
 mod kept;
 mod refs;
 
-use crate::kept::Kept;
+use crate::kept::ImageCalls;
 use anyhow::Result;
 use call_lines::make_all;
 use std::process::ExitCode;
@@ -16,5 +16,5 @@ use std::process::ExitCode;
 const FILES: [&str; 4] = ["refs", "books", "reached", "references"];
 
 fn main(rt: HostRuntime) -> Result<ExitCode> {
-    make_all::<Kept, _>(&rt, &FILES)
+    make_all::<ImageCalls, _>(&rt, &FILES)
 }

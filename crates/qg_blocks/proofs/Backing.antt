@@ -15,10 +15,10 @@ use Rattle.lru.proofs.Splits.{Contains-cons, Contains-nil}
 use Rattle.qg_blocks.proofs.Telling.{fresh-set, is_at-same, is_at-other}
 use Rattle.qg_device.specs.History.{History, content}
 use Rattle.qg_node.specs.declared.node.Node.{Node}
-use Rattle.qg_blocks.specs.Held.{Draft, Held, with_node}
+use Rattle.qg_blocks.specs.NodesInMemory.{Draft, Held, with_node}
 use Rattle.qg_super.specs.declared.sizes.Sizes.{Sizes}
 use Rattle.qg_blocks.specs.Standing.{standing}
-use Rattle.qg_blocks.specs.Told.{IsBacked, IsNodeAt, StandsThere, fresh_at}
+use Rattle.qg_blocks.specs.NodesFound.{IsBacked, IsNodeAt, StandsThere, fresh_at}
 use Rattle.qg_blocks.specs.Writing.{AreWritten}
 
 -- fewer clean ones are so too, and beside fewer fresh ones

@@ -4,7 +4,7 @@ use Rattle.std.specs.Prelude.{Result, Ok, Err, IsErrAnd}
 use Rattle.qg_num.specs.declared.fault.BlockFault.{BlockFault}
 use Rattle.qg_num.specs.declared.fault.BlockFault.TheVariants.{NoMemory, Disk, Image}
 use Rattle.qg_super.specs.declared.sizes.Sizes.{Sizes}
-use Rattle.qg_blocks.specs.Told.{BreaksForCause, BreaksNone, IfBroken}
+use Rattle.qg_blocks.specs.NodesFound.{BreaksForCause, BreaksNone, IfBroken}
 
 -- what holds in any case
 pub broken-any : {A : Type 0} (result : Result A BlockFault) (Holds : Type 0) → Holds → IfBroken result Holds

@@ -9,8 +9,8 @@ use Rattle.std.specs.BTreeMap.{is_at}
 use Rattle.std.specs.Map.{keys_of, lookup}
 use Rattle.qg_device.specs.History.{History}
 use Rattle.qg_node.specs.declared.node.Node.{Node}
-use Rattle.qg_blocks.specs.Held.{Draft}
-use Rattle.qg_blocks.specs.Told.{IsNodeAt, fresh_at}
+use Rattle.qg_blocks.specs.NodesInMemory.{Draft}
+use Rattle.qg_blocks.specs.NodesFound.{IsNodeAt, fresh_at}
 use Rattle.qg_blocks.specs.Writing.{ArePlaced, AreWritten, HasFlushed, HasWritten}
 use Rattle.qg_blocks.proofs.Telling.{is_at-same, same_by}
 use Rattle.qg_blocks.proofs.Written.{Keeps-fewer, Keeps-then}

@@ -10,7 +10,7 @@ use Rattle.qg_super.specs.declared.sizes.Sizes.{Sizes}
 use Rattle.qg_super.specs.Places.{is_slot}
 use Rattle.qg_blocks.specs.Standing.{has_slot}
 use Rattle.qg_blocks.specs.Stopping.{IsMisfit, IsStopCause, NamesRule, StopsForCause}
-use Rattle.qg_blocks.specs.Told.{BreaksAt, BreaksForCause, BreaksNone, HasNoNode}
+use Rattle.qg_blocks.specs.NodesFound.{BreaksAt, BreaksForCause, BreaksNone, HasNoNode}
 use Rattle.qg_blocks.proofs.Broken.{handed}
 
 -- ---- one call

@@ -21,10 +21,11 @@ use Rattle.qg_num.specs.declared.fault.BlockFault.{BlockFault}
 use Rattle.qg_num.specs.declared.fault.BlockFault.TheVariants.{NoMemory, Disk, Image}
 use Rattle.qg_device.specs.History.{Event, History, Recorded, Unrecorded, content}
 use Rattle.qg_node.specs.declared.node.Node.{Node}
-use Rattle.qg_blocks.specs.Held.{Draft, Held, with_node}
+use Rattle.qg_blocks.specs.NodesInMemory.{Draft, Held, with_node}
 use Rattle.qg_blocks.specs.Standing.{standing}
-use Rattle.qg_blocks.specs.Told.{Answers, BreaksNone, IsAtHand, IsBacked, IsNodeAt, StandsThere, clean_at, first_of}
-use Rattle.qg_blocks.specs.Told.{found, fresh_at, fresh_or, held_at, told, told_or}
+use Rattle.qg_blocks.specs.NodesFound.{Answers, BreaksNone, IsAtHand, IsBacked, IsNodeAt, StandsThere, clean_at}
+use Rattle.qg_blocks.specs.NodesFound.{first_of}
+use Rattle.qg_blocks.specs.NodesFound.{found, fresh_at, fresh_or, held_at, told, told_or}
 use Rattle.qg_blocks.specs.Writing.{AreWritten}
 use Rattle.qg_super.specs.declared.sizes.Sizes.{Sizes}
 

@@ -19,9 +19,9 @@ use Rattle.qg_image.specs.declared.failure.Failure.{Failure}
 use Rattle.qg_image.specs.declared.failure.Failure.TheVariants.{Broken}
 use Rattle.qg_image.specs.Walk.{in_slot, node_found, read_there}
 use Rattle.qg_image.specs.ItemsUnder.{nodes_of}
-use Rattle.qg_blocks.specs.Held.{Draft, slots_of}
+use Rattle.qg_blocks.specs.NodesInMemory.{Draft, slots_of}
 use Rattle.qg_blocks.specs.Standing.{has_slot, ruled, standing}
-use Rattle.qg_blocks.specs.Told.{fresh_at, told, told_or}
+use Rattle.qg_blocks.specs.NodesFound.{fresh_at, told, told_or}
 use Rattle.qg_blocks.proofs.Stands.{standing-nowhere, standing-read}
 
 -- the walk's answer at an address, for what stands there

@@ -15,9 +15,9 @@ use Rattle.qg_super.specs.declared.sizes.Sizes.{Sizes}
 use Rattle.qg_super.specs.Places.{is_served, is_slot, second_place, slots_begin}
 use Rattle.qg_super.proofs.Served.{SizesFit-is_served}
 use Rattle.qg_super.proofs.Slots.{IsSlotAt-is_slot, slot_ends}
-use Rattle.qg_blocks.specs.Held.{Draft, Held}
+use Rattle.qg_blocks.specs.NodesInMemory.{Draft, Held}
 use Rattle.qg_blocks.specs.Standing.{has_slot, standing}
-use Rattle.qg_blocks.specs.Told.{IsBacked, fresh_at, told, told_or}
+use Rattle.qg_blocks.specs.NodesFound.{IsBacked, fresh_at, told, told_or}
 use Rattle.qg_blocks.specs.Writing.{AreWritten, HasWritten, Keeps}
 use Rattle.qg_blocks.proofs.Ranges.{range-overlay_apart, range-overlay_same}
 use Rattle.qg_blocks.proofs.Stands.{HasSlot-has_slot, standing-nowhere, standing-read}

@@ -4,7 +4,7 @@ use Rattle.std.specs.Borrow.{Fml, Lends, LendsSo, MutBor}
 use Rattle.std.specs.Option.{OnSome}
 use Rattle.qg_node.specs.declared.node.Node.{Node}
 use Rattle.qg_node.specs.contracts.node.Node as node
-use Rattle.qg_blocks.specs.Held.{Held, with_node}
+use Rattle.qg_blocks.specs.NodesInMemory.{Held, with_node}
 use Rattle.qg_blocks.specs.contracts.blocks.Blocks.{the_row}
 
 -- another fresh node in the place of the one at an address

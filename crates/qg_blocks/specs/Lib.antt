@@ -6,9 +6,9 @@ pub use Rattle.qg_image.specs.ItemMeaning
 pub use Rattle.qg_image.specs.ItemsUnder
 pub use Rattle.qg_image.specs.Table
 pub use Rattle.qg_image.specs.Walk
-pub mod Held
+pub mod NodesInMemory
 pub mod Standing
-pub mod Told
+pub mod NodesFound
 pub mod Writing
 pub mod Lending
 pub mod Types

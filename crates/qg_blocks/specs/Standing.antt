@@ -8,7 +8,7 @@ use Rattle.qg_node.specs.declared.fault.NodeFault.{NodeFault}
 use Rattle.qg_node.specs.Reading.{node_read}
 use Rattle.qg_super.specs.declared.sizes.Sizes.{Sizes}
 use Rattle.qg_super.specs.Places.{is_slot}
-use Rattle.qg_image.specs.Failure.{rule_of}
+use Rattle.qg_node.specs.Rules.{rule_of}
 
 -- what was read, or the rule that is broken
 abbrev pub ruled : Result Node NodeFault → Result Node Rule

@@ -10,14 +10,14 @@ use Rattle.qg_node.specs.Nodes.{own_pointers}
 use Rattle.qg_super.specs.declared.sizes.Sizes.{Sizes}
 use Rattle.qg_super.specs.declared.superblock.Super.{Super}
 use Rattle.qg_image.specs.Walk.{node_failure}
-use Rattle.qg_blocks.specs.Types.{Broken, Expected, Tree}
-use Rattle.qg_blocks.specs.Told.{HasNoNode, IsNodeAt}
+use Rattle.qg_blocks.specs.Types.{Broken, Expected, TreeKind}
+use Rattle.qg_blocks.specs.NodesFound.{HasNoNode, IsNodeAt}
 
 -- A node that has a text and names an address is none such as a tree expects there: of the rules from `depth` to `item`
 -- this is the first that it breaks. They ask the level, the generation, the first key and the next one that the pointer
 -- above told, and the tree's owner
 pub record IsMisplaced (nodesize address : ℕ) (rule : Rule) : Type 0 where
-  pub tree : Tree
+  pub tree : TreeKind
   pub super : Super
   pub expected : Expected
   pub node : Node

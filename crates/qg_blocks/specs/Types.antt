@@ -2,4 +2,4 @@
 pub use Rattle.qg_image.specs.declared.expected.Expected.{Expected}
 pub use Rattle.qg_image.specs.declared.failure.Failure.{Failure}
 pub use Rattle.qg_image.specs.declared.failure.Failure.TheVariants.{Broken, Differs}
-pub use Rattle.qg_image.specs.declared.tree.Tree.{Tree}
+pub use Rattle.qg_image.specs.declared.tree.TreeKind.{TreeKind}

@@ -3,9 +3,9 @@ use Rattle.std.specs.Prelude.{◌≡◌, ◌≢◌, ℕ, List, Some, None, Ok, I
 use Rattle.qg_device.specs.History.{Event, History, Recorded, content}
 use Rattle.qg_node.specs.declared.node.Node.{Node}
 use Rattle.qg_super.specs.declared.sizes.Sizes.{Sizes}
-use Rattle.qg_blocks.specs.Held.{Draft}
+use Rattle.qg_blocks.specs.NodesInMemory.{Draft}
 use Rattle.qg_blocks.specs.Standing.{has_slot, standing}
-use Rattle.qg_blocks.specs.Told.{IsNodeAt, StandsThere, fresh_at}
+use Rattle.qg_blocks.specs.NodesFound.{IsNodeAt, StandsThere, fresh_at}
 
 -- a fresh node can be written to a disk of so many bytes: it has a text, and its address is that of a slot inside
 pub record IsPlaced (sizes : Sizes) (bytes address : ℕ) (node : Node) : Type 0 where

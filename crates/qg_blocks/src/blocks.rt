@@ -13,10 +13,11 @@ ghost use Rattle.qg_node.specs.Nodes.{header_of};
 ghost use Rattle.qg_node.specs.declared.node.Node.{Node as NodeValue};
 ghost use Rattle.qg_super.specs.Places.{is_served};
 ghost use Rattle.lru.specs.LruCache.{lru_cache, promoted, put_entries};
-ghost use Rattle.qg_blocks.specs.Held.{most_clean, nothing_fresh, slots_of};
+ghost use Rattle.qg_blocks.specs.NodesInMemory.{most_clean, nothing_fresh, slots_of};
 ghost use Rattle.qg_blocks.specs.Standing.{standing};
-ghost use Rattle.qg_blocks.specs.Told.{Answers, BreaksForCause, BreaksNone, Finds, IsAtHand, IsBacked, IsNodeAt};
-ghost use Rattle.qg_blocks.specs.Told.{StandsThere, StaysBacked, clean_at, first_of, found, fresh_at, held_at, told};
+ghost use Rattle.qg_blocks.specs.NodesFound.{Answers, BreaksForCause, BreaksNone, Finds, IsAtHand, IsBacked, IsNodeAt};
+ghost use Rattle.qg_blocks.specs.NodesFound.{StandsThere, StaysBacked, clean_at, first_of, found, fresh_at, held_at};
+ghost use Rattle.qg_blocks.specs.NodesFound.{told};
 ghost use Rattle.qg_blocks.specs.Writing.{AreWritten};
 
 use crate::reading::read_at;
@@ -53,7 +54,7 @@ struct Shelf {
 impl Model for Blocks {
     ghost use Rattle.std.specs.Prelude.{◌≡◌, ◌≤◌, length, IsTrue};
     ghost use Rattle.qg_super.specs.Places.{is_served};
-    ghost use Rattle.qg_blocks.specs.Held.{Held, most_clean};
+    ghost use Rattle.qg_blocks.specs.NodesInMemory.{Held, most_clean};
 
     ghost Value = { Held };
 

@@ -5,12 +5,11 @@ ghost use Rattle.qg_device.specs.History.{Event, Recorded, content};
 ghost use Rattle.qg_num.specs.declared.fault.BlockFault.TheVariants.{Disk as DiskFailed};
 ghost use Rattle.qg_node.specs.NodeText.{IsNodeSize};
 ghost use Rattle.qg_super.specs.Places.{is_served};
-ghost use Rattle.qg_image.specs.Failure.{rule_of};
 ghost use Rattle.qg_blocks.specs.Standing.{has_slot, standing};
-ghost use Rattle.qg_blocks.specs.Told.{BreaksForCause, Finds, IsNodeAt};
+ghost use Rattle.qg_blocks.specs.NodesFound.{BreaksForCause, Finds, IsNodeAt};
 
 use qg_disk::{Disk, DiskFault};
-use qg_node::{Node, NodeFault, ReadFault, read_node};
+use qg_node::{Node, ReadFault, read_node};
 use qg_num::{Address, BlockFault, Rule};
 use qg_super::Sizes;
 use std::alloc::Global;
@@ -43,7 +42,7 @@ pub(crate) fn read_at<D: Disk>(
     }
     match read_node(alloc, buffer, address) {
         Ok(node) => Ok(node),
-        Err(ReadFault::Bad(fault)) => Err(broken(rule_of(fault), address)),
+        Err(ReadFault::Bad(fault)) => Err(broken(fault.rule(), address)),
         Err(ReadFault::NoMemory) => Err(BlockFault::NoMemory),
     }
 }
@@ -55,21 +54,6 @@ pub fn has_slot(sizes: &Sizes, bytes: u64, address: Address) -> bool
     ensures { result ≡ has_slot sizes.now bytes address }
 {
     sizes.is_slot(address) && sizes.nodesize <= bytes && address.value() <= bytes - sizes.nodesize
-}
-
-/// The rule that bytes break as a node.
-fn rule_of(fault: NodeFault) -> Rule
-    ensures { result ≡ rule_of fault }
-{
-    match fault {
-        NodeFault::Csum => Rule::Csum,
-        NodeFault::Place => Rule::Place,
-        NodeFault::Level => Rule::Level,
-        NodeFault::Empty => Rule::Empty,
-        NodeFault::Bounds => Rule::Bounds,
-        NodeFault::Order => Rule::Order,
-        NodeFault::Slack => Rule::Slack,
-    }
 }
 
 // The fault that a rule is broken at an address.

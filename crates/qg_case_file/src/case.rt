@@ -54,7 +54,7 @@ pub struct Wanted {
 
 /// One call of the program (this project's own).
 #[derive(Drop)]
-pub struct Run {
+pub struct CaseRun {
     /// The words of the command line.
     pub words: Vec<String>,
     /// The bytes of the source.
@@ -84,7 +84,7 @@ pub enum Step {
     /// An empty disk is taken.
     Empty,
     /// The program is called.
-    Run(Run),
+    Run(CaseRun),
     /// Bytes of the disk are set.
     Set { at: u64, bytes: Vec<u8> },
     /// The checksum of a node or a superblock is made right.
@@ -150,10 +150,10 @@ impl Wanted {
     }
 }
 
-impl Run {
+impl CaseRun {
     /// A call with these words, without input, of which nothing is to fail.
-    pub(crate) fn new(alloc: Global, words: Vec<String>) -> Run {
-        Run {
+    pub(crate) fn new(alloc: Global, words: Vec<String>) -> CaseRun {
+        CaseRun {
             words,
             input: Vec::new(alloc),
             plan: Plan::new(alloc),

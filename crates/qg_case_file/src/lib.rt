@@ -14,7 +14,7 @@ mod read;
 mod steps;
 mod text;
 
-pub use case::{Case, Crashes, Flip, Number, Part, Plan, Run, Step, Wanted};
+pub use case::{Case, CaseRun, Crashes, Flip, Number, Part, Plan, Step, Wanted};
 pub use fault::{CaseFault, Complaint, NoMemory};
 pub use files::{case_names, case_text};
 pub use read::read_case;

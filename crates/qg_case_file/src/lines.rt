@@ -1,7 +1,7 @@
 // What the lines of a run add to it.
 use crate::numbers::{choice_of, choices_of, number_of, small_number_of};
 use crate::text::{escaped_of, first_word, hex_of, line_of};
-use crate::{Complaint, Crashes, Flip, Run};
+use crate::{CaseRun, Complaint, Crashes, Flip};
 use std::alloc::Global;
 
 /// The bytes that a line of input or of output stands for: `<` and `>` a line, `<<` and `>>` bytes without a newline.
@@ -24,7 +24,7 @@ fn add_times(bytes: &mut Vec<u8>, piece: &[u8], times: u64) -> Result<(), Compla
 /// Adds a line of input or of output to a run, so many times.
 pub(crate) fn add_piece(
     alloc: Global,
-    run: &mut Run,
+    run: &mut CaseRun,
     mark: &str,
     text: &str,
     times: u64,
@@ -56,7 +56,7 @@ pub(crate) fn add_piece_of_crashes(
 }
 
 /// Adds a call of the disk that is wanted, or the first time that none is.
-pub(crate) fn add_call(alloc: Global, run: &mut Run, text: &str) -> Result<(), Complaint> {
+pub(crate) fn add_call(alloc: Global, run: &mut CaseRun, text: &str) -> Result<(), Complaint> {
     let mut calls = match run.wanted.calls.take() {
         Some(calls) => calls,
         None => Vec::new(alloc),
@@ -69,7 +69,7 @@ pub(crate) fn add_call(alloc: Global, run: &mut Run, text: &str) -> Result<(), C
 }
 
 // The calls of an object that are to fail.
-fn add_failing(alloc: Global, run: &mut Run, text: &str) -> Result<(), Complaint> {
+fn add_failing(alloc: Global, run: &mut CaseRun, text: &str) -> Result<(), Complaint> {
     let (object, numbers) = first_word(text);
     let numbers = choices_of(alloc, numbers)?;
     match object {
@@ -95,7 +95,7 @@ fn flip_of(alloc: Global, text: &str) -> Result<Flip, Complaint> {
 /// Adds what another line of a run says.
 pub(crate) fn add_to_run(
     alloc: Global,
-    run: &mut Run,
+    run: &mut CaseRun,
     word: &str,
     text: &str,
 ) -> Result<(), Complaint> {

@@ -3,12 +3,12 @@ use crate::lines::{add_piece, add_piece_of_crashes, add_to_run};
 use crate::numbers::{number_of, two_numbers_of};
 use crate::steps::step_of;
 use crate::text::{first_word, line_of, without_comment, words_of};
-use crate::{Complaint, Part, Run, Step};
+use crate::{CaseRun, Complaint, Part, Step};
 use std::alloc::{AllocError, Global};
 
 impl Part {
     // The run to which a line belongs.
-    fn last_run(&mut self) -> Result<&mut Run, Complaint> {
+    fn last_run(&mut self) -> Result<&mut CaseRun, Complaint> {
         match self.steps.last_mut() {
             Some((_, Step::Run(run))) => Ok(run),
             _ => Err(Complaint::NoRun),
@@ -58,7 +58,7 @@ impl Part {
 
     // Adds an empty disk over which these words make an image.
     fn add_disk(&mut self, alloc: Global, number: u64, text: &str) -> Result<(), AllocError> {
-        let mut run = Run::new(alloc, words_of(alloc, text)?);
+        let mut run = CaseRun::new(alloc, words_of(alloc, text)?);
         run.wanted.put = line_of(alloc, "ok mkfs")?;
         self.add_step(number, Step::Empty)?;
         self.add_step(number, Step::Run(run))
@@ -85,14 +85,14 @@ impl Part {
             "each" | "after" => self.add_head(alloc, word, text)?,
             "disk" => self.add_disk(alloc, number, text)?,
             "run" | "mkfs" => {
-                let run = Run::new(alloc, words_of(alloc, line)?);
+                let run = CaseRun::new(alloc, words_of(alloc, line)?);
                 self.add_step(number, Step::Run(run))?;
             }
             "words" => {
-                let run = Run::new(alloc, words_of(alloc, text)?);
+                let run = CaseRun::new(alloc, words_of(alloc, text)?);
                 self.add_step(number, Step::Run(run))?;
             }
-            "no-words" => self.add_step(number, Step::Run(Run::new(alloc, Vec::new(alloc))))?,
+            "no-words" => self.add_step(number, Step::Run(CaseRun::new(alloc, Vec::new(alloc))))?,
             "state" => self.add_state(alloc)?,
             "fail" | "stop" | "flip" | "status" | "calls" | "@" => {
                 let run = self.last_run()?;

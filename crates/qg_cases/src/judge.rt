@@ -42,17 +42,17 @@ impl Cases {
 
 // The disk of a part.
 #[derive(Drop)]
-struct Judged {
+struct DiskOfPart {
     disk: MemDisk,
     // How many calls it had answered when the last run over it began.
     before: u64,
 }
 
-impl Judged {
+impl DiskOfPart {
     // A disk over which no run has begun.
-    fn new(disk: MemDisk) -> Judged {
+    fn new(disk: MemDisk) -> DiskOfPart {
         let before = disk.calls().len() as u64;
-        Judged { disk, before }
+        DiskOfPart { disk, before }
     }
 }
 
@@ -101,10 +101,14 @@ fn judge_length(
 }
 
 // Goes on with what a crash left, where there is such a crash.
-fn go_on(left: Option<MemDisk>, judged: &mut Judged, report: &mut Report) -> Result<(), NoMemory> {
+fn go_on(
+    left: Option<MemDisk>,
+    judged: &mut DiskOfPart,
+    report: &mut Report,
+) -> Result<(), NoMemory> {
     match left {
         Some(disk) => {
-            *judged = Judged::new(disk);
+            *judged = DiskOfPart::new(disk);
             Ok(())
         }
         None => done(false, report),
@@ -117,12 +121,12 @@ fn judge_step<P: Program>(
     program: &P,
     step: &Step,
     each: u64,
-    judged: &mut Judged,
+    judged: &mut DiskOfPart,
     report: &mut Report,
 ) -> Result<(), NoMemory> {
     match step {
         Step::Empty => {
-            *judged = Judged::new(MemDisk::new(alloc));
+            *judged = DiskOfPart::new(MemDisk::new(alloc));
             Ok(())
         }
         Step::Run(run) => {
@@ -163,7 +167,7 @@ fn judge_steps<P: Program>(
     program: &P,
     part: &Part,
     each: u64,
-    judged: &mut Judged,
+    judged: &mut DiskOfPart,
     report: &mut Report,
 ) -> Result<(), NoMemory> {
     for (line, step) in part.steps.iter() {
@@ -211,7 +215,7 @@ fn judge_part<P: Program>(
     if part.steps.is_empty() {
         report.tell("a part has no step")?;
     }
-    let mut judged = Judged::new(MemDisk::new(alloc));
+    let mut judged = DiskOfPart::new(MemDisk::new(alloc));
     let earlier = earlier_parts(alloc, cases, part, report)?;
     for before in earlier.iter().rev() {
         let mut unread = Report::new(alloc);

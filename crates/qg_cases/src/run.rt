@@ -2,7 +2,7 @@
 use crate::Report;
 use crate::calls::{call_texts, is_read};
 use crate::disk::CaseDisk;
-use qg_case_file::{NoMemory, Number, Plan, Run, Wanted};
+use qg_case_file::{CaseRun, NoMemory, Number, Plan, Wanted};
 use qg_disk::MemDisk;
 use qg_edge::{MemSink, MemSource};
 use std::alloc::Global;
@@ -147,7 +147,7 @@ fn judge_calls(
 // The disk that a run is called over, which made so many calls before: where bytes are to change, they do.
 fn disk_of(
     alloc: Global,
-    run: &Run,
+    run: &CaseRun,
     each: u64,
     made: u64,
     disk: MemDisk,
@@ -165,7 +165,7 @@ fn disk_of(
 fn call_planned<P: Program>(
     alloc: Global,
     program: &P,
-    run: &Run,
+    run: &CaseRun,
     each: u64,
     made: u64,
     disk: &mut MemDisk,
@@ -183,7 +183,7 @@ fn call_planned<P: Program>(
 pub(crate) fn judge_run<P: Program>(
     alloc: Global,
     program: &P,
-    run: &Run,
+    run: &CaseRun,
     each: u64,
     disk: &mut MemDisk,
     report: &mut Report,

@@ -23,11 +23,11 @@ use Rattle.qg_image.specs.State.{Layout, Placed}
 use Rattle.qg_image.proofs.Contained.{contains_cases, contains_here, none_contained}
 use Rattle.qg_reach.proofs.Members.{contains_map}
 use Rattle.qg_refs.specs.Book.{Book, full_in, what_in}
-use Rattle.qg_owed.proofs.Filters.{kept_contains}
-use Rattle.qg_owed.proofs.Layouts.{if_something}
-use Rattle.qg_owed.proofs.NumberSets.{number_set_same}
+use Rattle.qg_backref_rule.proofs.Filters.{kept_contains}
+use Rattle.qg_backref_rule.proofs.Layouts.{if_something}
+use Rattle.qg_backref_rule.proofs.NumberSets.{number_set_same}
 use Rattle.qg_extents.specs.Laws.{IsOwing}
-use Rattle.qg_extents.specs.Told.{IsTold, parts_at, tells_full, the_only, told_in, told_sum, what_told}
+use Rattle.qg_extents.specs.BookRecords.{IsTold, parts_at, tells_full, the_only, told_in, told_sum, what_told}
 use Rattle.qg_extents.proofs.Agreeing.{agrees_here, book_agrees}
 use Rattle.qg_check.specs.IsImage.{IsBookOf, extent_known, node_known}
 

@@ -16,10 +16,10 @@ use Rattle.qg_image.specs.Counts.{direct_count, due_counters}
 use Rattle.qg_image.specs.declared.failure.Failure.{Failure}
 use Rattle.qg_image.specs.Failure.{first_failure}
 use Rattle.qg_image.specs.Verdict.{counted, counts_failure, group_failure}
-use Rattle.qg_home.proofs.Listed.{at_one, at_read}
-use Rattle.qg_direct.specs.Direct.{AreGroupCounts}
-use Rattle.qg_groups.specs.declared.state.QuotaState.{QuotaState}
-use Rattle.qg_groups.specs.Tracked.{IsTracked}
+use Rattle.qg_owner_rule.proofs.Listed.{at_one, at_read}
+use Rattle.qg_qgroup_counts.specs.Direct.{AreGroupCounts}
+use Rattle.qg_qgroups.specs.declared.state.QuotaState.{QuotaState}
+use Rattle.qg_qgroups.specs.Tracked.{IsTracked}
 
 -- ---- one after the other
 

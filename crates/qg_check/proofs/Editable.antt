@@ -7,8 +7,8 @@ use Rattle.std.proofs.lemmas.List.Folds.{list_all-append}
 use Rattle.qg_super.specs.declared.superblock.Super.{Super}
 use Rattle.qg_super.specs.Places.{is_slot}
 use Rattle.qg_super.specs.SuperText.{sizes_of}
-use Rattle.qg_groups.specs.declared.state.QuotaState.{QuotaState}
-use Rattle.qg_groups.specs.Tracked.{quota_of, HoldsAll, IsTracked}
+use Rattle.qg_qgroups.specs.declared.state.QuotaState.{QuotaState}
+use Rattle.qg_qgroups.specs.Tracked.{quota_of, HoldsAll, IsTracked}
 use Rattle.qg_check.specs.declared.image.Image.{Image}
 use Rattle.qg_check.specs.declared.judge.Read.{Read}
 use Rattle.qg_check.specs.declared.trees.QuotaTree.{QuotaTree}
@@ -17,7 +17,7 @@ use Rattle.qg_items.specs.declared.root.RootItem.{RootItem}
 use Rattle.qg_image.specs.Table.{keys_of}
 use Rattle.qg_check.specs.Editable.{AreGroupsOf, AreSubvolumes}
 use Rattle.qg_check.specs.Trees.{quota_nodes_read}
-use Rattle.qg_check.specs.Whole.{IsFit}
+use Rattle.qg_check.specs.ReadImage.{IsFit}
 use Rattle.qg_check.proofs.Recorded.{known_by}
 
 pass_three : (test : ℕ → Bool) (a b c : List ℕ) → list_all test a ≡ true → list_all test b ≡ true

@@ -30,7 +30,7 @@ use Rattle.qg_image.specs.Below.{inner_pointers, items_below, joined, leaf_items
 use Rattle.qg_image.specs.ItemMeaning.{when}
 use Rattle.qg_image.proofs.Contained.{none_contained, contains_here, contains_cases}
 use Rattle.qg_image.specs.declared.failure.Failure.{Failure}
-use Rattle.qg_image.specs.declared.tree.Tree.{Tree}
+use Rattle.qg_image.specs.declared.tree.TreeKind.{TreeKind}
 use Rattle.qg_image.specs.declared.expected.Expected.{Expected}
 use Rattle.qg_image.specs.Walk.{in_slot, node_found}
 use Rattle.qg_image.specs.ItemsUnder.{is_way, items_under, nodes_of, nodes_under}
@@ -252,7 +252,7 @@ when_some true given x is = is
 when_some false given x is = absurd cc
 
 -- so are the items of a tree, where no rule is broken on the way
-pub items_under-nodes : (tree : Tree) (super : Super) (found : ℕ → Result Node Failure) (level : ℕ)
+pub items_under-nodes : (tree : TreeKind) (super : Super) (found : ℕ → Result Node Failure) (level : ℕ)
     (expected : Expected) (address : ℕ) (items : List Item) (nodes : List Node)
     → items_under tree super found level expected address ≡ Some items
     → nodes_under tree super found level expected address ≡ Some nodes → items ≡ flat_map own_items nodes

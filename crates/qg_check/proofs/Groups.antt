@@ -24,11 +24,11 @@ use Rattle.qg_image.specs.Verdict.{is_status_part}
 use Rattle.qg_image.specs.Walk.{are_by, tells_generation}
 use Rattle.qg_image.specs.declared.failure.Failure.TheVariants.{Broken}
 use Rattle.qg_image.specs.Failure.{first_failure, unless}
-use Rattle.qg_parts.specs.Keys.{quota_key}
-use Rattle.qg_hier.specs.Groups.{IsSound}
+use Rattle.qg_tree_items.specs.Keys.{quota_key}
+use Rattle.qg_qgroups.specs.Groups.{IsSound}
 use Rattle.qg_quota.specs.Quota.{quota_rule}
 use Rattle.qg_check.specs.Editable.{AreGroups}
-use Rattle.qg_owed.proofs.NumberSets.{Ascends}
+use Rattle.qg_backref_rule.proofs.NumberSets.{Ascends}
 use Rattle.qg_check.proofs.Relations.{pairs_few}
 use Rattle.qg_check.proofs.Rising.{groups_ascend, increases}
 

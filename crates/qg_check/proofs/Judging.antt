@@ -26,14 +26,14 @@ use Rattle.qg_reach.specs.Sets.{HaveSame}
 use Rattle.qg_reach.proofs.ExtentSets.{extent_set_of_same, extent_set_same}
 use Rattle.qg_reach.proofs.Distinct.{apart_same}
 use Rattle.qg_refs.specs.Book.{Book}
-use Rattle.qg_home.proofs.Reaching.{entry_of_value}
-use Rattle.qg_owed.proofs.Layouts.{some_or_none}
+use Rattle.qg_owner_rule.proofs.Reaching.{entry_of_value}
+use Rattle.qg_backref_rule.proofs.Layouts.{some_or_none}
 use Rattle.qg_extents.specs.Laws.{AreFew}
-use Rattle.qg_extents.specs.Told.{IsTold, records_failure}
+use Rattle.qg_extents.specs.BookRecords.{IsTold, records_failure}
 use Rattle.qg_extents.proofs.Agreeing.{owed-sound}
-use Rattle.qg_shared_walk.specs.Types.{NodesRead}
+use Rattle.qg_shared_walk.specs.declared.nodes.NodesRead.{NodesRead}
 use Rattle.qg_shared_walk.specs.Gathered.{AreGathered}
-use Rattle.qg_shared_walk.specs.Told.{AreOfNodes}
+use Rattle.qg_shared_walk.specs.NodeFacts.{AreOfNodes}
 use Rattle.qg_shared_walk.proofs.Runs.{at_is, at_none}
 use Rattle.qg_shared_walk.proofs.Verdicts.{extents_apart, named_there, no_extent}
 use Rattle.qg_check.specs.declared.judge.Read.{Read}

@@ -3,7 +3,7 @@ pub mod Said
 pub mod Ascending
 pub mod Rising
 pub mod Named
-pub mod Held
+pub mod ItemsOfFiles
 pub mod Passing
 pub mod Staging
 pub mod Verdicts

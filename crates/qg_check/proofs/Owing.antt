@@ -28,7 +28,7 @@ use Rattle.qg_image.specs.Owed.{reference_offset, is_nothing, what_at, Nothing, 
 use Rattle.qg_image.specs.Reach.{extent_of, piece_of_part, pieces_of}
 use Rattle.qg_image.specs.State.{Layout, Placed, layout_of}
 use Rattle.qg_image.proofs.Contained.{contains_cases, contains_here, none_contained}
-use Rattle.qg_image.specs.declared.tree.Tree.TheVariants.{Files}
+use Rattle.qg_image.specs.declared.tree.TreeKind.TheVariants.{Files}
 use Rattle.qg_image.specs.ItemsUnder.{is_way, nodes_of}
 use Rattle.qg_image.specs.ImageState.{extent_parts, level_in, nodes_of_root, placed, state_in}
 use Rattle.qg_image.specs.Walk.{node_found, root_told}
@@ -36,10 +36,10 @@ use Rattle.qg_image.specs.Below.{nodes_below}
 use Rattle.qg_image.specs.ItemMeaning.{when}
 use Rattle.qg_reach.proofs.Members.{contains_flat_map, contains_map, one_flat_mapped, one_mapped}
 use Rattle.qg_reach.proofs.Reached.{address_of}
-use Rattle.qg_home.proofs.Reaching.{entry_of_value}
-use Rattle.qg_owed.proofs.Layouts.{if_something, some_or_none, something_if}
+use Rattle.qg_owner_rule.proofs.Reaching.{entry_of_value}
+use Rattle.qg_backref_rule.proofs.Layouts.{if_something, some_or_none, something_if}
 use Rattle.qg_extents.specs.Laws.{IsOwing}
-use Rattle.qg_shared_walk.specs.Types.{NodesRead}
+use Rattle.qg_shared_walk.specs.declared.nodes.NodesRead.{NodesRead}
 use Rattle.qg_shared_walk.specs.Gathered.{AreGathered, root_at}
 use Rattle.qg_shared_walk.proofs.Apart.{tree_under}
 use Rattle.qg_shared_walk.proofs.Found.{found_is}

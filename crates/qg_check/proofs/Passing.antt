@@ -15,15 +15,15 @@ use Rattle.qg_image.specs.declared.part.QuotaPart.{QuotaPart}
 use Rattle.qg_items.specs.ItemReading.{root_read}
 use Rattle.qg_image.specs.ItemMeaning.{when, is_subvolume_number, some_passes, root_part, root_part_stamps, extent_part}
 use Rattle.qg_image.specs.ItemMeaning.{extent_part_stamps, quota_part, quota_part_stamps}
-use Rattle.qg_image.specs.declared.tree.Tree.TheVariants.{Roots, Extents, Quotas}
+use Rattle.qg_image.specs.declared.tree.TreeKind.TheVariants.{Roots, Extents, Quotas}
 use Rattle.qg_image.specs.ImageState.{subvolume_roots}
 use Rattle.qg_image.specs.Walk.{are_by, is_item_of, tells_generation}
-use Rattle.qg_walk.specs.Held.{AreHeld}
+use Rattle.qg_walk.specs.WalkKeeps.{AreHeld}
 use Rattle.qg_image.specs.Verdict.{are_roots}
 use Rattle.qg_node.specs.Nodes.{is_ascending}
 use Rattle.qg_image.specs.Table.{keys_of}
-use Rattle.qg_parts.specs.Keys.{root_key}
-use Rattle.qg_contents.specs.Writable.{IsRootBy}
+use Rattle.qg_tree_items.specs.Keys.{root_key}
+use Rattle.qg_root_items.specs.Writable.{IsRootBy}
 use Rattle.qg_check.specs.Editable.{AreSubvolumes}
 use Rattle.qg_check.proofs.Named.{are_roots_asked, top_there}
 use Rattle.qg_check.proofs.Rising.{increases, subvolumes_ascend}

@@ -1,34 +1,32 @@
 -- What the items of the extent tree tell, whatever the disk tells.
-use Rattle.std.proofs.Common.{◌≡◌, ℕ, ◌≤◌, Bool, true, false, List, [], ◌∷◌, map, length, get_or, refl, sym, ap, subst}
+use Rattle.std.proofs.Common.{◌≡◌, ℕ, ◌≤◌, true, List, [], ◌∷◌, map, get_or, refl, sym, ap, subst}
 use Rattle.std.proofs.Common.{◌∙◌, arith}
-use Rattle.std.specs.Prelude.{All, Option, Some, None, ◌==◌, ◌&&◌, nat_le}
+use Rattle.std.specs.Prelude.{All, Option, Some, None, ◌==◌, nat_le}
 use Rattle.std.specs.List.{AllByRecursion, Contains, filter, list_all}
 use Rattle.std.specs.List.Sorted.{IsNonDecreasingBy}
-use Rattle.std.specs.Option.{option_and_then, option_map}
+use Rattle.std.specs.Option.{option_and_then}
 use Rattle.std.proofs.lemmas.Bool.{and_from, and_parts, le-leb, leb-true}
 use Rattle.std.proofs.lemmas.List.Elements.{All-contains, recursion_from_All}
 use Rattle.std.proofs.lemmas.List.Sums.{AllPass-from_list_all}
 use Rattle.std.proofs.lemmas.Option.{same_Some}
 use Rattle.qg_node.specs.declared.item.Item.{Item}
-use Rattle.qg_items.specs.declared.kind.TheConstants.{EXTENT_ITEM, METADATA_ITEM, TREE_BLOCK_REF, EXTENT_DATA_REF}
-use Rattle.qg_items.specs.declared.kind.TheConstants.{SHARED_BLOCK_REF, SHARED_DATA_REF}
 use Rattle.qg_items.specs.declared.extent.Reference.TheVariants.{KeyedBlock, SharedBlock, KeyedData, SharedData}
-use Rattle.qg_items.specs.ItemReading.{extent_read, data_ref_read, shared_data_ref_read}
 use Rattle.qg_image.specs.declared.part.ExtentPart.{ExtentPart}
 use Rattle.qg_image.specs.declared.part.ExtentPart.TheVariants.{DataRecord, NodeRecord, Referenced}
-use Rattle.qg_image.specs.ItemMeaning.{when, ◌orelse◌, extent_part, extent_part_stamps}
-use Rattle.qg_parts.specs.Said.{AreSaid}
+use Rattle.qg_image.specs.ItemMeaning.{extent_part, extent_part_stamps}
+use Rattle.qg_tree_items.specs.Said.{AreSaid}
 use Rattle.qg_image.specs.Owed.{is_record, part_address}
 use Rattle.qg_image.proofs.Contained.{contains_here}
+use Rattle.qg_backref_rule.proofs.PartSaid.{holds-said}
 use Rattle.qg_image.specs.Walk.{are_by}
 use Rattle.qg_refs.specs.declared.kept.Kept.{Kept}
 use Rattle.qg_refs.specs.declared.kept.What.{What}
 use Rattle.qg_refs.specs.Book.{what_in}
-use Rattle.qg_owed.proofs.Filters.{kept_contains}
-use Rattle.qg_owed.proofs.KeyOrder.{parts_in_order}
+use Rattle.qg_backref_rule.proofs.Filters.{kept_contains}
+use Rattle.qg_backref_rule.proofs.KeyOrder.{parts_in_order}
 use Rattle.qg_extents.specs.Laws.{AreFew}
 use Rattle.qg_extents.specs.Table.{IsTable, book_of}
-use Rattle.qg_extents.specs.Told.{IsTold, AreInOrder, parts_at, the_only, the_record, what_told}
+use Rattle.qg_extents.specs.BookRecords.{IsTold, AreInOrder, parts_at, the_only, the_record, what_told}
 use Rattle.qg_extents.proofs.Sayable.{entry-found}
 use Rattle.qg_check.specs.Counts.{CountFits}
 
@@ -43,70 +41,16 @@ CountsOne (Referenced address (SharedBlock parent) count) = count ≡ 1
 CountsOne (Referenced address (KeyedData root ino offset) count) = Unit {0}
 CountsOne (Referenced address (SharedData parent) count) = Unit {0}
 
--- if something is said, then such
-abbrev IsSuch : Option ExtentPart → Type 0
-IsSuch given = (part : ExtentPart) → given ≡ Some part → CountsOne part
-
-such_some : (part : ExtentPart) → CountsOne part → IsSuch (Some part)
-such_some part is other same = subst CountsOne (same_Some part other same) is
-
-such_none : IsSuch None
-such_none other same = absurd cc
-
-such_when : (b : Bool) (given : Option ExtentPart) → IsSuch given → IsSuch (when b given)
-such_when true given is = is
-such_when false given is = such_none
-
-such_orelse : (first later : Option ExtentPart) → IsSuch first → IsSuch later → IsSuch (first orelse later)
-such_orelse None later is is' = is'
-such_orelse (Some part) later is is' = is
-
-such_map : {A : Type 0} (f : A → ExtentPart) (given : Option A) → ((x : A) → CountsOne (f x))
-    → IsSuch (option_map f given)
-such_map f None is = such_none
-such_map f (Some x) is = such_some (f x) (is x)
-
 counts_one : (item : Item) (part : ExtentPart) → extent_part item ≡ Some part → CountsOne part
-unfolding extent_part
 counts_one item =
-    let n : ℕ = item.key.objectid in
-    let number : ℕ = item.key.offset in
-    let kind : ℕ = item.key.kind in
-    let empty : Bool = length item.body == 0 in
-    let data_record : Option ExtentPart = option_map (DataRecord n number) (extent_read item.body) in
-    let node_record : Option ExtentPart = option_map (NodeRecord n number) (extent_read item.body) in
-    let tree : Option ExtentPart = Some (Referenced n (KeyedBlock number) 1) in
-    let parent : Option ExtentPart = Some (Referenced n (SharedBlock number) 1) in
-    let file : Option ExtentPart =
-    option_map (λ keyed. Referenced n (KeyedData keyed.root keyed.objectid keyed.offset) keyed.count)
-    (data_ref_read item.body) in
-    let leaf : Option ExtentPart = option_map (λ shared. Referenced n (SharedData number) shared.count)
-    (shared_data_ref_read item.body) in
-    let sixth : Option ExtentPart = when (kind == SHARED_DATA_REF) leaf in
-    let fifth : Option ExtentPart = when (kind == EXTENT_DATA_REF) file orelse sixth in
-    let fourth : Option ExtentPart = when ((kind == SHARED_BLOCK_REF) && empty) parent orelse fifth in
-    let third : Option ExtentPart = when ((kind == TREE_BLOCK_REF) && empty) tree orelse fourth in
-    let second : Option ExtentPart = when (kind == METADATA_ITEM) node_record orelse third in
-    let first : IsSuch data_record = such_map (DataRecord n number) (extent_read item.body) (λ x. tt) in
-    let sixth_is : IsSuch sixth =
-    such_when (kind == SHARED_DATA_REF) leaf (such_map (λ shared. Referenced n (SharedData number) shared.count)
-    (shared_data_ref_read item.body) (λ x. tt)) in
-    let file_is : IsSuch file =
-    such_map (λ keyed. Referenced n (KeyedData keyed.root keyed.objectid keyed.offset) keyed.count)
-    (data_ref_read item.body) (λ x. tt) in
-    let fifth_is : IsSuch fifth = such_orelse (when (kind == EXTENT_DATA_REF) file) sixth
-    (such_when (kind == EXTENT_DATA_REF) file file_is) sixth_is in
-    let fourth_is : IsSuch fourth = such_orelse (when ((kind == SHARED_BLOCK_REF) && empty) parent) fifth
-    (such_when ((kind == SHARED_BLOCK_REF) && empty) parent (such_some (Referenced n (SharedBlock number) 1) refl))
-    fifth_is in
-    let third_is : IsSuch third = such_orelse (when ((kind == TREE_BLOCK_REF) && empty) tree) fourth
-    (such_when ((kind == TREE_BLOCK_REF) && empty) tree (such_some (Referenced n (KeyedBlock number) 1) refl))
-    fourth_is in
-    let second_is : IsSuch second = such_orelse (when (kind == METADATA_ITEM) node_record) third
-    (such_when (kind == METADATA_ITEM) node_record (such_map (NodeRecord n number) (extent_read item.body) (λ x. tt)))
-    third_is in
-    such_orelse (when (kind == EXTENT_ITEM) data_record) second (such_when (kind == EXTENT_ITEM) data_record first)
-    second_is
+    holds-said CountsOne item (record {
+      data_record = λ extent. tt;
+      node_record = λ extent. tt;
+      tree = refl;
+      parent = refl;
+      file = λ keyed. tt;
+      leaf = λ shared. tt;
+    })
 
 -- no reference is told more often than it may be there
 few_first : (part : ExtentPart) (parts : List ExtentPart) → CountsOne part → CountFits part → AreFew parts

@@ -24,8 +24,8 @@ use Rattle.qg_image.specs.Members.{level_of_group}
 use Rattle.qg_image.proofs.Contained.{contains_here, contains_later}
 use Rattle.qg_image.specs.ImageState.{info_told, pair_told}
 use Rattle.qg_image.specs.Verdict.{are_few, fits_quota, has_twin, is_relation_part}
-use Rattle.qg_hier.specs.Groups.{pair_cmp}
-use Rattle.qg_hier.proofs.Sets.{pair_order}
+use Rattle.qg_qgroups.specs.Groups.{pair_cmp}
+use Rattle.qg_qgroups.proofs.Sets.{pair_order}
 use Rattle.qg_check.proofs.Pieces.{contains_given, one_given}
 
 -- ---- both ways

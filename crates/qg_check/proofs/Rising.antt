@@ -12,10 +12,10 @@ use Rattle.qg_image.specs.Table.{keys_of}
 use Rattle.qg_image.specs.ItemMeaning.{is_subvolume_number}
 use Rattle.qg_image.specs.declared.part.QuotaPart.{QuotaPart}
 use Rattle.qg_image.specs.declared.part.QuotaPart.TheVariants.{Status, Info, Limits, Relation}
-use Rattle.qg_parts.specs.Keys.{quota_key, root_key}
+use Rattle.qg_tree_items.specs.Keys.{quota_key, root_key}
 use Rattle.qg_image.proofs.Contained.{contains_cases, contains_here, none_contained}
 use Rattle.qg_image.specs.ImageState.{info_told, subvolume_roots}
-use Rattle.qg_owed.proofs.NumberSets.{Ascends}
+use Rattle.qg_backref_rule.proofs.NumberSets.{Ascends}
 use Rattle.qg_check.proofs.Ascending.{IsLess, ascending_behind, greater_behind}
 
 -- numbers of which each is less than all behind it increase

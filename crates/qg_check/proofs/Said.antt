@@ -8,8 +8,8 @@ use Rattle.qg_items.specs.declared.root.RootItem.{RootItem}
 use Rattle.qg_super.specs.declared.superblock.Super.{Super}
 use Rattle.qg_image.specs.ItemMeaning.{root_part, quota_part}
 use Rattle.qg_image.specs.Table.{value_at}
-use Rattle.qg_image.specs.declared.tree.Tree.{Tree}
-use Rattle.qg_image.specs.declared.tree.Tree.TheVariants.{Roots, Quotas}
+use Rattle.qg_image.specs.declared.tree.TreeKind.{TreeKind}
+use Rattle.qg_image.specs.declared.tree.TreeKind.TheVariants.{Roots, Quotas}
 use Rattle.qg_image.specs.Walk.{root_expected, root_told}
 use Rattle.qg_image.specs.ImageState.{roots_in, tree_items, items_of_root, quota_parts}
 use Rattle.qg_walk.specs.IsWalk.{IsWalk}
@@ -35,7 +35,7 @@ roots_read super image parts nodes walk =
     filter_map_said root_part (tree_items Roots super image (root_expected None None) super.root) parts walk.said
 
 -- and one of another tree what its items say
-pub tree_read : {P N : Type 0} {keeps : N → List Node → Type 0} (tree : Tree) (meaning : Item
+pub tree_read : {P N : Type 0} {keeps : N → List Node → Type 0} (tree : TreeKind) (meaning : Item
     → Option P) (super : Super) (image : List ℕ) (root : RootItem) (parts : List P) (nodes : N)
     → IsWalk tree meaning keeps super image (root_told root) root.bytenr parts nodes
     → filter_map meaning (items_of_root tree super image root) ≡ parts

@@ -9,9 +9,9 @@ use Rattle.qg_super.specs.declared.sizes.Sizes.{Sizes}
 use Rattle.qg_super.specs.Places.{is_slot}
 use Rattle.qg_image.proofs.Contained.{none_contained, contains_cases}
 use Rattle.qg_reach.specs.Sets.{HaveSame}
-use Rattle.qg_walk.specs.Held.{AreAddressesOf, AreInSlots}
-use Rattle.qg_shared_walk.specs.Types.{NodesRead}
-use Rattle.qg_shared_walk.specs.Told.{AreOfNodes}
+use Rattle.qg_walk.specs.WalkKeeps.{AreAddressesOf, AreInSlots}
+use Rattle.qg_shared_walk.specs.declared.nodes.NodesRead.{NodesRead}
+use Rattle.qg_shared_walk.specs.NodeFacts.{AreOfNodes}
 use Rattle.qg_shared_walk.proofs.Sorted.{lie_as_told, number_read}
 
 -- what all pass, each passes

@@ -11,19 +11,19 @@ use Rattle.qg_image.specs.declared.quota.Quota.{Quota}
 use Rattle.qg_image.specs.State.{layout_of}
 use Rattle.qg_image.specs.Owed.{Agrees, homeless}
 use Rattle.qg_image.specs.Space.{present_extents}
-use Rattle.qg_image.specs.declared.tree.Tree.TheVariants.{Extents, Quotas, Files}
+use Rattle.qg_image.specs.declared.tree.TreeKind.TheVariants.{Extents, Quotas, Files}
 use Rattle.qg_image.specs.ImageState.{state_in, quota_in, quota_parts, quota_root, other_nodes, extent_parts}
 use Rattle.qg_image.specs.ImageState.{nodes_of_root, of_tree, root_nodes, addresses_of}
 use Rattle.qg_image.specs.Verdict.{extent_set}
 use Rattle.qg_extents.specs.Table.{book_of}
-use Rattle.qg_extents.specs.Told.{IsTold}
+use Rattle.qg_extents.specs.BookRecords.{IsTold}
 use Rattle.qg_reach.specs.Sets.{HaveSame}
 use Rattle.qg_reach.proofs.Members.{contains_flat_map, contains_map, one_flat_mapped, one_mapped, same_on}
 use Rattle.qg_shared_walk.proofs.Verdicts.{nodes_of_all}
 use Rattle.qg_shared_walk.proofs.Sorted.{lie_as_told}
 use Rattle.qg_check.specs.declared.image.Image.{Image}
 use Rattle.qg_check.specs.IsImage.{IsBookOf, IsSubvolumeOf, StandsFor}
-use Rattle.qg_groups.specs.Tracked.{quota_of}
+use Rattle.qg_qgroups.specs.Tracked.{quota_of}
 use Rattle.qg_check.specs.declared.judge.Read.{Read}
 use Rattle.qg_check.specs.declared.trees.QuotaTree.{QuotaTree}
 use Rattle.qg_check.specs.Trees.{quota_nodes_read, AreRead, IsQuotaTreeOf}

@@ -17,14 +17,14 @@ use Rattle.qg_image.specs.declared.file.File.{File}
 use Rattle.qg_image.specs.declared.part.FilePart.{FilePart}
 use Rattle.qg_image.specs.FilesOf.{are_files, file_parts, files_in, AreItemsOfFiles}
 use Rattle.qg_image.specs.ItemMeaning.{file_part, when}
-use Rattle.qg_parts.specs.Held.{file_said}
+use Rattle.qg_tree_items.specs.PartsSaid.{file_said}
 use Rattle.qg_image.specs.declared.element.Element.{Element}
 use Rattle.qg_image.specs.Reach.{extent_of, pieces_of}
 use Rattle.qg_image.specs.Space.{present_extents}
 use Rattle.qg_image.specs.State.{Subvolume}
 use Rattle.qg_image.proofs.Contained.{contains_cases, contains_here, contains_later, none_contained}
 use Rattle.qg_image.specs.declared.failure.Failure.{Failure}
-use Rattle.qg_image.specs.declared.tree.Tree.TheVariants.{Files}
+use Rattle.qg_image.specs.declared.tree.TreeKind.TheVariants.{Files}
 use Rattle.qg_image.specs.Failure.{first_failure, unless}
 use Rattle.qg_image.specs.ItemsUnder.{is_way, items_under, nodes_of}
 use Rattle.qg_image.specs.ImageState.{items_of_root, level_in, nodes_of_root, roots_in, state_in, subvolume_in}
@@ -34,12 +34,12 @@ use Rattle.qg_image.specs.Walk.{is_item_of, node_found, root_told, tree_failure}
 use Rattle.qg_walk.proofs.Failures.{kept-none, neither}
 use Rattle.qg_reach.specs.Sets.{HaveSame}
 use Rattle.qg_reach.proofs.Members.{contains_flat_map, one_flat_mapped}
-use Rattle.qg_shared_walk.specs.Types.{NodesRead}
+use Rattle.qg_shared_walk.specs.declared.nodes.NodesRead.{NodesRead}
 use Rattle.qg_shared_walk.proofs.Apart.{tree_branch, tree_under}
 use Rattle.qg_check.specs.IsImage.{IsSubvolumeOf}
 use Rattle.qg_check.specs.Trees.{AreFileTrees}
 use Rattle.qg_check.proofs.Found.{items_below-is}
-use Rattle.qg_check.proofs.Held.{files_of_held}
+use Rattle.qg_check.proofs.ItemsOfFiles.{files_of_held}
 use Rattle.qg_check.proofs.Pieces.{pieces_same}
 
 -- ---- lists

@@ -26,17 +26,17 @@ use Rattle.qg_image.specs.ImageState.{state_in}
 use Rattle.qg_image.specs.Verdict.{counts_failure, extent_set, references_failure, space_failure, together_failure}
 use Rattle.qg_walk.specs.declared.fault.OpenFault.{OpenFault}
 use Rattle.qg_walk.specs.Fault.{TellsFailure}
-use Rattle.qg_walk.specs.Held.{AreInSlots}
+use Rattle.qg_walk.specs.WalkKeeps.{AreInSlots}
 use Rattle.qg_reach.specs.Sets.{HaveSame}
 use Rattle.qg_reach.proofs.SlotRule.{slots_few}
 use Rattle.qg_reach.proofs.SpaceRule.{bytes_fit}
-use Rattle.qg_direct.specs.declared.surveyed.Surveyed.{Surveyed}
-use Rattle.qg_direct.specs.Surveyed.{AreSurveyed}
-use Rattle.qg_shared_walk.specs.Types.{NodesRead}
+use Rattle.qg_qgroup_counts.specs.declared.surveyed.Surveyed.{Surveyed}
+use Rattle.qg_qgroup_counts.specs.Surveyed.{AreSurveyed}
+use Rattle.qg_shared_walk.specs.declared.nodes.NodesRead.{NodesRead}
 use Rattle.qg_shared_walk.specs.Gathered.{AreGathered, root_at}
-use Rattle.qg_shared_walk.specs.Told.{AreOfNodes}
-use Rattle.qg_groups.specs.declared.state.QuotaState.{QuotaState}
-use Rattle.qg_groups.specs.Tracked.{quota_of}
+use Rattle.qg_shared_walk.specs.NodeFacts.{AreOfNodes}
+use Rattle.qg_qgroups.specs.declared.state.QuotaState.{QuotaState}
+use Rattle.qg_qgroups.specs.Tracked.{quota_of}
 use Rattle.qg_check.specs.declared.judge.Read.{Read}
 use Rattle.qg_check.specs.declared.trees.QuotaTree.{QuotaTree}
 use Rattle.qg_check.specs.Editable.{AreSubvolumes}

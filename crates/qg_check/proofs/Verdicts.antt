@@ -8,7 +8,7 @@ use Rattle.qg_super.specs.Places.{first_place, second_place}
 use Rattle.qg_image.specs.Table.{value_at}
 use Rattle.qg_image.specs.declared.failure.Failure.{Failure}
 use Rattle.qg_image.specs.declared.failure.Failure.TheVariants.{Broken}
-use Rattle.qg_image.specs.declared.tree.Tree.TheVariants.{Extents}
+use Rattle.qg_image.specs.declared.tree.TreeKind.TheVariants.{Extents}
 use Rattle.qg_image.specs.Failure.{first_failure}
 use Rattle.qg_image.specs.ImageState.{super_in, super_of, roots_in, subvolume_roots}
 use Rattle.qg_image.specs.Verdict.{verdict, image_failure, root_failure, quota_failure, subvolume_failure}

@@ -8,8 +8,8 @@ use Rattle.qg_image.specs.Table.{has_key, keys_of}
 use Rattle.qg_image.specs.declared.quota.Quota.{Quota}
 use Rattle.qg_image.specs.Members.{hierarchy_of}
 use Rattle.qg_image.specs.Verdict.{is_group_number, most_groups, most_relations, most_subvolumes}
-use Rattle.qg_hier.specs.Groups.{IsSound}
-use Rattle.qg_contents.specs.Writable.{IsRootBy}
+use Rattle.qg_qgroups.specs.Groups.{IsSound}
+use Rattle.qg_root_items.specs.Writable.{IsRootBy}
 
 -- Subvolumes that the root tree of this generation can name: no more than an image can have, ascending by number, the
 -- top-level one among them; each tree has one reference, and its ROOT_ITEM tells no later generation

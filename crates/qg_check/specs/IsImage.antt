@@ -18,7 +18,7 @@ use Rattle.qg_image.specs.declared.element.Element.{Element}
 use Rattle.qg_image.specs.Owed.{Agrees, homeless, is_nothing, layout_extents, owed_count, what_at}
 use Rattle.qg_image.specs.State.{Layout, Placed, layout_of}
 use Rattle.qg_image.specs.Space.{present_extents}
-use Rattle.qg_image.specs.declared.tree.Tree.TheVariants.{Files}
+use Rattle.qg_image.specs.declared.tree.TreeKind.TheVariants.{Files}
 use Rattle.qg_image.specs.ImageState.{extent_parts, items_of_root, other_nodes, nodes_of_root, quota_in, roots_in}
 use Rattle.qg_image.specs.ImageState.{state_in, subvolume_roots, super_in, super_of, addresses_of}
 use Rattle.qg_image.specs.Verdict.{IsSound, extent_set, space_failure}
@@ -26,8 +26,8 @@ use Rattle.qg_reach.specs.Sets.{HaveSame}
 use Rattle.qg_refs.specs.declared.kept.What.{What}
 use Rattle.qg_refs.specs.Book.{AgreesWithOwed, Book, full_in, what_in}
 use Rattle.qg_extents.specs.Table.{IsTable, book_of}
-use Rattle.qg_extents.specs.Told.{IsTold}
-use Rattle.qg_groups.specs.Tracked.{HoldsAll, IsTracked, quota_of}
+use Rattle.qg_extents.specs.BookRecords.{IsTold}
+use Rattle.qg_qgroups.specs.Tracked.{HoldsAll, IsTracked, quota_of}
 use Rattle.qg_check.specs.Editable.{AreGroupsOf, AreSubvolumes}
 use Rattle.qg_check.specs.Stale.{stale_place}
 use Rattle.qg_check.specs.Trees.{quota_nodes_read}

@@ -9,7 +9,7 @@ use Rattle.qg_super.specs.SuperText.{sizes_of}
 use Rattle.qg_image.specs.Reach.{extent_of, pieces_of}
 use Rattle.qg_image.specs.Verdict.{extent_set, space_failure}
 use Rattle.qg_reach.specs.Sets.{HaveSame}
-use Rattle.qg_shared_walk.specs.Told.{AreOfNodes}
+use Rattle.qg_shared_walk.specs.NodeFacts.{AreOfNodes}
 use Rattle.qg_check.specs.Trees.{quota_nodes_read}
 use Rattle.qg_check.specs.declared.judge.JudgedTrees.{JudgedTrees}
 use Rattle.qg_check.specs.declared.judge.Read.{Read}

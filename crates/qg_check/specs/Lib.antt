@@ -4,6 +4,6 @@ pub mod Editable
 pub mod Trees
 pub mod IsImage
 pub mod Counts
-pub mod Whole
+pub mod ReadImage
 pub mod Judged
 pub mod Report

@@ -4,7 +4,7 @@ use Rattle.qg_items.specs.declared.root.RootItem.{RootItem}
 use Rattle.qg_super.specs.declared.superblock.Super.{Super}
 use Rattle.qg_super.specs.SuperText.{is_super}
 use Rattle.qg_image.specs.declared.failure.Failure.{Failure}
-use Rattle.qg_image.specs.declared.tree.Tree.TheVariants.{Extents}
+use Rattle.qg_image.specs.declared.tree.TreeKind.TheVariants.{Extents}
 use Rattle.qg_image.specs.Failure.{first_failure}
 use Rattle.qg_image.specs.Walk.{root_told, tree_failure}
 use Rattle.qg_image.specs.ImageState.{roots_in}

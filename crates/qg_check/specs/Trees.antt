@@ -9,16 +9,16 @@ use Rattle.qg_image.specs.Table.{value_at}
 use Rattle.qg_image.specs.ItemMeaning.{extent_part, extent_part_stamps, quota_part}
 use Rattle.qg_image.specs.declared.part.ExtentPart.{ExtentPart}
 use Rattle.qg_image.specs.Owed.{part_address}
-use Rattle.qg_image.specs.declared.tree.Tree.TheVariants.{Extents, Quotas}
+use Rattle.qg_image.specs.declared.tree.TreeKind.TheVariants.{Extents, Quotas}
 use Rattle.qg_image.specs.Failure.{first_failure}
 use Rattle.qg_image.specs.ImageState.{addresses_of, root_nodes, roots_in, subvolume_roots, items_of_root, nodes_of_root}
 use Rattle.qg_image.specs.ImageState.{quota_told}
 use Rattle.qg_image.specs.Walk.{are_by}
 use Rattle.qg_image.specs.Verdict.{are_roots, most_subvolumes, subvolume_failure}
 use Rattle.qg_extents.specs.Laws.{AreFew}
-use Rattle.qg_shared_walk.specs.Types.{NodesRead}
-use Rattle.qg_shared_walk.specs.GatheredFound.{AreFound}
-use Rattle.qg_shared_walk.specs.Told.{AreOfNodes}
+use Rattle.qg_shared_walk.specs.declared.nodes.NodesRead.{NodesRead}
+use Rattle.qg_shared_walk.specs.ReadOfTrees.{AreFound}
+use Rattle.qg_shared_walk.specs.NodeFacts.{AreOfNodes}
 use Rattle.qg_check.specs.declared.judge.Read.{Read}
 use Rattle.qg_check.specs.declared.trees.Trees.{Trees}
 use Rattle.qg_check.specs.declared.trees.ExtentTree.{ExtentTree}

@@ -1,7 +1,7 @@
 use qg_extents::Extents;
-use qg_groups::QuotaState;
 use qg_image::{Element, RootPart};
 use qg_num::{Address, Sequence};
+use qg_qgroups::QuotaState;
 use qg_super::Super;
 
 /// What a sound image stands for, but for how its nodes are cut (this project's own). Addresses are in bytes.

@@ -14,12 +14,12 @@ use qg_super::{FIRST_PLACE, SECOND_PLACE, SUPER_BYTES, Super, choose, read_super
 
 /// The superblocks that stand at the two places of an image.
 #[derive(Clone, Copy)]
-pub(crate) struct Places {
+pub(crate) struct SuperblockPlaces {
     pub first: Option<Super>,
     pub second: Option<Super>,
 }
 
-impl Places {
+impl SuperblockPlaces {
     /// The one that counts.
     pub(crate) fn chosen(&self) -> Option<Super>
         requires first { IfSome self.now.first FieldsFit }
@@ -61,7 +61,7 @@ impl Places {
 }
 
 /// Reads both places.
-pub(crate) fn read_places<D: Disk>(disk: &mut D) -> Result<Places, DiskFault>
+pub(crate) fn read_places<D: Disk>(disk: &mut D) -> Result<SuperblockPlaces, DiskFault>
     ensures first { (events : List Event) → D.history disk.old ≡ Recorded events
         → IfOk result (λ places. places.first ≡ super_in (content events) first_place) }
     ensures second { (events : List Event) → D.history disk.old ≡ Recorded events
@@ -74,7 +74,7 @@ pub(crate) fn read_places<D: Disk>(disk: &mut D) -> Result<Places, DiskFault>
 {
     let first = read_place(disk, FIRST_PLACE)?;
     let second = read_place(disk, SECOND_PLACE)?;
-    Ok(Places { first, second })
+    Ok(SuperblockPlaces { first, second })
 }
 
 // Reads one place, if the disk is so long.

@@ -11,16 +11,15 @@ ghost use Rattle.qg_check.specs.Stages.{trees_failure};
 ghost use Rattle.qg_check.specs.Editable.{AreSubvolumes};
 ghost use Rattle.qg_check.specs.Trees.{AreRead, AreTrees};
 ghost use Rattle.qg_check.specs.IsImage.{IsEditable, IsImage};
-ghost use Rattle.qg_check.specs.Whole.{IsFit, IsWhole};
+ghost use Rattle.qg_check.specs.ReadImage.{IsFit, IsWhole};
 
 use crate::Image;
 use crate::judge::{Read, judge_trees};
-use crate::places::{Places, read_places};
+use crate::places::{SuperblockPlaces, read_places};
 use crate::trees::{Trees, read_extents, read_quotas, read_roots};
 use qg_disk::Disk;
 use qg_num::{Address, Rule};
-use qg_shared_walk::gathered::NodesRead;
-use qg_shared_walk::read_subvolumes;
+use qg_shared_walk::{NodesRead, read_subvolumes};
 use qg_super::{FIRST_PLACE, SECOND_PLACE, Super};
 use qg_walk::OpenFault;
 use std::alloc::Global;
@@ -96,7 +95,7 @@ pub(crate) fn read_whole<D: Disk>(alloc: Global, disk: &mut D) -> Result<Whole, 
 }
 
 // Judges an image's length and its two superblocks.
-fn judge_places(len: u64, places: &Places, superblock: &Super) -> Result<(), OpenFault>
+fn judge_places(len: u64, places: &SuperblockPlaces, superblock: &Super) -> Result<(), OpenFault>
     requires served { IsTrue (is_served (sizes_of superblock.now)) }
     ensures failure { FailsAs result (places_failure superblock.now places.now.first places.now.second len) }
     ensures inside { OnOk result (total_bytes (sizes_of superblock.now) ≤ len) }

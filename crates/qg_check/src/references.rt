@@ -13,17 +13,17 @@ ghost use Rattle.qg_image.specs.ImageState.{state_in};
 ghost use Rattle.qg_image.specs.Verdict.{references_failure};
 ghost use Rattle.qg_walk.specs.Fault.{FailsAs, TellsFailure};
 ghost use Rattle.qg_extents.specs.Table.{IsTable, book_of};
-ghost use Rattle.qg_extents.specs.Told.{IsFault, IsTold, records_failure};
+ghost use Rattle.qg_extents.specs.BookRecords.{IsFault, IsTold, records_failure};
 ghost use Rattle.qg_reach.specs.Sets.{HaveSame};
-ghost use Rattle.qg_direct.specs.Surveyed.{AreSurveyed};
+ghost use Rattle.qg_qgroup_counts.specs.Surveyed.{AreSurveyed};
 ghost use Rattle.qg_shared_walk.specs.Gathered.{AreGathered, root_at};
 ghost use Rattle.qg_check.specs.Counts.{CountFits};
 
-use qg_direct::Surveyed;
 use qg_extents::{Extents, RefsFault};
 use qg_image::{Element, ExtentPart};
 use qg_num::{Address, RootId, Rule};
-use qg_shared_walk::gathered::{Judged, NodesRead, judge_references};
+use qg_qgroup_counts::Surveyed;
+use qg_shared_walk::{NodesRead, ReferenceVerdict, judge_references};
 use qg_walk::OpenFault;
 use std::alloc::Global;
 
@@ -52,8 +52,8 @@ pub(crate) fn judge_recorded(
     ensures no_disk { IsErrOf result OpenFault.Disk → ⊥ }
 {
     match judge_references(alloc, nodes, roots, extents, parts)? {
-        Judged::Keeps(surveyed) => Ok(surveyed),
-        Judged::Breaks(failure) => Err(OpenFault::from(failure)),
+        ReferenceVerdict::Keeps(surveyed) => Ok(surveyed),
+        ReferenceVerdict::Breaks(failure) => Err(OpenFault::from(failure)),
     }
 }
 

@@ -11,7 +11,7 @@ ghost use Rattle.qg_image.specs.Walk.{root_told};
 ghost use Rattle.qg_image.specs.ImageState.{roots_in, subvolume_roots};
 ghost use Rattle.qg_image.specs.Verdict.{are_roots, quota_failure, roots_failure};
 ghost use Rattle.qg_walk.specs.Fault.{FailsAs};
-ghost use Rattle.qg_groups.specs.Tracked.{quota_of, HoldsAll, IsTracked};
+ghost use Rattle.qg_qgroups.specs.Tracked.{quota_of, HoldsAll, IsTracked};
 ghost use Rattle.qg_check.specs.Editable.{AreGroups, AreGroupsOf, AreSubvolumes};
 ghost use Rattle.qg_check.specs.Stages.{extents_failure};
 ghost use Rattle.qg_check.specs.Trees.{quota_nodes_read, AreFitParts, AreNamed, AreTrees, HasTrees};
@@ -19,16 +19,15 @@ ghost use Rattle.qg_check.specs.Trees.{IsExtentTree, IsQuotaTree, IsQuotaTreeOf}
 
 use crate::references::look_at_counts;
 use qg_disk::Disk;
-use qg_groups::QuotaState;
 use qg_image::{Expected, ExtentPart, QuotaPart, RootPart};
 use qg_items::RootItem;
 use qg_items::tree::{EXTENT_TREE, QUOTA_TREE};
 use qg_num::{Address, RootId, Rule, Sequence};
-use qg_parts::is_subvolume_number;
+use qg_qgroups::QuotaState;
 use qg_quota::{QuotaFault, read_quota};
-use qg_rules::{are_roots, root_of};
 use qg_super::Super;
-use qg_walk::{OpenFault, walk_tree};
+use qg_tree_items::{are_roots, is_subvolume_number, root_of};
+use qg_walk::{OpenFault, root_told, walk_tree};
 use std::alloc::{AllocError, Global};
 
 // The most subvolumes that are served.
@@ -63,18 +62,6 @@ pub struct QuotaTree {
     pub quota: QuotaState,
     /// Where its nodes lie, in bytes.
     pub nodes: Sequence<Address>,
-}
-
-// What is expected of a root by its ROOT_ITEM.
-fn root_told(root: &RootItem) -> Expected
-    ensures { result ≡ root_told root.now }
-{
-    Expected {
-        level: Some(root.level),
-        generation: Some(root.generation),
-        from: None,
-        to: None,
-    }
 }
 
 /// Reads the root tree and judges what it names.

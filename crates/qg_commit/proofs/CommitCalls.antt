@@ -77,7 +77,7 @@ nodes_after nodesize front back old =
     ∙ after-same (λ events. with_nodes nodesize back (with_nodes nodesize front events))
     (with_nodes nodesize (front ++ back)) (λ events. sym (with_nodes-append nodesize front back events)) old
 
-superblocks_after : (super : Super) (nodes : List Node) (old : History)
+pub superblocks_after : (super : Super) (nodes : List Node) (old : History)
     → history_after (with_superblocks super) (history_after (with_nodes super.nodesize nodes) old)
     ≡ history_after (with_commit super nodes) old
 superblocks_after super nodes old =

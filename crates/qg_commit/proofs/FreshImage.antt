@@ -24,7 +24,7 @@ use Rattle.qg_image.specs.State.{State}
 use Rattle.qg_image.proofs.Contained.{contains_cases, contains_here, none_contained}
 use Rattle.qg_image.specs.Walk.{node_found}
 use Rattle.qg_image.specs.IsFresh.{fresh_leaf, fresh_state}
-use Rattle.qg_tree.specs.Build.{IsMadeFor}
+use Rattle.qg_tree_layout.specs.Build.{IsMadeFor}
 use Rattle.qg_extents.specs.Fresh.{fresh_table}
 use Rattle.qg_extents.specs.Table.{IsTable}
 use Rattle.qg_other_trees.specs.declared.laying.OtherTrees.{OtherTrees}
@@ -37,6 +37,7 @@ use Rattle.qg_commit.specs.Calls.{IsReadBack, IsWritable, with_image}
 use Rattle.qg_commit.specs.Fresh.{AreFreshTrees, extent_items, fresh_nodes, fresh_quota, fresh_roots, fresh_slots}
 use Rattle.qg_commit.specs.Fresh.{fresh_super, own_leaf, quota_items, root_items}
 use Rattle.qg_commit.specs.Mkfs.{HoldsFreshImage, IsFreshImage}
+use Rattle.qg_commit.proofs.CommitCalls.{OfEach}
 use Rattle.qg_commit.proofs.FreshState.{before, counts, home, leaf_fits, leaf_format, runs, space, told, whole}
 use Rattle.qg_commit.proofs.FreshTrees.{extents_leaf, first_slots-IsDistinct, fresh_slots-IsDistinct, low_slot-is_slot}
 use Rattle.qg_commit.proofs.FreshTrees.{quotas_laid, roots_leaf, superblock_is}
@@ -111,13 +112,13 @@ module _ (sizes : Sizes) (trees : OtherTrees) (served : is_served sizes ≡ true
   super_fits : is_super super ≡ true
   super_fits = subst (λ (s : Super). is_super s ≡ true) super_is is
 
-  pub roots_are : trees.roots.nodes ≡ root_leaf ∷ []
+  roots_are : trees.roots.nodes ≡ root_leaf ∷ []
   roots_are = (roots_leaf sizes trees served are).nodes_are
 
-  pub extents_are : trees.extents.nodes ≡ extent_leaf ∷ []
+  extents_are : trees.extents.nodes ≡ extent_leaf ∷ []
   extents_are = (extents_leaf sizes trees served are).nodes_are
 
-  pub quotas_are : quota_nodes_laid trees.quotas ≡ quota_leaf ∷ []
+  quotas_are : quota_nodes_laid trees.quotas ≡ quota_leaf ∷ []
   quotas_are = quotas_laid sizes trees served are
 
   -- the quota tree lies behind the extent tree
@@ -168,8 +169,16 @@ module _ (sizes : Sizes) (trees : OtherTrees) (served : is_served sizes ≡ true
       (first_slots-IsDistinct sizes served) refl formats
 
   -- each can be written
-  pub fresh-writable : AllByRecursion (IsWritable sizes.nodesize) nodes
-  fresh-writable = committable.writable
+  pub leaves-writable : OfEach (IsWritable sizes.nodesize) trees.roots.nodes trees.extents.nodes
+      (own_leaf sizes ∷ []) (quota_nodes_laid trees.quotas)
+  leaves-writable =
+      let can = committable.writable in
+      record {
+        first = rw roots_are (can.0, tt);
+        second = rw extents_are (can.1.0, tt);
+        third = (can.1.1.0, tt);
+        fourth = rw quotas_are (can.1.1.1.0, tt);
+      }
 
   -- ---- what the calls leave
 

@@ -28,7 +28,7 @@ use Rattle.qg_image.specs.Space.{present_extents}
 use Rattle.qg_image.specs.State.{Placed, State, Subvolume, layout_of, node_at, blank_state, blank_subvolume}
 use Rattle.qg_image.proofs.Contained.{none_contained}
 use Rattle.qg_image.specs.declared.failure.Failure.{Failure}
-use Rattle.qg_image.specs.declared.tree.Tree.TheVariants.{Files}
+use Rattle.qg_image.specs.declared.tree.TreeKind.TheVariants.{Files}
 use Rattle.qg_image.specs.IsFresh.{fresh_leaf}
 use Rattle.qg_image.specs.ItemsUnder.{is_way, items_under}
 use Rattle.qg_image.specs.Verdict.{counts_failure, extent_set, space_failure}

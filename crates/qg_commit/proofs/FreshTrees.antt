@@ -21,9 +21,9 @@ use Rattle.qg_super.proofs.Served.{SizesFit-is_served}
 use Rattle.qg_super.proofs.Slots.{is_slot-slot_at}
 use Rattle.qg_image.specs.Need.{nodes_filled}
 use Rattle.qg_image.specs.IsFresh.{fresh_leaf}
-use Rattle.qg_contents.specs.Written.{items_of_roots}
-use Rattle.qg_tree.specs.Build.{IsBuilt}
-use Rattle.qg_tree.specs.declared.building.Built.{Built}
+use Rattle.qg_root_items.specs.Written.{items_of_roots}
+use Rattle.qg_tree_layout.specs.Build.{IsBuilt}
+use Rattle.qg_tree_layout.specs.declared.building.Built.{Built}
 use Rattle.qg_extents.specs.Fresh.{fresh_table}
 use Rattle.qg_extents.specs.Written.{items_of_book}
 use Rattle.qg_other_trees.specs.declared.laying.OtherTrees.{OtherTrees}

@@ -13,8 +13,7 @@ use Rattle.qg_node.specs.Nodes.{header_of}
 use Rattle.qg_node.specs.NodeText.{node_text}
 use Rattle.qg_super.specs.declared.superblock.Super.{Super}
 use Rattle.qg_commit.specs.Calls.{Call, CutTo, WriteAt, Sync, IsFrontOfCalls, MadeFront, commit_calls, node_calls}
-use Rattle.qg_commit.specs.Calls.{unsure_calls}
-use Rattle.qg_commit.specs.Calls.{unsure_superblock_calls, with_call, with_calls, with_nodes}
+use Rattle.qg_commit.specs.Calls.{unsure_calls, unsure_superblock_calls, with_call, with_calls}
 
 -- from one history to another calls came so far
 abbrev pub ComesTo : List Call → History → History → Type 0
@@ -156,7 +155,7 @@ comes-all calls old new made = λ events told. record {
 
 -- ---- nodes
 
-apart : (nodesize : ℕ) (front back : List Node) → node_calls nodesize front ++ node_calls nodesize back
+pub apart : (nodesize : ℕ) (front back : List Node) → node_calls nodesize front ++ node_calls nodesize back
     ≡ node_calls nodesize (front ++ back)
 apart nodesize front back =
     sym (map-append (λ (node : Node). WriteAt (header_of node).address (node_text nodesize node)) front back)
@@ -166,13 +165,6 @@ pub nodes-more : (nodesize : ℕ) (front back : List Node) (old new : History)
 nodes-more nodesize front back old new comes =
     subst (λ (calls : List Call). ComesTo calls old new) (apart nodesize front back)
     (comes-more (node_calls nodesize front) (node_calls nodesize back) old new comes)
-
-pub nodes-behind : (nodesize : ℕ) (front back : List Node) (old mid new : History)
-    → mid ≡ history_after (with_nodes nodesize front) old → ComesTo (node_calls nodesize back) mid new
-    → ComesTo (node_calls nodesize (front ++ back)) old new
-nodes-behind nodesize front back old mid new made later =
-    subst (λ (calls : List Call). ComesTo calls old new) (apart nodesize front back)
-    (comes-behind (node_calls nodesize front) (node_calls nodesize back) old mid new made later)
 
 -- the next of some nodes was written, or was not
 pub comes-node : (nodesize : ℕ) (node : Node) (now later : List Node) (at : ℕ) (bytes : List ℕ)
@@ -214,49 +206,3 @@ unsure-whole super nodes events history made = record {
       (append_assoc (node_calls super.nodesize nodes) (unsure_superblock_calls super) (Sync ∷ []))
       (front-more (unsure_calls super nodes) (Sync ∷ []) events made.after made.front);
 }
-
--- of four trees
-
-module _ (super : Super) (roots extents quotas files : List Node) (old : History) where
-  abbrev all : List Node
-  all = roots ++ extents ++ quotas ++ files
-
-  behind_nodes : (new : History) → ComesTo (node_calls super.nodesize all) old new
-      → ComesTo (unsure_calls super all) old new
-  behind_nodes new comes = comes-more (node_calls super.nodesize all) (unsure_superblock_calls super) old new comes
-
-  pub comes-first : (new : History) → ComesTo (node_calls super.nodesize roots) old new
-      → ComesTo (unsure_calls super all) old new
-  comes-first new comes =
-      let n = super.nodesize in
-      behind_nodes new (nodes-more n (roots ++ extents ++ quotas) files old new
-      (nodes-more n (roots ++ extents) quotas old new (nodes-more n roots extents old new comes)))
-
-  pub comes-second : (mid new : History) → mid ≡ history_after (with_nodes super.nodesize roots) old
-      → ComesTo (node_calls super.nodesize extents) mid new → ComesTo (unsure_calls super all) old new
-  comes-second mid new made comes =
-      let n = super.nodesize in
-      behind_nodes new (nodes-more n (roots ++ extents ++ quotas) files old new
-      (nodes-more n (roots ++ extents) quotas old new (nodes-behind n roots extents old mid new made comes)))
-
-  pub comes-third : (mid new : History)
-      → mid ≡ history_after (with_nodes super.nodesize (roots ++ extents)) old
-      → ComesTo (node_calls super.nodesize quotas) mid new
-      → ComesTo (unsure_calls super all) old new
-  comes-third mid new made comes =
-      let n = super.nodesize in
-      behind_nodes new (nodes-more n (roots ++ extents ++ quotas) files old new
-      (nodes-behind n (roots ++ extents) quotas old mid new made comes))
-
-  pub comes-fourth : (mid new : History)
-      → mid ≡ history_after (with_nodes super.nodesize (roots ++ extents ++ quotas)) old
-      → ComesTo (node_calls super.nodesize files) mid new
-      → ComesTo (unsure_calls super all) old new
-  comes-fourth mid new made comes =
-      behind_nodes new (nodes-behind super.nodesize (roots ++ extents ++ quotas) files old mid new made comes)
-
-  pub comes-last : (mid new : History) → mid ≡ history_after (with_nodes super.nodesize all) old
-      → ComesTo (unsure_superblock_calls super) mid new → ComesTo (unsure_calls super all) old new
-  comes-last mid new made comes = comes-behind (node_calls super.nodesize all) (unsure_superblock_calls super) old mid
-      new made
-      comes

@@ -19,3 +19,17 @@ pub mod MakingCalls
 pub mod Touched
 pub mod CallEvents
 pub mod OpeningCalls
+pub mod CallsAsWrites
+pub mod OtherNodes
+pub mod NodesAfterCrash
+pub mod Ascending
+pub mod FreshNodes
+pub mod Stays
+pub mod LaidNodes
+pub mod AllNodes
+pub mod Subvolume
+pub mod OnDisk
+pub mod NewNodes
+pub mod Calls
+pub mod Laying
+pub mod Crashing

@@ -1,5 +1,5 @@
 -- The calls that make an image, one after the other.
-use Rattle.std.proofs.Common.{◌≡◌, ℕ, ◌-◌, List, ◌∷◌, ◌++◌, length, refl, sym, ap, subst, ◌∙◌}
+use Rattle.std.proofs.Common.{◌≡◌, ℕ, ◌-◌, List, ◌∷◌, length, refl, sym, ap, subst, ◌∙◌}
 use Rattle.std.specs.Prelude.{Bool, true, false, Result, Ok, Err, IfErr, IsErrAnd, IsErrOf}
 use Rattle.std.proofs.lemmas.Bool.{true≢false}
 use Rattle.qg_num.specs.Fields.{zeros}
@@ -17,10 +17,9 @@ use Rattle.qg_commit.specs.declared.fault.MkfsFault.{MkfsFault}
 use Rattle.qg_commit.specs.declared.fault.MkfsFault.TheVariants.{NoMemory}
 use Rattle.qg_commit.specs.Fault.{mkfs_fault}
 use Rattle.qg_commit.specs.Fresh.{fresh_nodes, fresh_super}
-use Rattle.qg_commit.specs.Calls.{Call, WriteAt, unsure_calls, unsure_image_calls, with_commit, with_image, with_nodes}
-use Rattle.qg_commit.specs.Calls.{with_superblocks}
+use Rattle.qg_commit.specs.Calls.{Call, WriteAt, unsure_calls, unsure_image_calls, with_commit, with_image}
 use Rattle.qg_commit.specs.Mkfs.{StopsMaking}
-use Rattle.qg_commit.proofs.CommitCalls.{commit-adds, commit-made, last_calls, two_calls}
+use Rattle.qg_commit.proofs.CommitCalls.{commit-adds, commit-made}
 use Rattle.qg_commit.proofs.Fronts.{ComesTo, comes-cut, comes-cut_so, comes-write, comes-written}
 
 -- a cut, the last sector and a commit, of a history that is told or not
@@ -44,18 +43,12 @@ image_after super nodes old = after-same
     (λ events. sym (commit-made super nodes
     (Wrote (total_bytes (sizes_of super) - 4096) (zeros 4096) ∷ Cut 0 ∷ events))) old
 
--- nodes of four lists are written, one list behind the other, and then the superblocks
-pub four_lists : (super : Super) (a b c d : List Node) (old one two three four new : History)
-    → one ≡ history_after (with_nodes super.nodesize a) old → two ≡ history_after (with_nodes super.nodesize b) one
-    → three ≡ history_after (with_nodes super.nodesize c) two → four ≡ history_after (with_nodes super.nodesize d) three
-    → new ≡ history_after (with_superblocks super) four → new ≡ history_after (with_commit super (a ++ b ++ c ++ d)) old
-four_lists super a b c d old one two three four new first second third fourth last =
-    let to_two = two_calls super super.nodesize a b b old one two refl refl first second in
-    let to_three = two_calls super super.nodesize (a ++ b) c c old two three refl refl to_two third in
-    let to_four = two_calls super super.nodesize (a ++ b ++ c) d d old three four refl refl to_three fourth in
-    last_calls super (a ++ b ++ c ++ d) old four new to_four last
+-- the superblock of a fresh image tells the size of its nodes
+pub told-nodesize : {sizes : Sizes} {super : Super} → super ≡ fresh_super sizes (slot_at sizes 0)
+    → sizes.nodesize ≡ super.nodesize
+told-nodesize is = sym (ap (λ (s : Super). s.nodesize) is)
 
--- they are the calls that make an image of these sizes
+-- the calls that make an image of these sizes
 pub image-made : (sizes : Sizes) (super : Super) (nodes : List Node) (total : ℕ)
     → super ≡ fresh_super sizes (slot_at sizes 0)
     → nodes ≡ fresh_nodes sizes → total ≡ total_bytes sizes → (old cut written new : History)

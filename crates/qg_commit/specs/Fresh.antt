@@ -13,7 +13,7 @@ use Rattle.qg_super.specs.declared.superblock.Super.{Super}
 use Rattle.qg_super.specs.Places.{slot_at}
 use Rattle.qg_image.specs.declared.quota.Quota.{Quota}
 use Rattle.qg_image.specs.IsFresh.{fresh_leaf}
-use Rattle.qg_contents.specs.Written.{items_of_roots}
+use Rattle.qg_root_items.specs.Written.{items_of_roots}
 use Rattle.qg_quota.specs.Written.{items_of_quota, status_at}
 use Rattle.qg_extents.specs.Fresh.{fresh_table}
 use Rattle.qg_extents.specs.Written.{item_at}

@@ -1,5 +1,5 @@
 pub use Rattle.qg_other_trees.specs.Editable
-pub use Rattle.qg_other_trees.specs.Holds
+pub use Rattle.qg_other_trees.specs.Holds as OtherTreesHolds
 pub use Rattle.qg_other_trees.specs.IsImage
 pub use Rattle.qg_other_trees.specs.Report
 pub use Rattle.qg_other_trees.specs.Sound
@@ -15,3 +15,8 @@ pub mod Opened
 pub mod CallEvents
 pub mod Examples
 pub mod Types
+pub mod CommitCalls
+pub mod Writing
+pub mod HoldsAfter
+pub mod Crashing
+pub mod Laws

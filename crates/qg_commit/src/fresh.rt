@@ -13,7 +13,7 @@ use qg_items::RootItem;
 use qg_items::tree::TOP_LEVEL;
 use qg_node::{Header, Items, Node};
 use qg_num::{Address, Counters, Generation, GroupId, NoMemory, RootId, Sequence};
-use qg_other_trees::{OtherTrees, Told, lay_other_trees};
+use qg_other_trees::{OtherTrees, TreeContents, lay_other_trees};
 use qg_super::{SLOTS_BEGIN, Sizes};
 use std::alloc::Global;
 
@@ -118,7 +118,7 @@ pub fn lay_fresh(alloc: Global, sizes: Sizes) -> Result<OtherTrees, NoMemory>
     let roots = [(RootId::new(TOP_LEVEL), root)];
     let group = fresh_quota(alloc, sizes)?;
     let quota = Some(group);
-    let told = Told {
+    let told = TreeContents {
         roots: &roots,
         book: &book,
         quota: &quota,

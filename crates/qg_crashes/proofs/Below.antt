@@ -15,7 +15,7 @@ use Rattle.qg_super.specs.declared.superblock.Super.{Super}
 use Rattle.qg_image.specs.Below.{joined, nodes_below}
 use Rattle.qg_image.specs.declared.expected.Expected.{Expected}
 use Rattle.qg_image.specs.declared.failure.Failure.{Failure}
-use Rattle.qg_image.specs.declared.tree.Tree.{Tree}
+use Rattle.qg_image.specs.declared.tree.TreeKind.{TreeKind}
 use Rattle.qg_image.specs.Failure.{first_failure, unless}
 use Rattle.qg_image.specs.ItemsUnder.{is_way, nodes_of, nodes_under}
 use Rattle.qg_image.specs.ImageState.{level_in, tree_nodes}
@@ -46,7 +46,7 @@ first_kept false b c d p q r s address none = absurd cc
 
 -- ---- one node
 
-way_node : (tree : Tree) (super : Super) (expected : Expected) (address : ℕ) (node : Node)
+way_node : (tree : TreeKind) (super : Super) (expected : Expected) (address : ℕ) (node : Node)
     → node_failure tree super expected address node ≡ None
     → way_failure tree super expected address node ≡ None
 unfolding node_failure
@@ -54,7 +54,7 @@ way_node tree super expected address node none =
     first_none (way_failure tree super expected address node) (shape_failure super.nodesize expected address node)
     (unless (list_all (is_item_of tree super.generation) (own_items node)) rule.Item address) none
 
-told_level : (tree : Tree) (super : Super) (expected : Expected) (address : ℕ) (node : Node)
+told_level : (tree : TreeKind) (super : Super) (expected : Expected) (address : ℕ) (node : Node)
     → way_failure tree super expected address node ≡ None
     → is_told expected.level (header_of node).level ≡ true
 unfolding way_failure
@@ -88,7 +88,7 @@ way_pointers all way each level to (pointer ∷ pointers) none =
     (each expected pointer.child parts.0)
     (way_pointers all way each level to pointers parts.1)
 
-way_found : (tree : Tree) (super : Super) (all way : Expected → ℕ → Option Failure)
+way_found : (tree : TreeKind) (super : Super) (all way : Expected → ℕ → Option Failure)
     → ((expected : Expected) (address : ℕ) → all expected address ≡ None → way expected address ≡ None)
     → (expected : Expected) (address : ℕ) (found : Result Node Failure)
     → found_failure (node_failure tree super) all expected address found ≡ None
@@ -103,7 +103,7 @@ way_found tree super all way each expected address (Ok node) none =
     (way_node tree super expected address node parts.0)
     (way_pointers all way each level expected.to (own_pointers node) parts.1)
 
-way_walk : (tree : Tree) (super : Super) (found : ℕ → Result Node Failure) (depth : ℕ) (expected : Expected)
+way_walk : (tree : TreeKind) (super : Super) (found : ℕ → Result Node Failure) (depth : ℕ) (expected : Expected)
     (address : ℕ)
     → walk_failure (node_failure tree super) found depth expected address ≡ None
     → walk_failure (way_failure tree super) found depth expected address ≡ None
@@ -118,7 +118,7 @@ way_walk tree super found (suc depth) expected address none =
 
 -- ---- the nodes below
 
-module _ (tree : Tree) (super : Super) (image : List ℕ) where
+module _ (tree : TreeKind) (super : Super) (image : List ℕ) where
   abbrev walk : ℕ → Expected → ℕ → Option Failure
   walk = walk_failure (node_failure tree super) (node_found super image)
 

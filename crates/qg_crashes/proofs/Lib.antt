@@ -5,7 +5,7 @@ pub mod Moments
 pub mod Stages
 pub mod Chosen
 pub mod Repaired
-pub mod Held
+pub mod NewBytesHeld
 pub mod Unwritten
 pub mod Lists
 pub mod Placed
@@ -20,4 +20,4 @@ pub mod States
 pub mod Later
 pub mod Outcomes
 pub mod Repairs
-pub mod Counted
+pub mod DueCounters

@@ -22,7 +22,7 @@ use Rattle.qg_crashes.specs.Repairing.{Repairing}
 use Rattle.qg_crashes.specs.States.{IsMirrored, RepairMirrors, with_place}
 use Rattle.qg_crashes.proofs.Ranges.{range-overlay, range-torn}
 use Rattle.qg_crashes.proofs.Moments.{events_by-all}
-use Rattle.qg_crashes.proofs.Held.{meets_the_premise}
+use Rattle.qg_crashes.proofs.NewBytesHeld.{meets_the_premise}
 use Rattle.qg_crashes.proofs.Repaired.{keeps_what_counts}
 use Rattle.qg_crashes.proofs.States.{repair_leaves_the_state}
 

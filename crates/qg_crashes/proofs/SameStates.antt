@@ -26,7 +26,7 @@ use Rattle.qg_image.specs.Owed.{disagreement, homeless}
 use Rattle.qg_image.specs.Space.{present_extents}
 use Rattle.qg_image.specs.declared.failure.Failure.{Failure}
 use Rattle.qg_image.specs.declared.failure.Failure.TheVariants.{Broken}
-use Rattle.qg_image.specs.declared.tree.Tree.TheVariants.{Roots, Extents, Quotas, Files}
+use Rattle.qg_image.specs.declared.tree.TreeKind.TheVariants.{Roots, Extents, Quotas, Files}
 use Rattle.qg_image.specs.Failure.{first_failure, unless}
 use Rattle.qg_image.specs.ImageState.{addresses_of, as_committed, extent_parts, extent_root, items_of_root, layout_in}
 use Rattle.qg_image.specs.ImageState.{nodes_of_root, of_tree, other_nodes, placed, quota_in, quota_parts, quota_root}

@@ -11,7 +11,7 @@ use Rattle.qg_image.specs.Below.{items_below, nodes_below}
 use Rattle.qg_image.specs.ItemMeaning.{when}
 use Rattle.qg_image.specs.declared.expected.Expected.{Expected}
 use Rattle.qg_image.specs.declared.failure.Failure.{Failure}
-use Rattle.qg_image.specs.declared.tree.Tree.{Tree}
+use Rattle.qg_image.specs.declared.tree.TreeKind.{TreeKind}
 use Rattle.qg_image.specs.ItemsUnder.{is_way, nodes_of}
 use Rattle.qg_image.specs.ImageState.{items_of_root, level_in, nodes_of_root, of_tree, tree_items, tree_nodes}
 use Rattle.qg_image.specs.Verdict.{root_failure}
@@ -35,7 +35,7 @@ module _ (super : Super) (old new : List ℕ) where
   placed : (address : ℕ) (node : Node) → node_found super old address ≡ Ok node → (header_of node).address ≡ address
   placed address node is = (found_there super old address node is).placed
 
-  module _ (tree : Tree) (expected : Expected) (root : ℕ) (none : tree_failure tree super old expected root ≡ None)
+  module _ (tree : TreeKind) (expected : Expected) (root : ℕ) (none : tree_failure tree super old expected root ≡ None)
       (same : HaveSame (tree_nodes tree super old expected root)) where
     abbrev level : ℕ
     level = level_in super old root
@@ -88,19 +88,19 @@ module _ (super : Super) (old new : List ℕ) where
 
   -- ---- a tree that may not be there
 
-  pub option_failure : (tree : Tree) (root : Option RootItem) → root_failure tree super old root ≡ None
+  pub option_failure : (tree : TreeKind) (root : Option RootItem) → root_failure tree super old root ≡ None
       → HaveSame (of_tree (nodes_of_root tree super old) root)
       → root_failure tree super new root ≡ root_failure tree super old root
   option_failure tree None none same = refl
   option_failure tree (Some root) none same = same_failure tree (root_told root) root.bytenr none same
 
-  pub option_items : (tree : Tree) (root : Option RootItem) → root_failure tree super old root ≡ None
+  pub option_items : (tree : TreeKind) (root : Option RootItem) → root_failure tree super old root ≡ None
       → HaveSame (of_tree (nodes_of_root tree super old) root)
       → of_tree (items_of_root tree super new) root ≡ of_tree (items_of_root tree super old) root
   option_items tree None none same = refl
   option_items tree (Some root) none same = same_items tree (root_told root) root.bytenr none same
 
-  pub option_nodes : (tree : Tree) (root : Option RootItem) → root_failure tree super old root ≡ None
+  pub option_nodes : (tree : TreeKind) (root : Option RootItem) → root_failure tree super old root ≡ None
       → HaveSame (of_tree (nodes_of_root tree super old) root)
       → of_tree (nodes_of_root tree super new) root ≡ of_tree (nodes_of_root tree super old) root
   option_nodes tree None none same = refl

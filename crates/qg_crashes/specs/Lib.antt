@@ -9,5 +9,5 @@ pub mod Slots
 pub mod States
 pub mod Later
 pub mod Outcomes
-pub mod Counted
+pub mod StoredCounters
 pub mod Examples

@@ -1,5 +1,5 @@
 // What state an image stands for that a crash left.
-ghost use Rattle.qg_crashes.specs.Counted.{StandsCounted};
+ghost use Rattle.qg_crashes.specs.StoredCounters.{StandsCounted};
 ghost use Rattle.qg_crashes.specs.Outcomes.{ChainSurvives, OpeningSurvives, RunSurvives};
 ghost use Rattle.qg_crashes.specs.Reading.{ReadsWhatIsHeld};
 ghost use Rattle.qg_crashes.specs.States.{

@@ -6,7 +6,7 @@ ghost use Rattle.qg_node.specs.Nodes.{own_items};
 ghost use Rattle.qg_shape.specs.Filled.{HasShortBodies};
 ghost use Rattle.qg_shape.specs.Parts.{IsLeaf, with_items};
 ghost use Rattle.qg_shape.specs.Places.{GoesAt};
-ghost use Rattle.qg_blocks.specs.Told.{BreaksNone};
+ghost use Rattle.qg_blocks.specs.NodesFound.{BreaksNone};
 ghost use Rattle.qg_edit.specs.Edits.{CanChange, CanEdit, IsShort, changed, edited, growth_of};
 ghost use Rattle.qg_edit.specs.Answering.{AnswersBy, IsBrokenByChange, IsChangeable};
 ghost use Rattle.qg_edit.specs.Outcome.{IsLeftOf, IsNodeFor, IsOldOrCleared};

@@ -6,7 +6,7 @@ ghost use Rattle.qg_num.specs.declared.rule.Rule.TheVariants as rule;
 ghost use Rattle.qg_node.specs.Nodes.{header_of, is_ascending, own_keys, used_bytes};
 ghost use Rattle.qg_node.specs.NodeText.{IsLevelled, IsNodeSize};
 ghost use Rattle.qg_shape.specs.Filled.{HasShortBodies};
-ghost use Rattle.qg_blocks.specs.Told.{BreaksNone};
+ghost use Rattle.qg_blocks.specs.NodesFound.{BreaksNone};
 ghost use Rattle.qg_edit.specs.Answering.{AnswersBy, CanCut, IsBrokenUnless};
 ghost use Rattle.qg_edit.specs.Outcome.{IsLeftOf, IsNodeFor, cleared};
 

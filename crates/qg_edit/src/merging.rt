@@ -5,7 +5,7 @@ ghost use Rattle.qg_node.specs.Nodes.{header_of, is_ascending, own_keys};
 ghost use Rattle.qg_shape.specs.Filled.{HasShortBodies, IsThin};
 ghost use Rattle.qg_shape.specs.Outcomes.{IsJoined};
 ghost use Rattle.qg_shape.specs.Parts.{AreAlike};
-ghost use Rattle.qg_blocks.specs.Told.{BreaksNone};
+ghost use Rattle.qg_blocks.specs.NodesFound.{BreaksNone};
 ghost use Rattle.qg_edit.specs.Answering.{AnswersBy, CanMerge, IsBrokenByMerge};
 ghost use Rattle.qg_edit.specs.Outcome.{AreNodesAfter, IsInFront};
 

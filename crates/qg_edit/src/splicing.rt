@@ -5,7 +5,7 @@ ghost use Rattle.qg_node.specs.NodeText.{IsNode, IsNodeSize};
 ghost use Rattle.qg_num.specs.declared.rule.Rule.TheVariants as rule;
 ghost use Rattle.qg_node.specs.Nodes.{is_ascending, own_pointers};
 ghost use Rattle.qg_shape.specs.Parts.{IsInner, with_pointers};
-ghost use Rattle.qg_blocks.specs.Told.{BreaksNone};
+ghost use Rattle.qg_blocks.specs.NodesFound.{BreaksNone};
 ghost use Rattle.qg_edit.specs.Answering.{AnswersBy, CanSplice, IsBrokenUnless};
 ghost use Rattle.qg_edit.specs.Outcome.{IsLeftOf, IsNodeFor, IsOldOrCleared, spliced};
 

@@ -8,19 +8,20 @@ use Rattle.std.proofs.lemmas.Bool.Decides.{nat_tests}
 use Rattle.std.proofs.lemmas.List.Sums.{sum_by-cons}
 use Rattle.qg_node.specs.declared.node.Header.{Header}
 use Rattle.qg_items.specs.declared.extent.Reference.{Reference}
-use Rattle.qg_parts.specs.Types.{ExtentPart}
-use Rattle.qg_parts.specs.Types.{DataRecord, NodeRecord, Referenced}
-use Rattle.qg_parts.specs.ItemMeaning.{some_passes}
-use Rattle.qg_parts.specs.State.{Layout}
-use Rattle.qg_parts.specs.Record.{same_reference}
-use Rattle.qg_parts.specs.Owed.{Agrees, What, agrees_at, are_references, is_nothing, is_record, is_recorded_once}
-use Rattle.qg_parts.specs.Owed.{is_told_once, node_flags, owed_count, owed_to, part_address, what_at}
-use Rattle.qg_parts.specs.Owed.What.{Nothing, Data, Block}
+use Rattle.qg_tree_items.specs.Types.{ExtentPart}
+use Rattle.qg_tree_items.specs.Types.{DataRecord, NodeRecord, Referenced}
+use Rattle.qg_tree_items.specs.ItemMeaning.{some_passes}
+use Rattle.qg_tree_items.specs.State.{Layout}
+use Rattle.qg_tree_items.specs.Record.{same_reference}
+use Rattle.qg_tree_items.specs.Owed.{Agrees, What, agrees_at, are_references, is_nothing, is_record, is_recorded_once}
+use Rattle.qg_tree_items.specs.Owed.{is_told_once, node_flags, owed_count, owed_to, part_address, what_at}
+use Rattle.qg_tree_items.specs.Owed.What.{Nothing, Data, Block}
 use Rattle.qg_refs.specs.Book.{AgreesWithOwed, Book}
 use Rattle.qg_refs.specs.Counts.{greatest_count}
 use Rattle.qg_refs.proofs.RankOrder.{same_reference_is}
-use Rattle.qg_extents.specs.Told.{IsTold, are_counted, is_count, is_entry, is_sound_record, parts_at, records_failure}
-use Rattle.qg_extents.specs.Told.{refs_told, the_only, told_count, told_in, told_sum}
+use Rattle.qg_extents.specs.BookRecords.{IsTold, are_counted, is_count, is_entry, is_sound_record, parts_at}
+use Rattle.qg_extents.specs.BookRecords.{records_failure}
+use Rattle.qg_extents.specs.BookRecords.{refs_told, the_only, told_count, told_in, told_sum}
 use Rattle.qg_extents.specs.Laws.{AreFew, IsOwedBook, IsOwing}
 use Rattle.qg_extents.proofs.Records.{HasEntry, HaveEntries, records_failure-none}
 use Rattle.qg_extents.proofs.Telling.{Told, both_of}

@@ -18,10 +18,10 @@ use Rattle.std.proofs.lemmas.List.Kept.{AllPairs-cons}
 use Rattle.std.proofs.lemmas.Map.Entries.{All-lookup}
 use Rattle.qg_items.specs.declared.extent.ExtentItem.{ExtentItem}
 use Rattle.qg_items.specs.declared.extent.Reference.{Reference}
-use Rattle.qg_parts.specs.Types.{ExtentPart}
-use Rattle.qg_parts.specs.ItemMeaning.{some_passes}
-use Rattle.qg_parts.specs.Owed.{is_record, is_told_once, part_address}
-use Rattle.qg_parts.specs.Record.{same_reference}
+use Rattle.qg_tree_items.specs.Types.{ExtentPart}
+use Rattle.qg_tree_items.specs.ItemMeaning.{some_passes}
+use Rattle.qg_tree_items.specs.Owed.{is_record, is_told_once, part_address}
+use Rattle.qg_tree_items.specs.Record.{same_reference}
 use Rattle.qg_refs.specs.declared.counted.Counted.{Counted}
 use Rattle.qg_refs.specs.declared.kept.Kept.{Kept}
 use Rattle.qg_refs.specs.Book.{references_in, full_in, what_in}
@@ -32,8 +32,9 @@ use Rattle.qg_refs.proofs.RankOrder.{precedes_differs}
 use Rattle.qg_extents.specs.Table.{book_of, IsTable, MayKeep}
 use Rattle.qg_extents.specs.Written.{extent_of, part_of, parts_of_book, parts_of_extent, record_flags, record_of}
 use Rattle.qg_extents.specs.Written.{record_part, refs_of}
-use Rattle.qg_extents.specs.Told.{AreInOrder, IsTold, is_count, is_entry, is_sound_record, parts_at, records_failure}
-use Rattle.qg_extents.specs.Told.{refs_told, tells_full, the_record, told_count, told_in, told_sum, what_told}
+use Rattle.qg_extents.specs.BookRecords.{AreInOrder, IsTold, is_count, is_entry, is_sound_record, parts_at}
+use Rattle.qg_extents.specs.BookRecords.{records_failure}
+use Rattle.qg_extents.specs.BookRecords.{refs_told, tells_full, the_record, told_count, told_in, told_sum, what_told}
 use Rattle.qg_extents.specs.Laws.{IsReadable}
 use Rattle.qg_extents.proofs.Records.{AreApart, AreAt, HaveEntries, both_entries, new_entries, parts_at-apart}
 use Rattle.qg_extents.proofs.Records.{parts_at-append, parts_at-here, records_failure-none}

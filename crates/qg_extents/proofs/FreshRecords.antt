@@ -16,12 +16,12 @@ use Rattle.qg_items.specs.declared.tree.TheConstants.{TOP_LEVEL}
 use Rattle.qg_items.specs.declared.extent.Reference.{Reference}
 use Rattle.qg_items.specs.declared.extent.Reference.TheVariants.{KeyedBlock}
 use Rattle.qg_super.specs.declared.sizes.Sizes.{Sizes}
-use Rattle.qg_parts.specs.ItemMeaning.{file_part}
-use Rattle.qg_parts.specs.Record.{same_reference}
-use Rattle.qg_parts.specs.State.{layout_of}
-use Rattle.qg_parts.specs.Reach.{pieces_of}
-use Rattle.qg_parts.specs.Owed.{Agrees, agrees_at, layout_extents, owed, owed_by_node}
-use Rattle.qg_parts.specs.IsFresh.{fresh_state}
+use Rattle.qg_tree_items.specs.ItemMeaning.{file_part}
+use Rattle.qg_tree_items.specs.Record.{same_reference}
+use Rattle.qg_tree_items.specs.State.{layout_of}
+use Rattle.qg_tree_items.specs.Reach.{pieces_of}
+use Rattle.qg_tree_items.specs.Owed.{Agrees, agrees_at, layout_extents, owed, owed_by_node}
+use Rattle.qg_tree_items.specs.IsFresh.{fresh_state}
 use Rattle.qg_refs.specs.declared.counted.Counted.{Counted}
 use Rattle.qg_refs.specs.declared.kept.What.{What}
 use Rattle.qg_refs.specs.declared.kept.Kept.{Kept}

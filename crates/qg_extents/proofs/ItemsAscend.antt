@@ -17,7 +17,7 @@ use Rattle.qg_node.specs.Nodes.{ascends_from, is_ascending}
 use Rattle.qg_items.specs.declared.extent.ExtentItem.{ExtentItem}
 use Rattle.qg_items.specs.declared.extent.Reference.{Reference}
 use Rattle.qg_items.specs.declared.extent.Reference.TheVariants.{KeyedBlock, SharedBlock, KeyedData, SharedData}
-use Rattle.qg_parts.specs.Keys.{key_with}
+use Rattle.qg_tree_items.specs.Keys.{key_with}
 use Rattle.qg_refs.specs.declared.counted.Counted.{Counted}
 use Rattle.qg_refs.specs.declared.kept.Kept.{Kept}
 use Rattle.qg_refs.specs.Counts.{Ascend}

@@ -23,11 +23,11 @@ use Rattle.qg_items.specs.Laws.{ExtentFits}
 use Rattle.qg_items.proofs.ExtentBodies.{length-extent_text, extent_read-extent_text, length-data_ref_text}
 use Rattle.qg_items.proofs.ExtentBodies.{data_ref_read-data_ref_text, length-shared_data_ref_text}
 use Rattle.qg_items.proofs.ExtentBodies.{shared_data_ref_read-shared_data_ref_text}
-use Rattle.qg_parts.specs.Types.{ExtentPart}
-use Rattle.qg_parts.specs.Types.{Referenced}
-use Rattle.qg_parts.specs.ItemMeaning.{extent_part}
-use Rattle.qg_parts.specs.Types.{Extents}
-use Rattle.qg_parts.specs.Walk.{is_item_of}
+use Rattle.qg_tree_items.specs.Types.{ExtentPart}
+use Rattle.qg_tree_items.specs.Types.{Referenced}
+use Rattle.qg_tree_items.specs.ItemMeaning.{extent_part}
+use Rattle.qg_tree_items.specs.Types.{Extents}
+use Rattle.qg_tree_items.specs.Walk.{is_item_of}
 use Rattle.qg_refs.specs.declared.counted.Counted.{Counted}
 use Rattle.qg_refs.specs.declared.kept.Kept.{Kept}
 use Rattle.qg_refs.specs.Counts.{greatest_count}

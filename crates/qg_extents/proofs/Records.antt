@@ -6,13 +6,13 @@ use Rattle.std.specs.List.{AllByRecursion, find}
 use Rattle.std.proofs.lemmas.Bool.{cases_Bool, eq-eqb}
 use Rattle.std.proofs.lemmas.Bool.Decides.{nat_tests}
 use Rattle.std.proofs.lemmas.List.Elements.{filter-append}
-use Rattle.qg_parts.specs.Types.{ExtentPart}
-use Rattle.qg_parts.specs.Owed.{part_address}
+use Rattle.qg_tree_items.specs.Types.{ExtentPart}
+use Rattle.qg_tree_items.specs.Owed.{part_address}
 use Rattle.qg_refs.specs.declared.kept.Kept.{Kept}
 use Rattle.qg_refs.specs.Book.{Book, no_references}
 use Rattle.qg_refs.proofs.Counting.{count-nil}
 use Rattle.qg_extents.specs.Table.{IsPut}
-use Rattle.qg_extents.specs.Told.{IsEntryOf, IsTold, is_entry, parts_at, records_failure}
+use Rattle.qg_extents.specs.BookRecords.{IsEntryOf, IsTold, is_entry, parts_at, records_failure}
 use Rattle.qg_extents.proofs.Tables.{put-here, put-other}
 
 -- ---- the parts at an address

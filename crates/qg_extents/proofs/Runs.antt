@@ -7,12 +7,12 @@ use Rattle.std.proofs.lemmas.List.{get_or-take, get_or-drop, get_or_default, len
 use Rattle.std.proofs.lemmas.List.{take-append-drop, take_at}
 use Rattle.std.proofs.lemmas.List.Elements.{All-from_recursion, recursion_from_All}
 use Rattle.std.proofs.lemmas.List.Folds.{drop_split}
-use Rattle.qg_parts.specs.Types.{ExtentPart}
-use Rattle.qg_parts.specs.Owed.{part_address}
+use Rattle.qg_tree_items.specs.Types.{ExtentPart}
+use Rattle.qg_tree_items.specs.Owed.{part_address}
 use Rattle.qg_refs.specs.declared.kept.Kept.{Kept}
 use Rattle.qg_refs.specs.Book.{Book}
 use Rattle.qg_extents.specs.Table.{IsPut}
-use Rattle.qg_extents.specs.Told.{AreInOrder, IsEntryOf, IsTold, is_entry, records_failure}
+use Rattle.qg_extents.specs.BookRecords.{AreInOrder, IsEntryOf, IsTold, is_entry, records_failure}
 use Rattle.qg_extents.specs.Reading.{IsRun}
 use Rattle.qg_extents.proofs.Records.{AreApart, AreAt, AreOff, HaveEntries, append_assoc, entries-more, failure-at}
 use Rattle.qg_extents.proofs.Records.{told-more}

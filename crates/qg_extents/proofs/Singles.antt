@@ -8,12 +8,13 @@ use Rattle.std.proofs.lemmas.Bool.{true≢false}
 use Rattle.std.proofs.lemmas.List.{drop_more, take_more, take-append-drop}
 use Rattle.std.proofs.lemmas.List.Elements.{filter-append}
 use Rattle.std.proofs.lemmas.Option.{slice_get-get_or}
-use Rattle.qg_parts.specs.Types.{ExtentPart}
-use Rattle.qg_parts.specs.Owed.{is_record}
-use Rattle.qg_parts.specs.ItemMeaning.{some_passes}
+use Rattle.qg_tree_items.specs.Types.{ExtentPart}
+use Rattle.qg_tree_items.specs.Owed.{is_record}
+use Rattle.qg_tree_items.specs.ItemMeaning.{some_passes}
 use Rattle.qg_extents.specs.Reading.{adds_up}
-use Rattle.qg_extents.specs.Told.{are_counted, is_entry, is_sound_record, refs_told, the_only, the_record, told_in}
-use Rattle.qg_extents.specs.Told.{told_sum}
+use Rattle.qg_extents.specs.BookRecords.{are_counted, is_entry, is_sound_record, refs_told, the_only, the_record}
+use Rattle.qg_extents.specs.BookRecords.{told_in}
+use Rattle.qg_extents.specs.BookRecords.{told_sum}
 
 -- the list of what is there
 abbrev pub listed : Option ExtentPart → List ExtentPart

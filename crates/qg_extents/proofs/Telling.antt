@@ -5,20 +5,20 @@ use Rattle.std.specs.Prelude.{◌&&◌, ◌||◌, not, ◌==◌, if◌then◌els
 use Rattle.std.specs.List.{cons_option, list_any, list_all}
 use Rattle.std.proofs.lemmas.List.{drop_more, take_more, take-append-drop}
 use Rattle.std.proofs.lemmas.List.Elements.{filter_map-append}
-use Rattle.qg_parts.specs.Types.{ExtentPart}
+use Rattle.qg_tree_items.specs.Types.{ExtentPart}
 use Rattle.std.proofs.lemmas.Bool.{cases_Bool, cond-true, cond-false, true≢false, eq-eqb}
 use Rattle.std.proofs.lemmas.Bool.Decides.{nat_tests}
 use Rattle.std.proofs.lemmas.List.Folds.{list_all-append, list_any-append}
 use Rattle.std.proofs.lemmas.List.Sums.{sum_by-append, sum_by-cons}
 use Rattle.qg_items.specs.declared.extent.Reference.{Reference}
-use Rattle.qg_parts.specs.Owed.{is_told_once, reference_told}
-use Rattle.qg_parts.specs.Record.{same_reference}
+use Rattle.qg_tree_items.specs.Owed.{is_told_once, reference_told}
+use Rattle.qg_tree_items.specs.Record.{same_reference}
 use Rattle.qg_refs.specs.declared.counted.Counted.{Counted}
 use Rattle.qg_refs.specs.Counts.{count_of, greatest_count}
 use Rattle.qg_refs.proofs.Counting.{count-nil}
 use Rattle.qg_refs.proofs.RankOrder.{same_itself, same_reference_is}
 use Rattle.qg_extents.specs.declared.gather.Gathered.{Gathered}
-use Rattle.qg_extents.specs.Told.{are_counted, is_count, told_count, told_in, told_sum}
+use Rattle.qg_extents.specs.BookRecords.{are_counted, is_count, told_count, told_in, told_sum}
 use Rattle.qg_extents.specs.Reading.{IsPartRefused, IsPartTaken, IsRefused, IsTaken}
 
 -- ---- booleans

@@ -5,12 +5,12 @@ use Rattle.qg_items.specs.declared.extent.Reference.{Reference}
 use Rattle.qg_items.specs.declared.extent.Reference.TheVariants.{KeyedBlock, SharedBlock, KeyedData, SharedData}
 use Rattle.qg_items.specs.ItemText.{inode_text, extent_data_text, extent_text, data_ref_text, shared_data_ref_text}
 use Rattle.qg_items.specs.ItemReading.{inode_read, extent_data_read}
-use Rattle.qg_parts.specs.ItemMeaning.{file_part}
-use Rattle.qg_parts.specs.State.{Layout, layout_of}
-use Rattle.qg_parts.specs.Reach.{pieces_of}
-use Rattle.qg_parts.specs.Owed.{owed_by_node, owed, layout_extents, agrees_at, recorded_addresses, disagreement}
-use Rattle.qg_parts.specs.ExamplesOfState.{piece, file, first_write, snapshot}
-use Rattle.qg_parts.specs.ExamplesOfReferences.{leaf_of, layout}
+use Rattle.qg_tree_items.specs.ItemMeaning.{file_part}
+use Rattle.qg_tree_items.specs.State.{Layout, layout_of}
+use Rattle.qg_tree_items.specs.Reach.{pieces_of}
+use Rattle.qg_tree_items.specs.Owed.{owed_by_node, owed, layout_extents, agrees_at, recorded_addresses, disagreement}
+use Rattle.qg_tree_items.specs.ExamplesOfState.{piece, file, first_write, snapshot}
+use Rattle.qg_tree_items.specs.ExamplesOfReferences.{leaf_of, layout}
 use Rattle.qg_refs.specs.declared.counted.Counted.{Counted}
 use Rattle.qg_refs.specs.declared.kept.Kept.{Kept}
 use Rattle.qg_extents.specs.Fresh.{fresh_table}

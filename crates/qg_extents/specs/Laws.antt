@@ -2,15 +2,15 @@
 use Rattle.std.specs.Prelude.{◌≡◌, ℕ, ◌<◌, Bool, true, false, ◌==◌, List, length, All, Some, None, nat_le}
 use Rattle.std.specs.List.{list_all}
 use Rattle.qg_node.specs.declared.node.Header.{Header}
-use Rattle.qg_parts.specs.Types.{ExtentPart}
-use Rattle.qg_parts.specs.State.{Layout}
-use Rattle.qg_parts.specs.Owed.{Agrees, is_nothing, owed_to, what_at}
-use Rattle.qg_parts.specs.Owed.What.{Block}
+use Rattle.qg_tree_items.specs.Types.{ExtentPart}
+use Rattle.qg_tree_items.specs.State.{Layout}
+use Rattle.qg_tree_items.specs.Owed.{Agrees, is_nothing, owed_to, what_at}
+use Rattle.qg_tree_items.specs.Owed.What.{Block}
 use Rattle.qg_refs.specs.declared.kept.Kept.{Kept}
 use Rattle.qg_refs.specs.Book.{AgreesWithOwed, Book}
 use Rattle.qg_refs.specs.Counts.{greatest_count}
 use Rattle.qg_extents.specs.Table.{book_of, IsTable}
-use Rattle.qg_extents.specs.Told.{AreInOrder, IsTold, records_failure, told_in}
+use Rattle.qg_extents.specs.BookRecords.{AreInOrder, IsTold, records_failure, told_in}
 use Rattle.qg_extents.specs.Written.{parts_of_book}
 
 -- ---- a book that is written and read

@@ -2,7 +2,7 @@ pub use Rattle.qg_refs.specs.Book
 pub use Rattle.qg_refs.specs.Counts
 pub mod Table
 pub mod Written
-pub mod Told
+pub mod BookRecords
 pub mod Reading
 pub mod Laws
 pub mod Fresh

@@ -2,14 +2,15 @@
 use Rattle.std.specs.Prelude.{◌≡◌, ◌≢◌, ℕ, ◌+◌, ◌<◌, ◌≤◌, ◌⊎◌, Bool, true, false, ◌&&◌, List, length, Option, Some}
 use Rattle.std.specs.Prelude.{None, ◌==◌, slice_index_or}
 use Rattle.qg_items.specs.declared.extent.Reference.{Reference}
-use Rattle.qg_parts.specs.Types.{ExtentPart}
-use Rattle.qg_parts.specs.Owed.{part_address}
+use Rattle.qg_tree_items.specs.Types.{ExtentPart}
+use Rattle.qg_tree_items.specs.Owed.{part_address}
 use Rattle.qg_refs.specs.declared.counted.Counted.{Counted}
 use Rattle.qg_refs.specs.Counts.{count_of, greatest_count, HasSoManyMore, IsRefList}
 use Rattle.qg_extents.specs.declared.head.Head.{Head}
 use Rattle.qg_extents.specs.declared.gather.Gathered.{Gathered}
-use Rattle.qg_extents.specs.Told.{are_counted, is_count, is_sound_record, refs_told, tells_full, told_count, told_in}
-use Rattle.qg_extents.specs.Told.{told_sum, what_told}
+use Rattle.qg_extents.specs.BookRecords.{are_counted, is_count, is_sound_record, refs_told, tells_full, told_count}
+use Rattle.qg_extents.specs.BookRecords.{told_in}
+use Rattle.qg_extents.specs.BookRecords.{told_sum, what_told}
 
 -- the parts from an index on, up to another, are those of one address
 pub record IsRun (parts : List ExtentPart) (from to : ℕ) : Type 0 where

@@ -9,10 +9,10 @@ use Rattle.qg_items.specs.declared.extent.ExtentItem.{ExtentItem}
 use Rattle.qg_items.specs.declared.extent.Reference.{Reference}
 use Rattle.qg_items.specs.declared.extent.Reference.TheVariants.{KeyedBlock, SharedBlock, KeyedData, SharedData}
 use Rattle.qg_items.specs.ItemText.{extent_text, data_ref_text, shared_data_ref_text}
-use Rattle.qg_parts.specs.Types.{ExtentPart}
-use Rattle.qg_parts.specs.Types.{DataRecord, NodeRecord, Referenced}
-use Rattle.qg_parts.specs.Keys.{key_with}
-use Rattle.qg_parts.specs.Owed.{node_flags}
+use Rattle.qg_tree_items.specs.Types.{ExtentPart}
+use Rattle.qg_tree_items.specs.Types.{DataRecord, NodeRecord, Referenced}
+use Rattle.qg_tree_items.specs.Keys.{key_with}
+use Rattle.qg_tree_items.specs.Owed.{node_flags}
 use Rattle.qg_refs.specs.declared.counted.Counted.{Counted}
 use Rattle.qg_refs.specs.declared.kept.Kept.{Kept}
 

@@ -1,9 +1,9 @@
 // The references of an image that is just made.
 ghost use Rattle.std.specs.Prelude.{◌≡◌, List, IfOk};
 ghost use Rattle.qg_node.specs.declared.node.Node.{Node};
-ghost use Rattle.qg_parts.specs.State.{layout_of};
-ghost use Rattle.qg_parts.specs.Owed.{Agrees};
-ghost use Rattle.qg_parts.specs.IsFresh.{fresh_state};
+ghost use Rattle.qg_tree_items.specs.State.{layout_of};
+ghost use Rattle.qg_tree_items.specs.Owed.{Agrees};
+ghost use Rattle.qg_tree_items.specs.IsFresh.{fresh_state};
 ghost use Rattle.qg_refs.specs.Book.{AgreesWithOwed};
 ghost use Rattle.qg_extents.specs.Fresh.{fresh_table};
 ghost use Rattle.qg_extents.specs.Table.{book_of};

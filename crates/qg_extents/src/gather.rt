@@ -1,12 +1,11 @@
 // The references that parts tell.
 ghost use Rattle.std.specs.Prelude.{◌≡◌, true, false, IfOk, MatchOption};
-ghost use Rattle.qg_refs.specs.Counts.{greatest_count};
-ghost use Rattle.qg_parts.specs.Owed.{reference_told};
+ghost use Rattle.qg_tree_items.specs.Owed.{reference_told};
 ghost use Rattle.qg_extents.specs.Reading.{IsGathered, IsPartRefused, IsPartTaken, IsRefused, IsTaken, adds_up};
 
 use qg_num::NoMemory;
-use qg_parts::image::ExtentPart;
-use qg_refs::{RefList, Reference};
+use qg_refs::{RefList, Reference, greatest_count};
+use qg_tree_items::image::ExtentPart;
 use std::alloc::Global;
 
 // References that were found so far, and how many more are to come.
@@ -72,16 +71,4 @@ fn gather(gathered: &mut Gathered, reference: Reference, count: u32) -> Result<b
     gathered.references.put(reference, count)?;
     gathered.left -= count as u64;
     Ok(true)
-}
-
-// The greatest count that a reference may have: a node's is there or not.
-fn greatest_count(reference: &Reference) -> u32
-    ensures { result ≡ greatest_count reference.now }
-{
-    match reference {
-        Reference::KeyedBlock { .. } => 1,
-        Reference::SharedBlock { .. } => 1,
-        Reference::KeyedData { .. } => u32::MAX,
-        Reference::SharedData { .. } => u32::MAX,
-    }
 }

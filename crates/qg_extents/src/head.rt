@@ -1,13 +1,13 @@
 // What a record tells.
 ghost use Rattle.std.specs.Prelude.{◌≡◌, ◌<◌, false, length, slice_get, IfSome, MatchOption};
 ghost use Rattle.std.specs.Option.{option_and_then};
-ghost use Rattle.qg_parts.specs.Owed.{is_record, node_flags};
+ghost use Rattle.qg_tree_items.specs.Owed.{is_record, node_flags};
 ghost use Rattle.qg_extents.specs.Reading.{IsHeadOf};
-ghost use Rattle.qg_extents.specs.Told.{is_sound_record, the_record};
+ghost use Rattle.qg_extents.specs.BookRecords.{is_sound_record, the_record};
 
 use qg_num::Generation;
-use qg_parts::image::ExtentPart;
 use qg_refs::What;
+use qg_tree_items::image::ExtentPart;
 
 /// What a record tells, beside the references.
 #[derive(Clone, Copy)]

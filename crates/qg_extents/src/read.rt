@@ -1,17 +1,17 @@
 // The book that the extent tree's items tell.
 ghost use Rattle.std.specs.Prelude.{◌≡◌, ◌<◌, false, length, None, IfOk, OnOk, IfErr, MatchOption};
-ghost use Rattle.qg_parts.specs.Owed.{part_address};
+ghost use Rattle.qg_tree_items.specs.Owed.{part_address};
 ghost use Rattle.qg_extents.specs.Reading.{IsRun};
 ghost use Rattle.qg_extents.specs.Table.{book_of};
-ghost use Rattle.qg_extents.specs.Told.{AreInOrder, IsTold, IsFault, IsEntryOf, is_entry, records_failure};
+ghost use Rattle.qg_extents.specs.BookRecords.{AreInOrder, IsTold, IsFault, IsEntryOf, is_entry, records_failure};
 
 use crate::Extents;
 use crate::fault::RefsFault;
 use crate::gather::read_references;
 use crate::head::{head_of, only_record};
 use qg_num::{Address, NoMemory};
-use qg_parts::image::ExtentPart;
 use qg_refs::Kept;
+use qg_tree_items::image::ExtentPart;
 use std::alloc::Global;
 
 impl Extents {

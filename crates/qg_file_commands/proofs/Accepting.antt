@@ -6,48 +6,48 @@ use Rattle.qg_image.specs.Table.{has_key}
 use Rattle.qg_image.specs.State.{State}
 use Rattle.qg_image.specs.Verdict.{longest_extent}
 use Rattle.qg_machine.specs.Refusals.{over_limit}
-use Rattle.qg_groups.specs.declared.judging.Judged.{Judged}
-use Rattle.qg_groups.specs.declared.judging.Judged.TheVariants.{Path}
-use Rattle.qg_groups.specs.declared.state.QuotaState.{QuotaState}
-use Rattle.qg_groups.specs.Judging.{IfPath}
-use Rattle.qg_groups.specs.OnOrOff.{path_in, refusal_in}
-use Rattle.qg_groups.specs.Tracked.{quota_of}
-use Rattle.qg_kept.specs.declared.kept.Kept.{Kept}
-use Rattle.qg_kept.specs.Editing.{HasReadNodes, clone_reserves, write_reserves}
-use Rattle.qg_kept.specs.Keeping.{IsFitted, IsKeptOf, SameButClean, most_reserved}
-use Rattle.qg_kept.proofs.Known.{nodesize-known}
-use Rattle.qg_kept.proofs.Looked.{node-size}
+use Rattle.qg_qgroups.specs.declared.judging.ReservationAnswer.{ReservationAnswer}
+use Rattle.qg_qgroups.specs.declared.judging.ReservationAnswer.TheVariants.{Path}
+use Rattle.qg_qgroups.specs.declared.state.QuotaState.{QuotaState}
+use Rattle.qg_qgroups.specs.Judging.{IfPath}
+use Rattle.qg_qgroups.specs.OnOrOff.{path_in, refusal_in}
+use Rattle.qg_qgroups.specs.Tracked.{quota_of}
+use Rattle.qg_open_image.specs.declared.open_image.OpenImage.{OpenImage}
+use Rattle.qg_open_image.specs.Editing.{HasReadNodes, clone_reserves, write_reserves}
+use Rattle.qg_open_image.specs.Keeping.{IsFitted, IsKeptOf, SameButClean, most_reserved}
+use Rattle.qg_open_image.proofs.Known.{nodesize-known}
+use Rattle.qg_open_image.proofs.Looked.{node-size}
 
 -- ---- what stays
 
 -- a subvolume is there still
-pub listed-still : (old new : Kept) → SameButClean old new → (sub : ℕ) → has_key sub old.snapshots ≡ true
+pub listed-still : (old new : OpenImage) → SameButClean old new → (sub : ℕ) → has_key sub old.snapshots ≡ true
     → has_key sub new.snapshots ≡ true
-listed-still old new same sub is = ap (λ (kept : Kept). has_key sub kept.snapshots) same.rest ∙ is
+listed-still old new same sub is = ap (λ (kept : OpenImage). has_key sub kept.snapshots) same.rest ∙ is
 
 -- quota stays where another tree came to hand
-pub quota-turned : (old new : Kept) → SameButClean old new → new.quota ≡ old.quota
-quota-turned old new same = ap (λ (kept : Kept). kept.quota) same.rest
+pub quota-turned : (old new : OpenImage) → SameButClean old new → new.quota ≡ old.quota
+quota-turned old new same = ap (λ (kept : OpenImage). kept.quota) same.rest
 
 -- and where nodes were read
-pub quota-read : (old new : Kept) (before after : History) (bytes left : ℕ)
+pub quota-read : (old new : OpenImage) (before after : History) (bytes left : ℕ)
     → HasReadNodes old new before after bytes left → new.quota ≡ old.quota
-quota-read old new before after bytes left looked = ap (λ (kept : Kept). kept.quota) looked.same
+quota-read old new before after bytes left looked = ap (λ (kept : OpenImage). kept.quota) looked.same
 
 -- the size of a node stays
-pub nodesize-turned : (old new : Kept) → SameButClean old new → new.superblock.nodesize ≡ old.superblock.nodesize
-nodesize-turned old new same = ap (λ (kept : Kept). kept.superblock.nodesize) same.rest
+pub nodesize-turned : (old new : OpenImage) → SameButClean old new → new.superblock.nodesize ≡ old.superblock.nodesize
+nodesize-turned old new same = ap (λ (kept : OpenImage). kept.superblock.nodesize) same.rest
 
-pub nodesize-read : (old new : Kept) (before after : History) (bytes left : ℕ)
+pub nodesize-read : (old new : OpenImage) (before after : History) (bytes left : ℕ)
     → HasReadNodes old new before after bytes left → new.superblock.nodesize ≡ old.superblock.nodesize
-nodesize-read old new before after bytes left looked = ap (λ (kept : Kept). kept.superblock.nodesize) looked.same
+nodesize-read old new before after bytes left looked = ap (λ (kept : OpenImage). kept.superblock.nodesize) looked.same
 
 -- ---- the path
 
 -- the groups that were answered
-pub path-told : (judged : Judged) (path groups : List ℕ) → judged ≡ Path path
+pub path-told : (judged : ReservationAnswer) (path groups : List ℕ) → judged ≡ Path path
     → IfPath judged (λ taken. taken ≡ groups) → path ≡ groups
-path-told judged path groups is told = subst (λ (one : Judged). IfPath one (λ taken. taken ≡ groups)) is told
+path-told judged path groups is told = subst (λ (one : ReservationAnswer). IfPath one (λ taken. taken ≡ groups)) is told
 
 -- they are those of the same subvolume while quota stays
 pub path-still : (old new : Option QuotaState) (sub other : ℕ) (path : List ℕ) → path ≡ path_in (quota_of old) sub
@@ -64,7 +64,7 @@ small_range : (nodesize len n : ℕ) → IsNodeSize nodesize → n ≡ len + nod
 small_range nodesize len n (inl size) is short = omega (arith, size, is, short)
 small_range nodesize len n (inr size) is short = omega (arith, size, is, short)
 
-module _ (kept : Kept) (fits : IsFitted kept) where
+module _ (kept : OpenImage) (fits : IsFitted kept) where
   -- what a clone reserves
   pub node-small : (n : ℕ) → n ≡ clone_reserves kept → n ≤ most_reserved
   node-small n is = small_node kept.superblock.nodesize n (node-size kept fits) is
@@ -75,8 +75,9 @@ module _ (kept : Kept) (fits : IsFitted kept) where
 
 -- ---- the judgement
 
-module _ (kept : Kept) (state : State) (history : History) (keeps : IsKeptOf kept state history)
-    (fits : IsFitted kept) (sub n : ℕ) (judged : Judged) (told : refusal_in judged ≡ over_limit state sub n) where
+module _ (kept : OpenImage) (state : State) (history : History) (keeps : IsKeptOf kept state history)
+    (fits : IsFitted kept) (sub n : ℕ) (judged : ReservationAnswer)
+    (told : refusal_in judged ≡ over_limit state sub n) where
   -- of a write's amount
   pub judged-range : (len : ℕ) → n ≡ write_reserves kept len
       → over_limit state sub (len + state.sizes.nodesize) ≡ refusal_in judged

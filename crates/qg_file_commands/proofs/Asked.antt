@@ -18,22 +18,22 @@ use Rattle.qg_image.specs.State.{State, Subvolume, file_at}
 use Rattle.qg_machine.specs.FileChange.{FileChange, clone_change, file_change, pieces_meeting, pieces_or_none}
 use Rattle.qg_machine.specs.FileChange.{pieces_past}
 use Rattle.qg_machine.specs.Work.{is_accepted}
-use Rattle.qg_rules.specs.Writable.{AreWritableFiles}
+use Rattle.qg_tree_items.specs.Writable.{AreWritableFiles}
 use Rattle.qg_extents.specs.Table.{IsTable}
-use Rattle.qg_file_items.specs.Pieces.{pieces_met}
-use Rattle.qg_kept.specs.Files.{HoldsFiles, pieces_of}
-use Rattle.qg_kept.specs.declared.kept.Kept.{Kept}
-use Rattle.qg_kept.specs.Keeping.{IsKept, IsKeptOf}
-use Rattle.qg_kept.proofs.Changed.{changes-here, clone-here, file-of}
-use Rattle.qg_kept.proofs.Looked.{hand-among, is-subvolume}
-use Rattle.qg_kept.proofs.Trees.{height-low}
+use Rattle.qg_inodes.specs.PiecesWritten.{pieces_met}
+use Rattle.qg_open_image.specs.Files.{HoldsFiles, pieces_of}
+use Rattle.qg_open_image.specs.declared.open_image.OpenImage.{OpenImage}
+use Rattle.qg_open_image.specs.Keeping.{IsKept, IsKeptOf}
+use Rattle.qg_open_image.proofs.Changed.{changes-here, clone-here, file-of}
+use Rattle.qg_open_image.proofs.Looked.{hand-among, is-subvolume}
+use Rattle.qg_open_image.proofs.Trees.{height-low}
 use Rattle.qg_file_commands.specs.Reading.{AsksForFew}
 use Rattle.qg_file_commands.proofs.Touched.{many-met, met-many, own-past}
 
 -- ---- what is read
 
 -- a tree that has the items of files has few levels
-pub low : (kept : Kept) (history : History) (bytes : ℕ) (files : List (ℕ × File)) → IsKept kept history bytes
+pub low : (kept : OpenImage) (history : History) (bytes : ℕ) (files : List (ℕ × File)) → IsKept kept history bytes
     → HoldsFiles kept.fs history files → kept.fs.tree.height ≤ 7
 low kept history bytes files fits holds =
     height-low kept.fs history bytes _ _ (is-subvolume kept history bytes fits) holds.stands kept.fs.tree
@@ -88,7 +88,7 @@ both-reads : (before mid now pieces : ℕ) → mid ≤ before + 8 * (pieces + 3)
     → now ≤ before + 61 * (pieces + 3)
 both-reads before mid now pieces source target = omega (arith, source, target)
 
-pub asked-then : (result : Result Answer BlockFault) (kept : Kept) (history : History) (command : Command)
+pub asked-then : (result : Result Answer BlockFault) (kept : OpenImage) (history : History) (command : Command)
     (before mid now : ℕ) → ((state : State) (change : FileChange) → IsKeptOf kept state history
     → file_change state command ≡ Some change
     → IfOk result (λ answer. IsTrue (is_accepted answer) → now ≤ mid + 53 * (change.pieces + 3))
@@ -101,7 +101,7 @@ asked-then (Err fault) kept history command before mid now said = tt
 
 -- ---- the pieces that a change touches
 
-module _ (kept : Kept) (state : State) (history : History) (bytes : ℕ) (fits : IsKept kept history bytes)
+module _ (kept : OpenImage) (state : State) (history : History) (bytes : ℕ) (fits : IsKept kept history bytes)
     (keeps : IsKeptOf kept state history) (table : IsTable kept.fs.refs.refs) (change : FileChange) where
   pub write-pieces : (sub ino off len run : ℕ) → sub ≡ kept.fs.tree.owner → Some run ≡ first_run state len
       → file_change state (Write sub ino off len) ≡ Some change

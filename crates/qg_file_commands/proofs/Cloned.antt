@@ -12,24 +12,24 @@ use Rattle.qg_machine.specs.FileChange.{pieces_meeting}
 use Rattle.qg_machine.specs.Refusals.{over_limit}
 use Rattle.qg_space.specs.Holding.{free_slots}
 use Rattle.qg_extents.specs.Table.{IsTable}
-use Rattle.qg_groups.specs.declared.state.QuotaState.{QuotaState}
-use Rattle.qg_kept.specs.Types.{FsTree}
-use Rattle.qg_kept.specs.Changes.{files_cloned_from}
-use Rattle.qg_kept.specs.Files.{LeavesFiles, LeavesHeld, pieces_of}
-use Rattle.qg_kept.specs.declared.kept.Kept.{Kept}
-use Rattle.qg_kept.specs.Answering.{Answered}
-use Rattle.qg_kept.specs.Editing.{clone_refusal, clone_reserves, slots_refusal}
-use Rattle.qg_kept.specs.Keeping.{IsKept, IsKeptOf, need_of}
-use Rattle.qg_kept.proofs.Known.{sub-known}
+use Rattle.qg_qgroups.specs.declared.state.QuotaState.{QuotaState}
+use Rattle.qg_open_image.specs.Types.{FsTree}
+use Rattle.qg_open_image.specs.Changes.{files_cloned_from}
+use Rattle.qg_open_image.specs.Files.{LeavesFiles, LeavesHeld, pieces_of}
+use Rattle.qg_open_image.specs.declared.open_image.OpenImage.{OpenImage}
+use Rattle.qg_open_image.specs.Answering.{Answered}
+use Rattle.qg_open_image.specs.Editing.{clone_refusal, clone_reserves, slots_refusal}
+use Rattle.qg_open_image.specs.Keeping.{IsKept, IsKeptOf, need_of}
+use Rattle.qg_open_image.proofs.Known.{sub-known}
 use Rattle.qg_file_commands.proofs.Refused.{early-clone, late-clone, limit-clone}
-use Rattle.qg_kept.proofs.Changed.{clone-here, hand-short, short-files, short-pieces}
+use Rattle.qg_open_image.proofs.Changed.{clone-here, hand-short, short-files, short-pieces}
 use Rattle.qg_file_commands.proofs.Leaves.{follows-edit}
-use Rattle.qg_kept.proofs.Short.{short-left}
-use Rattle.qg_kept.proofs.Stepped.{Follows, IsLate, Reserves, change_to, does_edit, does_nothing, edited}
-use Rattle.qg_kept.proofs.Stepped.{late-refusal, reserves-so}
+use Rattle.qg_open_image.proofs.Short.{short-left}
+use Rattle.qg_open_image.proofs.Stepped.{Follows, IsLate, Reserves, change_to, does_edit, does_nothing, edited}
+use Rattle.qg_open_image.proofs.Stepped.{late-refusal, reserves-so}
 
 -- it is refused
-pub refuses-clone : (kept : Kept) (state : State) (history : History)
+pub refuses-clone : (kept : OpenImage) (state : State) (history : History)
     (sub ino off len to_sub to_ino to_off : ℕ) (reason : Refusal) → IsKeptOf kept state history
     → clone_refusal state sub ino off len to_sub to_ino to_off ≡ Some reason
     → Answered state (Clone sub ino off len to_sub to_ino to_off) (Refused reason) [] kept history
@@ -38,7 +38,7 @@ refuses-clone kept state history sub ino off len to_sub to_ino to_off reason kee
     (early-clone state sub ino off len to_sub to_ino to_off reason is)
 
 -- a limit is passed
-pub refuses-limit : (kept : Kept) (state : State) (history : History)
+pub refuses-limit : (kept : OpenImage) (state : State) (history : History)
     (sub ino off len to_sub to_ino to_off : ℕ) (reason : Refusal) → IsKeptOf kept state history
     → clone_refusal state sub ino off len to_sub to_ino to_off ≡ None
     → over_limit state to_sub state.sizes.nodesize ≡ Some reason
@@ -48,20 +48,20 @@ refuses-limit kept state history sub ino off len to_sub to_ino to_off reason kee
     (limit-clone state sub ino off len to_sub to_ino to_off reason passes passed)
 
 -- the subvolume at hand is the source
-pub source-there : (kept : Kept) (state : State) (history : History) (keeps : IsKeptOf kept state history)
+pub source-there : (kept : OpenImage) (state : State) (history : History) (keeps : IsKeptOf kept state history)
     (sub : ℕ) → kept.fs.tree.owner ≡ sub → value_at sub state.subvolumes ≡ Some keeps.mine
 source-there kept state history keeps sub hand =
     ap (λ (n : ℕ). value_at n state.subvolumes) (sym hand) ∙ keeps.keeps.there
 
 -- a subvolume that was there is there still, as the state is the same
-pub target-listed : (old kept : Kept) (state : State) (before history : History)
+pub target-listed : (old kept : OpenImage) (state : State) (before history : History)
     → IsKeptOf old state before → IsKeptOf kept state history → (sub : ℕ) → has_key sub old.snapshots ≡ true
     → has_key sub kept.snapshots ≡ true
 target-listed old kept state before history first keeps sub is =
     sym (sub-known kept state history keeps sub) ∙ sub-known old state before first sub ∙ is
 
 -- It may go on into a file of the subvolume at hand, from a file of a subvolume, and so many pieces are touched
-module _ (kept : Kept) (state : State) (history : History)
+module _ (kept : OpenImage) (state : State) (history : History)
     (bytes sub ino off len to_sub to_ino to_off pieces : ℕ) (source : Subvolume) (fits : IsKept kept history bytes)
     (keeps : IsKeptOf kept state history) (table : IsTable kept.fs.refs.refs)
     (there : value_at sub state.subvolumes ≡ Some source) (hand : to_sub ≡ kept.fs.tree.owner)
@@ -112,7 +112,7 @@ module _ (kept : Kept) (state : State) (history : History)
       files_now amount pieces fits keeps table is-late enough refl follows same quota reserves (λ done. done))
 
   -- the range was cloned, and so many bytes were reserved
-  pub cloned : (fs : FsTree) (new : Kept) (after : History) (left reserved : ℕ)
+  pub cloned : (fs : FsTree) (new : OpenImage) (after : History) (left reserved : ℕ)
       → new ≡ edited kept fs new.quota → reserved ≡ clone_reserves kept → Reserves kept new.quota reserved
       → IsTable new.fs.refs.refs → None ≡ slots_refusal kept pieces
       → need_of kept pieces ≤ free_slots kept.fs.land.space
@@ -121,10 +121,10 @@ module _ (kept : Kept) (state : State) (history : History)
       + pieces_meeting off (off + len) (pieces_of ino source.files))
       → Answered state (Clone sub ino off len to_sub to_ino to_off) Done [] new after
   cloned fs new after left reserved is told reserves table_new none enough held leaves =
-      subst (λ (k : Kept). Answered state (Clone sub ino off len to_sub to_ino to_off) Done [] k after) (sym is)
+      subst (λ (k : OpenImage). Answered state (Clone sub ino off len to_sub to_ino to_off) Done [] k after) (sym is)
       (clones fs new.quota after none
       (follows-edit kept fs history after bytes left state files_now pieces fits keeps table
-      (subst (λ (k : Kept). IsTable k.fs.refs.refs) is table_new) held
+      (subst (λ (k : OpenImage). IsTable k.fs.refs.refs) is table_new) held
       (subst (λ (n : ℕ). LeavesFiles kept.fs fs history files_now n) (sym touched) leaves)
       ((short-left kept.fs.tree.next keeps.files (hand-short kept state history keeps)).cloned
       (pieces_of ino source.files) off len to_ino to_off

@@ -9,17 +9,17 @@ use Rattle.qg_super.specs.Places.{total_bytes}
 use Rattle.qg_super.specs.SuperText.{sizes_of}
 use Rattle.qg_image.specs.Table.{keys_of}
 use Rattle.qg_image.specs.State.{Accepted}
-use Rattle.qg_descent.specs.Tree.{Root}
-use Rattle.qg_kept.specs.Types.{FsTree}
-use Rattle.qg_kept.specs.Standing.{AreNumbered, CanTurn, trees_of}
-use Rattle.qg_kept.specs.Files.{LeavesHeld, StaysOwn}
-use Rattle.qg_blocks.specs.Told.{IsBacked}
-use Rattle.qg_groups.specs.Tracked.{quota_of}
-use Rattle.qg_kept.specs.Editable.{AreGroupsOf}
-use Rattle.qg_kept.specs.declared.kept.Kept.{Kept}
-use Rattle.qg_kept.specs.Keeping.{AreSubvolumesBy, HoldsPending, IsFitted, IsKept, most_reserved}
+use Rattle.qg_tree_read.specs.Tree.{Root}
+use Rattle.qg_open_image.specs.Types.{FsTree}
+use Rattle.qg_open_image.specs.Standing.{AreNumbered, CanTurn, trees_of}
+use Rattle.qg_open_image.specs.Files.{LeavesHeld, StaysOwn}
+use Rattle.qg_blocks.specs.NodesFound.{IsBacked}
+use Rattle.qg_qgroups.specs.Tracked.{quota_of}
+use Rattle.qg_open_image.specs.Editable.{AreGroupsOf}
+use Rattle.qg_open_image.specs.declared.open_image.OpenImage.{OpenImage}
+use Rattle.qg_open_image.specs.Keeping.{AreSubvolumesBy, HoldsPending, IsFitted, IsKept, most_reserved}
 use Rattle.qg_file_commands.proofs.ReservedBy.{bounded-more, later-more}
-use Rattle.qg_kept.proofs.Stepped.{Reserves, edited}
+use Rattle.qg_open_image.proofs.Stepped.{Reserves, edited}
 
 -- what is said where nothing is refused
 pub if-none : (refused : Option Refusal) (P : Type 0) → refused ≡ None → IfNone refused P → P
@@ -53,11 +53,11 @@ module _ (old new : FsTree) (others : new.others.items ≡ old.others.items) whe
   }
 
 -- what is kept, with other trees
-abbrev pub with_trees : Kept → FsTree → Kept
+abbrev pub with_trees : OpenImage → FsTree → OpenImage
 with_trees old fs = record old { fs = fs }
 
 -- the trees were edited, and the command isn't counted yet
-pub kept-changed : (old : Kept) (fs : FsTree) (before after : History) (bytes left : ℕ)
+pub kept-changed : (old : OpenImage) (fs : FsTree) (before after : History) (bytes left : ℕ)
     → IsKept old before bytes → LeavesHeld old.fs fs before after bytes left → StaysOwn old.fs fs
     → IsKept (with_trees old fs) after left
 kept-changed old fs before after bytes left kept held stays = record {
@@ -81,7 +81,7 @@ kept-changed old fs before after bytes left kept held stays = record {
 }
 
 -- a command is counted that reserves nothing
-fitted-more : (kept : Kept) → IsFitted kept → IsFitted (record kept { pending = kept.pending + 1 })
+fitted-more : (kept : OpenImage) → IsFitted kept → IsFitted (record kept { pending = kept.pending + 1 })
 fitted-more kept fits = record {
   superblock = fits.superblock;
   subvolumes = fits.subvolumes;
@@ -97,19 +97,19 @@ fitted-more kept fits = record {
   drafted = fits.drafted;
 }
 
-pub kept-edited : (old : Kept) (fs : FsTree) (new : Kept) (before after : History) (bytes left : ℕ)
+pub kept-edited : (old : OpenImage) (fs : FsTree) (new : OpenImage) (before after : History) (bytes left : ℕ)
     → IsKept old before bytes → LeavesHeld old.fs fs before after bytes left → StaysOwn old.fs fs
     → new ≡ edited old fs old.quota → IsKept new after left
 kept-edited old fs new before after bytes left kept held stays is =
     let changed = kept-changed old fs before after bytes left kept held stays in
-    subst (λ (k : Kept). IsKept k after left) (sym is) (record {
+    subst (λ (k : OpenImage). IsKept k after left) (sym is) (record {
       fitted = fitted-more (with_trees old fs) changed.fitted;
       backed = changed.backed;
       long = changed.long;
     })
 
 -- a command is counted that reserves something
-module _ (old : Kept) (fs : FsTree) (new : Kept)
+module _ (old : OpenImage) (fs : FsTree) (new : OpenImage)
     (rest : new ≡ record (with_trees old fs) { quota = new.quota; pending = new.pending })
     (more : new.pending ≡ old.pending + 1) where
   pub accepted-is : new ≡ edited old fs new.quota
@@ -121,12 +121,13 @@ module _ (old : Kept) (fs : FsTree) (new : Kept)
       let changed = kept-changed old fs before after bytes left kept held stays in
       record {
         fitted = fitted;
-        backed = subst (λ (k : Kept). IsBacked k.fs.land.blocks after) (sym accepted-is) changed.backed;
-        long = subst (λ (k : Kept). total_bytes (sizes_of k.superblock) ≤ left) (sym accepted-is) changed.long;
+        backed = subst (λ (k : OpenImage). IsBacked k.fs.land.blocks after) (sym accepted-is) changed.backed;
+        long = subst (λ (k : OpenImage). total_bytes (sizes_of k.superblock) ≤ left) (sym accepted-is) changed.long;
       }
 
 -- what it reserved is held
-pub accepted-reserves : (old : Kept) (fs : FsTree) (new : Kept) (amount : ℕ) → fs.tree.owner ≡ old.fs.tree.owner
+pub accepted-reserves : (old : OpenImage) (fs : FsTree) (new : OpenImage) (amount : ℕ)
+    → fs.tree.owner ≡ old.fs.tree.owner
     → quota_of new.quota ≡ quota_of old.quota
     → ((given : Accepted) (pending : List Accepted) → given.sub ≡ fs.tree.owner → given.amount ≡ amount
     → HoldsPending (with_trees old fs) pending → HoldsPending new (given ∷ pending))

@@ -7,28 +7,28 @@ use Rattle.qg_image.specs.Need.{file_copies}
 use Rattle.qg_image.specs.State.{Accepted, State}
 use Rattle.qg_space.specs.Holding.{free_slots}
 use Rattle.qg_extents.specs.Table.{IsTable}
-use Rattle.qg_kept.specs.Heavier.{BookGetsHeavier, edit_bytes, name_new_bytes}
-use Rattle.qg_kept.specs.Need.{GetsHeavierBy}
-use Rattle.qg_kept.proofs.Covered.{leaves-need}
-use Rattle.qg_kept.proofs.TreeRefsSums.{held-heavier}
-use Rattle.qg_kept.specs.Types.{FsTree}
-use Rattle.qg_kept.specs.Files.{LeavesFiles, LeavesHeld}
-use Rattle.qg_kept.specs.FsLawsKeeping.{FollowsCommand, mine_after, state_after}
-use Rattle.qg_kept.specs.FsLawsKeeping as step
-use Rattle.qg_kept.proofs.Followed.{follows}
-use Rattle.qg_kept.specs.FsLawsCommitting.{AreShort}
-use Rattle.qg_kept.specs.declared.kept.Kept.{Kept}
-use Rattle.qg_kept.specs.Keeping.{IsKept, IsKeptOf, book_weight, commit_room_of, filled_by, need_of, quota_weight}
-use Rattle.qg_kept.specs.Keeping.{root_weight}
-use Rattle.qg_kept.proofs.Reserve.{large}
-use Rattle.qg_kept.proofs.Stepped.{Follows, edited, tree-kept}
+use Rattle.qg_open_image.specs.Heavier.{BookGetsHeavier, edit_bytes, name_new_bytes}
+use Rattle.qg_open_image.specs.Need.{GetsHeavierBy}
+use Rattle.qg_open_image.proofs.Covered.{leaves-need}
+use Rattle.qg_open_image.proofs.TreeBackrefsSums.{held-heavier}
+use Rattle.qg_open_image.specs.Types.{FsTree}
+use Rattle.qg_open_image.specs.Files.{LeavesFiles, LeavesHeld}
+use Rattle.qg_open_image.specs.FsLawsKeeping.{FollowsCommand, mine_after, state_after}
+use Rattle.qg_open_image.specs.FsLawsKeeping as step
+use Rattle.qg_open_image.proofs.Followed.{follows}
+use Rattle.qg_open_image.specs.FsLawsCommitting.{AreShort}
+use Rattle.qg_open_image.specs.declared.open_image.OpenImage.{OpenImage}
+use Rattle.qg_open_image.specs.Keeping.{IsKept, IsKeptOf, book_weight, commit_room_of, filled_by, need_of, quota_weight}
+use Rattle.qg_open_image.specs.Keeping.{root_weight}
+use Rattle.qg_open_image.proofs.Reserve.{large}
+use Rattle.qg_open_image.proofs.Stepped.{Follows, edited, tree-kept}
 
 -- a part of what is needed is free
 pub part-free : (a b free : ℕ) → a + b + 40 ≤ free → a ≤ free
 part-free a b free enough = omega (arith, enough)
 
 -- what so many copies may take is free
-pub copies-free : (kept : Kept) (pieces : ℕ) → need_of kept pieces ≤ free_slots kept.fs.land.space
+pub copies-free : (kept : OpenImage) (pieces : ℕ) → need_of kept pieces ≤ free_slots kept.fs.land.space
     → 10 * file_copies kept.fs.tree.height pieces ≤ free_slots kept.fs.land.space
 copies-free kept pieces enough =
     part-free (10 * file_copies kept.fs.tree.height pieces)
@@ -40,7 +40,7 @@ needed-left : (need free left copies : ℕ) → need ≤ free → free ≤ left 
 needed-left need free left copies enough taken = omega (arith, enough, taken)
 
 -- a tree that is left for the next edit, with a table of references
-module _ (old : Kept) (fs : FsTree) (before after : History) (bytes left : ℕ) (state : State)
+module _ (old : OpenImage) (fs : FsTree) (before after : History) (bytes left : ℕ) (state : State)
     (files : List (ℕ × File)) (pieces : ℕ) (fits : IsKept old before bytes) (keeps : IsKeptOf old state before)
     (table : IsTable old.fs.refs.refs) (table_new : IsTable fs.refs.refs)
     (held : LeavesHeld old.fs fs before after bytes left)

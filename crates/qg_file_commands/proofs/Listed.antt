@@ -13,14 +13,14 @@ use Rattle.qg_image.specs.State.{State, file_at}
 use Rattle.qg_machine.specs.Refusals.{no_file, refusal, refuse}
 use Rattle.qg_machine.specs.Step.{Step, file_told}
 use Rattle.qg_machine.specs.Step as machine
-use Rattle.qg_kept.specs.declared.kept.Kept.{Kept}
-use Rattle.qg_kept.specs.Answering.{Answered}
-use Rattle.qg_kept.specs.Keeping.{IsKeptOf}
-use Rattle.qg_kept.proofs.Known.{file-known, file-missing, hand-there, no-other}
-use Rattle.qg_kept.proofs.Stepped.{does_nothing}
+use Rattle.qg_open_image.specs.declared.open_image.OpenImage.{OpenImage}
+use Rattle.qg_open_image.specs.Answering.{Answered}
+use Rattle.qg_open_image.specs.Keeping.{IsKeptOf}
+use Rattle.qg_open_image.proofs.Known.{file-known, file-missing, hand-there, no-other}
+use Rattle.qg_open_image.proofs.Stepped.{does_nothing}
 
 -- there is no such subvolume, which a tree was asked of before
-pub lists-no-sub : (old kept : Kept) (state : State) (history : History) (sub ino : ℕ)
+pub lists-no-sub : (old kept : OpenImage) (state : State) (history : History) (sub ino : ℕ)
     → IsKeptOf old state history → IsKeptOf kept state history → has_key sub old.snapshots ≡ false
     → Answered state (Ls sub ino) (answer.Refused why.NoSub) [] kept history
 unfolding refusal
@@ -29,7 +29,7 @@ lists-no-sub old kept state history sub ino before keeps other =
     (ap (λ (first : Option Refusal). first_some (first ∷ no_file state sub ino ∷ []))
     (no-other old state history before sub other))
 
-module _ (kept : Kept) (state : State) (history : History) (sub ino : ℕ)
+module _ (kept : OpenImage) (state : State) (history : History) (sub ino : ℕ)
     (keeps : IsKeptOf kept state history) where
   -- a file of the subvolume at hand is there, or not
   refused : (file : Option File) → value_at ino keeps.files ≡ file

@@ -15,13 +15,13 @@ use Rattle.qg_image.specs.ItemMeaning.{first_some, some_passes}
 use Rattle.qg_image.specs.Table.{has_key, value_at}
 use Rattle.qg_image.specs.State.{State, has_subvolume}
 use Rattle.qg_image.specs.Verdict.{longest_extent}
-use Rattle.qg_contents.specs.Written.{inode_of}
+use Rattle.qg_root_items.specs.Written.{inode_of}
 use Rattle.qg_machine.specs.Refusals.{most_pending, no_align, no_far, no_file, no_source, no_sub, refuse, share_a_byte}
 use Rattle.qg_machine.specs.Refusals.{too_many_pending}
-use Rattle.qg_kept.specs.declared.kept.Kept.{Kept}
-use Rattle.qg_kept.specs.Editing.{clone_refusal, range_refusal, size_refusal, unlink_refusal}
-use Rattle.qg_kept.specs.Keeping.{IsKeptOf}
-use Rattle.qg_kept.proofs.Known.{file-missing, hand-there, many-pending, no-other, source-short, sub-there}
+use Rattle.qg_open_image.specs.declared.open_image.OpenImage.{OpenImage}
+use Rattle.qg_open_image.specs.Editing.{clone_refusal, range_refusal, size_refusal, unlink_refusal}
+use Rattle.qg_open_image.specs.Keeping.{IsKeptOf}
+use Rattle.qg_open_image.proofs.Known.{file-missing, hand-there, many-pending, no-other, source-short, sub-there}
 
 -- ---- the INODE_ITEM that is told of a file
 
@@ -65,7 +65,7 @@ first-same : (there : Bool) (later : List (Option Refusal)) → first_some later
 first-same true later is = is
 first-same false later is = refl
 
-module _ (kept : Kept) (state : State) (history : History) (keeps : IsKeptOf kept state history) where
+module _ (kept : OpenImage) (state : State) (history : History) (keeps : IsKeptOf kept state history) where
   abbrev pub many : Option Refusal
   many = refuse (nat_le most_pending kept.pending) why.TooMany
 

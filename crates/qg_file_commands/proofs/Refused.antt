@@ -15,7 +15,7 @@ use Rattle.qg_machine.specs.FileChange.{file_change}
 use Rattle.qg_machine.specs.Refusals.{no_align, no_far, no_file, no_nodes_for, no_source, no_sub, over_limit, refusal}
 use Rattle.qg_machine.specs.Refusals.{refuse}
 use Rattle.qg_machine.specs.Refusals.{share_a_byte, too_many_pending}
-use Rattle.qg_kept.specs.Editing.{clone_refusal, range_refusal, size_refusal, unlink_refusal}
+use Rattle.qg_open_image.specs.Editing.{clone_refusal, range_refusal, size_refusal, unlink_refusal}
 
 -- ---- the first of several
 

@@ -17,26 +17,26 @@ use Rattle.qg_image.specs.Members.{hierarchy_of, is_below}
 use Rattle.qg_image.specs.Record.{Record}
 use Rattle.qg_image.specs.State.{Accepted, State}
 use Rattle.qg_machine.specs.Refusals.{over_limit}
-use Rattle.qg_hier.specs.Groups.{IsSound, groups_above, has_number}
-use Rattle.qg_hier.proofs.Chains.{below_itself, below_last}
-use Rattle.qg_hier.proofs.Order.{has_filter}
-use Rattle.qg_hier.proofs.Related.{level_less}
-use Rattle.qg_limits.specs.Limit.{held_of}
-use Rattle.qg_groups.specs.declared.judging.Judged.{Judged}
-use Rattle.qg_groups.specs.declared.state.QuotaState.{QuotaState}
-use Rattle.qg_groups.specs.Judging.{IfPath, over_in}
-use Rattle.qg_groups.specs.OnOrOff.{path_in, refusal_in}
-use Rattle.qg_groups.specs.Tracked.{HasGroup, HoldsAll, HoldsAtMost, IsTracked, path_of, quota_of}
-use Rattle.qg_groups.proofs.Agreed.{ok-then}
-use Rattle.qg_groups.proofs.Paths.{path-ascends, room-held}
-use Rattle.qg_groups.proofs.Reserved.{bound-more, has-group, refusal-off, refusal-told}
-use Rattle.qg_kept.specs.Editable.{AreGroups, AreGroupsOf}
+use Rattle.qg_qgroups.specs.Groups.{IsSound, groups_above, has_number}
+use Rattle.qg_qgroups.proofs.Chains.{below_itself, below_last}
+use Rattle.qg_qgroups.proofs.Order.{has_filter}
+use Rattle.qg_qgroups.proofs.Related.{level_less}
+use Rattle.qg_qgroups.specs.Limit.{held_of}
+use Rattle.qg_qgroups.specs.declared.judging.ReservationAnswer.{ReservationAnswer}
+use Rattle.qg_qgroups.specs.declared.state.QuotaState.{QuotaState}
+use Rattle.qg_qgroups.specs.Judging.{IfPath, over_in}
+use Rattle.qg_qgroups.specs.OnOrOff.{path_in, refusal_in}
+use Rattle.qg_qgroups.specs.Tracked.{HasGroup, HoldsAll, HoldsAtMost, IsTracked, path_of, quota_of}
+use Rattle.qg_qgroups.proofs.Agreed.{ok-then}
+use Rattle.qg_qgroups.proofs.Paths.{path-ascends, room-held}
+use Rattle.qg_qgroups.proofs.Reserved.{bound-more, has-group, refusal-off, refusal-told}
+use Rattle.qg_open_image.specs.Editable.{AreGroups, AreGroupsOf}
 use Rattle.qg_extents.specs.Table.{IsTable}
-use Rattle.qg_kept.proofs.Lists.{from-mapped}
-use Rattle.qg_kept.specs.declared.kept.Kept.{Kept}
-use Rattle.qg_kept.specs.declared.kept.KeptSubvolume.{KeptSubvolume}
-use Rattle.qg_kept.specs.Keeping.{IsFitted, IsKeptWith, most_reserved}
-use Rattle.qg_kept.proofs.Looked.{hand-among, tree-listed}
+use Rattle.qg_open_image.proofs.Lists.{from-mapped}
+use Rattle.qg_open_image.specs.declared.open_image.OpenImage.{OpenImage}
+use Rattle.qg_open_image.specs.declared.open_image.KeptSubvolume.{KeptSubvolume}
+use Rattle.qg_open_image.specs.Keeping.{IsFitted, IsKeptWith, most_reserved}
+use Rattle.qg_open_image.proofs.Looked.{hand-among, tree-listed}
 
 -- ---- quota by its two cases
 
@@ -69,7 +69,7 @@ room-small pending n few small = omega (arith, few, small)
 
 -- ---- the group of a subvolume
 
-module _ (kept : Kept) (fits : IsFitted kept) where
+module _ (kept : OpenImage) (fits : IsFitted kept) where
   number-listed : (sub : ℕ) → Contains (keys_of kept.snapshots) sub → is_subvolume_number sub ≡ true
   number-listed sub has =
       let entry = from-mapped (λ (entry : ℕ × KeptSubvolume). entry.0) kept.snapshots sub has in
@@ -109,14 +109,14 @@ module _ (kept : Kept) (fits : IsFitted kept) where
 
 -- ---- how it is judged
 
-module _ (kept : Kept) (state : State) (history : History) (names : List Record)
+module _ (kept : OpenImage) (state : State) (history : History) (names : List Record)
     (keeps : IsKeptWith kept state history names) (sub n : ℕ) where
   -- while quota is off no limit is in the way
   pub judged-off : kept.quota ≡ None → over_limit state sub n ≡ None
   judged-off off = refusal-off state sub n (keeps.quota ∙ ap (λ (q : Option QuotaState). quota_of q) off)
 
   -- and while it is on it is refused as the machine refuses it
-  pub judged-on : (tracked : QuotaState) (judged : Judged) → kept.quota ≡ Some tracked
+  pub judged-on : (tracked : QuotaState) (judged : ReservationAnswer) → kept.quota ≡ Some tracked
       → ((pending : List Accepted) → HoldsAll tracked pending → over_in judged ≡ over tracked.quota pending sub n)
       → refusal_in judged ≡ over_limit state sub n
   judged-on tracked judged on value =
@@ -127,7 +127,8 @@ module _ (kept : Kept) (state : State) (history : History) (names : List Record)
       refusal-told state sub n tracked.quota judged quota (value state.pending holds)
 
 -- so it is of each state that something is kept of
-pub judged-all : {E : Type 0} (kept : Kept) (tracked : QuotaState) (result : Result Judged E) (sub n : ℕ)
+pub judged-all : {E : Type 0} (kept : OpenImage) (tracked : QuotaState) (result : Result ReservationAnswer E)
+    (sub n : ℕ)
     → kept.quota ≡ Some tracked
     → IfOk result (λ judged. (pending : List Accepted) → HoldsAll tracked pending
     → over_in judged ≡ over tracked.quota pending sub n)
@@ -138,7 +139,8 @@ judged-all kept tracked (Ok judged) sub n on value = λ state names history keep
 judged-all kept tracked (Err fault) sub n on value = tt
 
 -- and the path is that of quota
-pub judged-path : {E : Type 0} (quota : Option QuotaState) (tracked : QuotaState) (result : Result Judged E) (sub : ℕ)
+pub judged-path : {E : Type 0} (quota : Option QuotaState) (tracked : QuotaState) (result : Result ReservationAnswer E)
+    (sub : ℕ)
     → quota ≡ Some tracked → IfOk result (λ judged. IfPath judged (λ path. path ≡ path_of tracked.quota sub))
     → IfOk result (λ judged. IfPath judged (λ path. path ≡ path_in (quota_of quota) sub))
 judged-path quota tracked result sub on is =
@@ -263,23 +265,23 @@ ok-anyway (Err e) P holds = tt
 
 -- ---- one command more is pending
 
-abbrev pub counted : Kept → Kept
+abbrev pub counted : OpenImage → OpenImage
 counted kept = record kept { pending = kept.pending + 1 }
 
 -- what is held changed, and nothing else
-module _ (old held : Kept) (n : ℕ) (rest : held ≡ record old { quota = held.quota }) where
+module _ (old held : OpenImage) (n : ℕ) (rest : held ≡ record old { quota = held.quota }) where
   pub held-rest : held ≡ record old { quota = held.quota; pending = held.pending }
-  held-rest = ap (λ (kept : Kept). record kept { quota = held.quota; pending = held.pending }) rest
+  held-rest = ap (λ (kept : OpenImage). record kept { quota = held.quota; pending = held.pending }) rest
 
   pub pending-still : held.pending ≡ old.pending
-  pending-still = ap (λ (kept : Kept). kept.pending) rest
+  pending-still = ap (λ (kept : OpenImage). kept.pending) rest
 
   pub table-still : IsTable old.fs.refs.refs → IsTable held.fs.refs.refs
-  table-still table = subst (λ (kept : Kept). IsTable kept.fs.refs.refs) (sym rest) table
+  table-still table = subst (λ (kept : OpenImage). IsTable kept.fs.refs.refs) (sym rest) table
 
   -- and then the command is counted
   pub counted-rest : counted held ≡ record old { quota = held.quota; pending = held.pending + 1 }
-  counted-rest = ap (λ (kept : Kept). record kept { quota = held.quota; pending = held.pending + 1 }) rest
+  counted-rest = ap (λ (kept : OpenImage). record kept { quota = held.quota; pending = held.pending + 1 }) rest
 
   pub counted-pending : held.pending + 1 ≡ old.pending + 1
   counted-pending = ap (λ (m : ℕ). m + 1) pending-still
@@ -294,7 +296,7 @@ module _ (old held : Kept) (n : ℕ) (rest : held ≡ record old { quota = held.
 
   pub fitted-counted : IsFitted old → n ≤ most_reserved → quota_of held.quota ≡ quota_of old.quota
       → IfSome held.quota IsTracked → HoldsNoMore old.quota held.quota n → IsFitted (counted held)
-  fitted-counted fits small same tracked most = subst (λ (kept : Kept). IsFitted kept) (sym counted-rest) (record {
+  fitted-counted fits small same tracked most = subst (λ (kept : OpenImage). IsFitted kept) (sym counted-rest) (record {
     superblock = fits.superblock;
     subvolumes = fits.subvolumes;
     trees = fits.trees;

@@ -10,10 +10,10 @@ use Rattle.qg_image.specs.Space as present
 use Rattle.qg_space.specs.Holding.{Holding, first_run, is_free_run}
 use Rattle.qg_space.proofs.Firsts.{is_free_run-first}
 use Rattle.qg_extents.specs.Table.{IsTable}
-use Rattle.qg_kept.proofs.Free.{space-told}
-use Rattle.qg_kept.specs.declared.kept.Kept.{Kept}
-use Rattle.qg_kept.specs.Keeping.{IsKept, IsKeptOf}
-use Rattle.qg_kept.proofs.Stepped.{tree-kept}
+use Rattle.qg_open_image.proofs.Free.{space-told}
+use Rattle.qg_open_image.specs.declared.open_image.OpenImage.{OpenImage}
+use Rattle.qg_open_image.specs.Keeping.{IsKept, IsKeptOf}
+use Rattle.qg_open_image.proofs.Stepped.{tree-kept}
 
 -- a length of whole sectors, by their number
 whole-sectors : (len : ℕ) → is_aligned len ≡ true → len / sector * sector ≡ len
@@ -23,7 +23,7 @@ module _ (len : ℕ) (found : Option ℕ) (aligned : is_aligned len ≡ true) wh
   pub run-first : (space : Holding) → found ≡ first_run space (len / sector * sector) → found ≡ first_run space len
   run-first space is = is ∙ ap (first_run space) (whole-sectors len aligned)
 
-  pub run-told : (kept : Kept) (state : State) (history : History) (bytes : ℕ) → IsKept kept history bytes
+  pub run-told : (kept : OpenImage) (state : State) (history : History) (bytes : ℕ) → IsKept kept history bytes
       → IsKeptOf kept state history → IsTable kept.fs.refs.refs
       → found ≡ first_run kept.fs.land.space (len / sector * sector) → found ≡ present.first_run state len
   run-told kept state history bytes fits keeps table is =

@@ -10,22 +10,22 @@ use Rattle.qg_image.specs.State.{State}
 use Rattle.qg_machine.specs.FileChange.{pieces_past}
 use Rattle.qg_space.specs.Holding.{free_slots}
 use Rattle.qg_extents.specs.Table.{IsTable}
-use Rattle.qg_kept.specs.Types.{FsTree}
-use Rattle.qg_kept.specs.Changes.{files_cut}
-use Rattle.qg_kept.specs.Files.{LeavesFiles, LeavesHeld}
-use Rattle.qg_kept.specs.declared.kept.Kept.{Kept}
-use Rattle.qg_kept.specs.Answering.{Answered}
-use Rattle.qg_kept.specs.Editing.{size_refusal, slots_refusal}
-use Rattle.qg_kept.specs.Keeping.{IsKept, IsKeptOf, need_of}
+use Rattle.qg_open_image.specs.Types.{FsTree}
+use Rattle.qg_open_image.specs.Changes.{files_cut}
+use Rattle.qg_open_image.specs.Files.{LeavesFiles, LeavesHeld}
+use Rattle.qg_open_image.specs.declared.open_image.OpenImage.{OpenImage}
+use Rattle.qg_open_image.specs.Answering.{Answered}
+use Rattle.qg_open_image.specs.Editing.{size_refusal, slots_refusal}
+use Rattle.qg_open_image.specs.Keeping.{IsKept, IsKeptOf, need_of}
 use Rattle.qg_file_commands.proofs.Refused.{early-size, late-size}
-use Rattle.qg_kept.proofs.Changed.{changes-here, hand-short}
+use Rattle.qg_open_image.proofs.Changed.{changes-here, hand-short}
 use Rattle.qg_file_commands.proofs.Leaves.{follows-edit}
-use Rattle.qg_kept.proofs.Short.{short-left}
-use Rattle.qg_kept.proofs.Stepped.{Follows, IsLate, change_to, does_edit, does_nothing, edited}
-use Rattle.qg_kept.proofs.Stepped.{late-refusal, reserves-nothing}
+use Rattle.qg_open_image.proofs.Short.{short-left}
+use Rattle.qg_open_image.proofs.Stepped.{Follows, IsLate, change_to, does_edit, does_nothing, edited}
+use Rattle.qg_open_image.proofs.Stepped.{late-refusal, reserves-nothing}
 
 -- it is refused
-pub refuses-size : (kept : Kept) (state : State) (history : History) (sub ino size : ℕ)
+pub refuses-size : (kept : OpenImage) (state : State) (history : History) (sub ino size : ℕ)
     (reason : Refusal) → IsKeptOf kept state history → size_refusal state sub ino size ≡ Some reason
     → Answered state (Truncate sub ino size) (Refused reason) [] kept history
 refuses-size kept state history sub ino size reason keeps is =
@@ -33,7 +33,7 @@ refuses-size kept state history sub ino size reason keeps is =
     (early-size state sub ino size reason is)
 
 -- it may go on, and so many pieces are touched
-module _ (kept : Kept) (state : State) (history : History) (bytes sub ino size pieces : ℕ) (file : File)
+module _ (kept : OpenImage) (state : State) (history : History) (bytes sub ino size pieces : ℕ) (file : File)
     (fits : IsKept kept history bytes) (keeps : IsKeptOf kept state history) (table : IsTable kept.fs.refs.refs)
     (top : sub ≡ kept.fs.tree.owner) (passes : size_refusal state kept.fs.tree.owner ino size ≡ None)
     (there : value_at ino keeps.files ≡ Some file) (touched : pieces ≡ pieces_past size file.pieces) where
@@ -66,17 +66,17 @@ module _ (kept : Kept) (state : State) (history : History) (bytes sub ino size p
       table is-late enough refl follows same kept.quota (reserves-nothing kept) (λ done. done))
 
   -- the file was cut, or grew
-  pub sized : (fs : FsTree) (new : Kept) (after : History) (left : ℕ) → new ≡ edited kept fs kept.quota
+  pub sized : (fs : FsTree) (new : OpenImage) (after : History) (left : ℕ) → new ≡ edited kept fs kept.quota
       → IsTable new.fs.refs.refs → None ≡ slots_refusal kept pieces
       → need_of kept pieces ≤ free_slots kept.fs.land.space
       → LeavesHeld kept.fs fs history after bytes left
       → LeavesFiles kept.fs fs history files_now (pieces_past size file.pieces)
       → Answered state (Truncate sub ino size) Done [] new after
   sized fs new after left is table_new none enough held leaves =
-      subst (λ (k : Kept). Answered state (Truncate sub ino size) Done [] k after) (sym is)
+      subst (λ (k : OpenImage). Answered state (Truncate sub ino size) Done [] k after) (sym is)
       (sizes fs after none
       (follows-edit kept fs history after bytes left state files_now pieces fits keeps table
-      (subst (λ (k : Kept). IsTable k.fs.refs.refs) is table_new) held
+      (subst (λ (k : OpenImage). IsTable k.fs.refs.refs) is table_new) held
       (subst (λ (n : ℕ). LeavesFiles kept.fs fs history files_now n) (sym touched) leaves)
       ((short-left kept.fs.tree.next keeps.files (hand-short kept state history keeps)).cut ino size file there) enough)
       held.history)

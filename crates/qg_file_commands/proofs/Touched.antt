@@ -7,11 +7,11 @@ use Rattle.qg_image.specs.declared.file.File.{File}
 use Rattle.qg_image.specs.FilesOf.{largest_size, piece_end}
 use Rattle.qg_image.specs.Table.{value_at}
 use Rattle.qg_machine.specs.FileChange.{pieces_meeting, pieces_or_none, pieces_past}
-use Rattle.qg_rules.specs.Writable.{AreWritableFiles, IsWritableFile}
-use Rattle.qg_file_items.specs.Pieces.{pieces_met}
-use Rattle.qg_kept.specs.Files.{pieces_of}
-use Rattle.qg_file_items.proofs.Counted.{met-all, met-past}
-use Rattle.qg_kept.proofs.Files.{file-found}
+use Rattle.qg_tree_items.specs.Writable.{AreWritableFiles, IsWritableFile}
+use Rattle.qg_inodes.specs.PiecesWritten.{pieces_met}
+use Rattle.qg_open_image.specs.Files.{pieces_of}
+use Rattle.qg_inodes.proofs.PiecesMet.{met-all, met-past}
+use Rattle.qg_open_image.proofs.Files.{file-found}
 
 pub met-many : (from to : ℕ) (pieces : List Piece) → length (pieces_met from to pieces) ≡ pieces_meeting from to pieces
 met-many from to pieces = length-filter (λ (piece : Piece). nat_lt piece.position to && nat_lt from (piece_end piece))

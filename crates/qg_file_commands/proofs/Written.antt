@@ -15,23 +15,23 @@ use Rattle.qg_machine.specs.FileChange.{pieces_meeting}
 use Rattle.qg_machine.specs.Refusals.{over_limit}
 use Rattle.qg_space.specs.Holding.{free_slots}
 use Rattle.qg_extents.specs.Table.{IsTable}
-use Rattle.qg_groups.specs.declared.state.QuotaState.{QuotaState}
-use Rattle.qg_kept.specs.Types.{FsTree}
-use Rattle.qg_kept.specs.Changes.{files_written}
-use Rattle.qg_kept.specs.Files.{LeavesFiles, LeavesHeld, pieces_of}
-use Rattle.qg_kept.specs.declared.kept.Kept.{Kept}
-use Rattle.qg_kept.specs.Answering.{Answered}
-use Rattle.qg_kept.specs.Editing.{range_refusal, slots_refusal, write_reserves}
-use Rattle.qg_kept.specs.Keeping.{IsKept, IsKeptOf, need_of}
+use Rattle.qg_qgroups.specs.declared.state.QuotaState.{QuotaState}
+use Rattle.qg_open_image.specs.Types.{FsTree}
+use Rattle.qg_open_image.specs.Changes.{files_written}
+use Rattle.qg_open_image.specs.Files.{LeavesFiles, LeavesHeld, pieces_of}
+use Rattle.qg_open_image.specs.declared.open_image.OpenImage.{OpenImage}
+use Rattle.qg_open_image.specs.Answering.{Answered}
+use Rattle.qg_open_image.specs.Editing.{range_refusal, slots_refusal, write_reserves}
+use Rattle.qg_open_image.specs.Keeping.{IsKept, IsKeptOf, need_of}
 use Rattle.qg_file_commands.proofs.Refused.{early-write, late-write, limit-write, runless-write}
-use Rattle.qg_kept.proofs.Changed.{changes-here, hand-short}
+use Rattle.qg_open_image.proofs.Changed.{changes-here, hand-short}
 use Rattle.qg_file_commands.proofs.Leaves.{follows-edit}
-use Rattle.qg_kept.proofs.Short.{short-left}
-use Rattle.qg_kept.proofs.Stepped.{Follows, IsLate, Reserves, change_to, does_edit, does_nothing, edited}
-use Rattle.qg_kept.proofs.Stepped.{late-refusal, reserves-so}
+use Rattle.qg_open_image.proofs.Short.{short-left}
+use Rattle.qg_open_image.proofs.Stepped.{Follows, IsLate, Reserves, change_to, does_edit, does_nothing, edited}
+use Rattle.qg_open_image.proofs.Stepped.{late-refusal, reserves-so}
 
 -- the range may not be written
-pub refuses-range : (kept : Kept) (state : State) (history : History) (sub ino off len : ℕ)
+pub refuses-range : (kept : OpenImage) (state : State) (history : History) (sub ino off len : ℕ)
     (reason : Refusal) → IsKeptOf kept state history → Some reason ≡ range_refusal state sub off len
     → Answered state (Write sub ino off len) (Refused reason) [] kept history
 refuses-range kept state history sub ino off len reason keeps is =
@@ -39,7 +39,7 @@ refuses-range kept state history sub ino off len reason keeps is =
     (early-write state sub ino off len reason (sym is))
 
 -- a limit is passed
-pub refuses-limit : (kept : Kept) (state : State) (history : History) (sub ino off len : ℕ)
+pub refuses-limit : (kept : OpenImage) (state : State) (history : History) (sub ino off len : ℕ)
     (reason : Refusal) → IsKeptOf kept state history → None ≡ range_refusal state sub off len
     → over_limit state sub (len + state.sizes.nodesize) ≡ Some reason
     → Answered state (Write sub ino off len) (Refused reason) [] kept history
@@ -48,7 +48,7 @@ refuses-limit kept state history sub ino off len reason keeps range passed =
     (limit-write state sub ino off len reason (sym range) passed)
 
 -- no run is free
-pub lacks-run : (kept : Kept) (state : State) (history : History) (sub ino off len : ℕ)
+pub lacks-run : (kept : OpenImage) (state : State) (history : History) (sub ino off len : ℕ)
     → IsKeptOf kept state history → None ≡ range_refusal state sub off len
     → over_limit state sub (len + state.sizes.nodesize) ≡ None
     → None ≡ first_run state len → Answered state (Write sub ino off len) (Refused why.NoRun) [] kept history
@@ -57,7 +57,7 @@ lacks-run kept state history sub ino off len keeps range limits none =
     (runless-write state sub ino off len (sym range) limits (sym none))
 
 -- a run is free, and so many pieces are touched
-module _ (kept : Kept) (state : State) (history : History) (bytes sub ino off len run pieces : ℕ)
+module _ (kept : OpenImage) (state : State) (history : History) (bytes sub ino off len run pieces : ℕ)
     (fits : IsKept kept history bytes) (keeps : IsKeptOf kept state history) (table : IsTable kept.fs.refs.refs)
     (top : sub ≡ kept.fs.tree.owner) (range : None ≡ range_refusal state sub off len)
     (limits : over_limit state sub (len + state.sizes.nodesize) ≡ None) (found : Some run ≡ first_run state len)
@@ -103,7 +103,7 @@ module _ (kept : Kept) (state : State) (history : History) (bytes sub ino off le
       reserves (λ done. done))
 
   -- the run was written there, and so many bytes were reserved
-  pub written : (fs : FsTree) (new : Kept) (after : History) (left reserved : ℕ)
+  pub written : (fs : FsTree) (new : OpenImage) (after : History) (left reserved : ℕ)
       → new ≡ edited kept fs new.quota → reserved ≡ write_reserves kept len → Reserves kept new.quota reserved
       → IsTable new.fs.refs.refs → None ≡ slots_refusal kept pieces
       → need_of kept pieces ≤ free_slots kept.fs.land.space
@@ -111,10 +111,10 @@ module _ (kept : Kept) (state : State) (history : History) (bytes sub ino off le
       → LeavesFiles kept.fs fs history files_now (pieces_meeting off (off + len) (pieces_of ino keeps.files))
       → len ≤ longest_extent → Answered state (Write sub ino off len) (Extent run) [] new after
   written fs new after left reserved is told reserves table_new none enough held leaves few =
-      subst (λ (k : Kept). Answered state (Write sub ino off len) (Extent run) [] k after) (sym is)
+      subst (λ (k : OpenImage). Answered state (Write sub ino off len) (Extent run) [] k after) (sym is)
       (writes fs new.quota after none
       (follows-edit kept fs history after bytes left state files_now pieces fits keeps table
-      (subst (λ (k : Kept). IsTable k.fs.refs.refs) is table_new) held
+      (subst (λ (k : OpenImage). IsTable k.fs.refs.refs) is table_new) held
       (subst (λ (n : ℕ). LeavesFiles kept.fs fs history files_now n) (sym touched) leaves)
       ((short-left kept.fs.tree.next keeps.files (hand-short kept state history keeps)).written ino off len run few)
       enough)

@@ -7,15 +7,15 @@ ghost use Rattle.qg_image.specs.FilesOf.{inodes_end, least_inode};
 ghost use Rattle.qg_image.specs.Table.{value_at};
 ghost use Rattle.qg_image.specs.State.{State, Subvolume};
 ghost use Rattle.qg_blocks.specs.Stopping.{StopsForCause};
-ghost use Rattle.qg_blocks.specs.Told.{BreaksNone};
-ghost use Rattle.qg_file_items.specs.Pieces.{pieces_met};
-ghost use Rattle.qg_kept.specs.Files.{pieces_of};
+ghost use Rattle.qg_blocks.specs.NodesFound.{BreaksNone};
+ghost use Rattle.qg_inodes.specs.PiecesWritten.{pieces_met};
+ghost use Rattle.qg_open_image.specs.Files.{pieces_of};
 ghost use Rattle.qg_machine.specs.FileChange.{FileChange, file_change};
 ghost use Rattle.qg_machine.specs.Refusals.{over_limit};
 ghost use Rattle.qg_machine.specs.Work.{is_accepted};
-ghost use Rattle.qg_kept.specs.Answering.{Answered, is_unchanging};
-ghost use Rattle.qg_kept.specs.Editing.{clone_refusal};
-ghost use Rattle.qg_kept.specs.Keeping.{IsKept, IsKeptOf, SameButClean};
+ghost use Rattle.qg_open_image.specs.Answering.{Answered, is_unchanging};
+ghost use Rattle.qg_open_image.specs.Editing.{clone_refusal};
+ghost use Rattle.qg_open_image.specs.Keeping.{IsKept, IsKeptOf, SameButClean};
 ghost use Rattle.qg_file_commands.specs.Ranges.{CanClonePieces};
 ghost use Rattle.qg_file_commands.specs.Reading.{AsksForFew};
 ghost use Rattle.qg_file_commands.specs.Reserving.{CanReserve};
@@ -24,14 +24,14 @@ use crate::finding::{found_in, inode_in, pieces_in};
 use crate::ranges::{do_overlap, refusal_of_clone};
 use crate::reserving::{accept, judge};
 use qg_disk::Disk;
-use qg_groups::Judged;
-use qg_kept::{Kept, no_nodes, turn_to};
 use qg_num::{Answer, BlockFault, GroupId, Ino, Pieces, Refusal, RootId, Steps};
+use qg_open_image::{OpenImage, no_nodes, turn_to};
+use qg_qgroups::ReservationAnswer;
 use std::sync::ledger::Ledger;
 
 /// Clones a range of a file, in bytes, into a range of a file of this or another subvolume, or refuses to.
 pub fn clone<D: Disk, L: Ledger>(
-    kept: &mut Kept,
+    kept: &mut OpenImage,
     disk: &mut D,
     sub: RootId,
     ino: Ino,
@@ -74,10 +74,10 @@ pub fn clone<D: Disk, L: Ledger>(
     }
     let judged = judge(kept, to_sub, u64::from(kept.superblock.nodesize))?;
     let path = match judged {
-        Judged::Over(group, which) => {
+        ReservationAnswer::Over(group, which) => {
             return Ok(Answer::Refused(Refusal::Quota { group, which }));
         }
-        Judged::Path(path) => path,
+        ReservationAnswer::Path(path) => path,
     };
     let source = pieces_in(kept, disk, ino, off, off + len, reads)?;
     clone_pieces(
@@ -96,7 +96,7 @@ pub fn clone<D: Disk, L: Ledger>(
 
 // Clones what was read of the source's range, where it finds the slots that it needs.
 fn clone_pieces<D: Disk, L: Ledger>(
-    kept: &mut Kept,
+    kept: &mut OpenImage,
     disk: &mut D,
     source: &Pieces,
     off: u64,
@@ -140,7 +140,7 @@ fn clone_pieces<D: Disk, L: Ledger>(
     if let Some(why) = no_nodes(kept, pieces)? {
         return Ok(Answer::Refused(why));
     }
-    qg_kept::file_edits::clone_into(
+    qg_open_image::file_edits::clone_into(
         &mut kept.fs,
         kept.alloc,
         disk,

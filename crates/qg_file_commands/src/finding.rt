@@ -5,27 +5,27 @@ ghost use Rattle.qg_device.specs.Cause.{HasCause};
 ghost use Rattle.qg_image.specs.declared.file.File.{File as FileValue};
 ghost use Rattle.qg_image.specs.Table.{value_at};
 ghost use Rattle.qg_machine.specs.FileChange.{pieces_meeting};
-ghost use Rattle.qg_contents.specs.Written.{inode_of};
+ghost use Rattle.qg_root_items.specs.Written.{inode_of};
 ghost use Rattle.qg_blocks.specs.Stopping.{StopsForCause};
-ghost use Rattle.qg_blocks.specs.Told.{BreaksNone};
+ghost use Rattle.qg_blocks.specs.NodesFound.{BreaksNone};
 ghost use Rattle.qg_files.specs.Apart.{AreApart};
-ghost use Rattle.qg_file_items.specs.Pieces.{pieces_met};
-ghost use Rattle.qg_kept.specs.Files.{Finds, HoldsFiles, pieces_of};
-ghost use Rattle.qg_kept.specs.Editing.{HasReadNodes};
-ghost use Rattle.qg_kept.specs.Keeping.{IsKept};
+ghost use Rattle.qg_inodes.specs.PiecesWritten.{pieces_met};
+ghost use Rattle.qg_open_image.specs.Files.{Finds, HoldsFiles, pieces_of};
+ghost use Rattle.qg_open_image.specs.Editing.{HasReadNodes};
+ghost use Rattle.qg_open_image.specs.Keeping.{IsKept};
 
 use qg_disk::Disk;
 use qg_items::InodeItem;
-use qg_kept::Kept;
-use qg_kept::file_edits::Found;
-use qg_kept::inodes::{inode_of, pieces_meeting};
 use qg_num::{BlockFault, Ino, Pieces, Steps};
+use qg_open_image::OpenImage;
+use qg_open_image::file_edits::Found;
+use qg_open_image::inodes::{inode_of, pieces_meeting};
 use std::sync::ledger::Ledger;
 
 /// The INODE_ITEM of a file; none exactly where there is no such file. `Image` comes only where the tree has the items
 /// of no files. Where it has them, no more nodes are asked for than a tree has levels at most.
 pub(crate) fn inode_in<D: Disk, L: Ledger>(
-    kept: &mut Kept,
+    kept: &mut OpenImage,
     disk: &mut D,
     ino: Ino,
     reads: &mut Steps<L>,
@@ -56,7 +56,7 @@ pub(crate) fn inode_in<D: Disk, L: Ledger>(
 /// The pieces of a file that share a byte with the range from one position up to another, in bytes. Else as
 /// [`inode_in`].
 pub(crate) fn pieces_in<D: Disk, L: Ledger>(
-    kept: &mut Kept,
+    kept: &mut OpenImage,
     disk: &mut D,
     ino: Ino,
     from: u64,
@@ -92,7 +92,7 @@ pub(crate) fn pieces_in<D: Disk, L: Ledger>(
 /// What an edit of a range, in bytes, is to know of a file: its INODE_ITEM, and the pieces that the range meets. Else
 /// as [`inode_in`].
 pub(crate) fn found_in<D: Disk, L: Ledger>(
-    kept: &mut Kept,
+    kept: &mut OpenImage,
     disk: &mut D,
     ino: Ino,
     from: u64,

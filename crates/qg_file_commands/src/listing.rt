@@ -5,20 +5,20 @@ ghost use Rattle.qg_device.specs.History.{Event, Recorded};
 ghost use Rattle.qg_num.specs.declared.command.Command.TheVariants.{Ls};
 ghost use Rattle.qg_image.specs.State.{State};
 ghost use Rattle.qg_blocks.specs.Stopping.{StopsForCause};
-ghost use Rattle.qg_blocks.specs.Told.{BreaksNone};
-ghost use Rattle.qg_kept.specs.Answering.{Answered};
-ghost use Rattle.qg_kept.specs.Editing.{HasLooked};
-ghost use Rattle.qg_kept.specs.Keeping.{IsKept, IsKeptOf};
+ghost use Rattle.qg_blocks.specs.NodesFound.{BreaksNone};
+ghost use Rattle.qg_open_image.specs.Answering.{Answered};
+ghost use Rattle.qg_open_image.specs.Editing.{HasLooked};
+ghost use Rattle.qg_open_image.specs.Keeping.{IsKept, IsKeptOf};
 
 use qg_disk::Disk;
-use qg_kept::inodes::file_of;
-use qg_kept::{Kept, turn_to};
 use qg_num::{Answer, BlockFault, Ino, Refusal, RootId, Steps};
+use qg_open_image::inodes::file_of;
+use qg_open_image::{OpenImage, turn_to};
 use std::sync::ledger::Ledger;
 
 /// A file's size in bytes and its pieces, or why they are not told.
 pub fn list<D: Disk, L: Ledger>(
-    kept: &mut Kept,
+    kept: &mut OpenImage,
     disk: &mut D,
     sub: RootId,
     ino: Ino,

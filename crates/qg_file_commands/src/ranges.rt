@@ -9,8 +9,8 @@ ghost use Rattle.qg_file_commands.specs.Ranges.{IsClonable, IsWritable};
 
 use qg_num::{Ino, Refusal, RootId};
 use qg_reach::LONGEST_EXTENT;
-use qg_rules::LARGEST_SIZE;
 use qg_super::SECTOR;
+use qg_tree_items::LARGEST_SIZE;
 
 /// The most file commands that may be pending.
 pub(crate) const MOST_PENDING: u64 = 65536;

@@ -6,19 +6,19 @@ ghost use Rattle.qg_image.specs.Record.{Record};
 ghost use Rattle.qg_image.specs.State.{Accepted, State};
 ghost use Rattle.qg_machine.specs.Refusals.{over_limit};
 ghost use Rattle.qg_extents.specs.Table.{IsTable};
-ghost use Rattle.qg_groups.specs.Judging.{IfPath};
-ghost use Rattle.qg_groups.specs.OnOrOff.{path_in, refusal_in};
-ghost use Rattle.qg_groups.specs.Tracked.{HasGroup, HoldsAtMost, IsTracked, quota_of};
-ghost use Rattle.qg_limits.specs.Limit.{held_of};
-ghost use Rattle.qg_kept.specs.Keeping.{HoldsPending, IsFitted, IsKeptWith, most_reserved};
+ghost use Rattle.qg_qgroups.specs.Judging.{IfPath};
+ghost use Rattle.qg_qgroups.specs.OnOrOff.{path_in, refusal_in};
+ghost use Rattle.qg_qgroups.specs.Tracked.{HasGroup, HoldsAtMost, IsTracked, quota_of};
+ghost use Rattle.qg_qgroups.specs.Limit.{held_of};
+ghost use Rattle.qg_open_image.specs.Keeping.{HoldsPending, IsFitted, IsKeptWith, most_reserved};
 
-use qg_groups::Judged;
-use qg_kept::Kept;
 use qg_num::{GroupId, GroupList, NoMemory, RootId};
+use qg_open_image::OpenImage;
+use qg_qgroups::ReservationAnswer;
 
 /// Judges a reservation of so many bytes into a subvolume. While quota is off no limit is in the way, and it counts in
 /// no group.
-pub(crate) fn judge(kept: &Kept, sub: RootId, n: u64) -> Result<Judged, NoMemory>
+pub(crate) fn judge(kept: &OpenImage, sub: RootId, n: u64) -> Result<ReservationAnswer, NoMemory>
     requires fitted { IsFitted kept.now }
     requires there { IsTrue (has_key sub kept.now.snapshots) }
     ensures value { IfOk result (λ judged. (state : State) (names : List Record) (history : History)
@@ -26,14 +26,14 @@ pub(crate) fn judge(kept: &Kept, sub: RootId, n: u64) -> Result<Judged, NoMemory
     ensures path { IfOk result (λ judged. IfPath judged (λ path. path ≡ path_in (quota_of kept.now.quota) sub)) }
 {
     match &kept.quota {
-        None => Ok(Judged::Path(GroupList::new(kept.alloc))),
+        None => Ok(ReservationAnswer::Path(GroupList::new(kept.alloc))),
         Some(quota) => quota.judge(kept.alloc, sub, n),
     }
 }
 
 /// One file command more is pending, which reserves so many bytes into the subvolume at hand: they are held for the
 /// groups of its path.
-pub(crate) fn accept(kept: &mut Kept, path: &[GroupId], n: u64) -> Result<(), NoMemory>
+pub(crate) fn accept(kept: &mut OpenImage, path: &[GroupId], n: u64) -> Result<(), NoMemory>
     requires fitted { IsFitted kept.old }
     requires few { kept.old.pending < 65536 }
     requires small { n ≤ most_reserved }
@@ -53,7 +53,7 @@ pub(crate) fn accept(kept: &mut Kept, path: &[GroupId], n: u64) -> Result<(), No
 }
 
 // So many bytes more are held for some groups, while quota is on.
-fn hold(kept: &mut Kept, path: &[GroupId], n: u64) -> Result<(), NoMemory>
+fn hold(kept: &mut OpenImage, path: &[GroupId], n: u64) -> Result<(), NoMemory>
     requires tracked { IfSome kept.old.quota IsTracked }
     requires path { (sub : ℕ) × (path.now ≡ path_in (quota_of kept.old.quota) sub)
         × IfSome (quota_of kept.old.quota) (λ quota. HasGroup quota sub) }

@@ -9,24 +9,24 @@ ghost use Rattle.qg_image.specs.ItemMeaning.{first_some};
 ghost use Rattle.qg_image.specs.State.{State};
 ghost use Rattle.qg_machine.specs.Refusals.{most_pending, no_far, refuse};
 ghost use Rattle.qg_blocks.specs.Stopping.{StopsForCause};
-ghost use Rattle.qg_blocks.specs.Told.{BreaksNone};
-ghost use Rattle.qg_kept.specs.Answering.{Answered, is_unchanging};
-ghost use Rattle.qg_kept.specs.Keeping.{IsKept, IsKeptOf, SameButClean};
+ghost use Rattle.qg_blocks.specs.NodesFound.{BreaksNone};
+ghost use Rattle.qg_open_image.specs.Answering.{Answered, is_unchanging};
+ghost use Rattle.qg_open_image.specs.Keeping.{IsKept, IsKeptOf, SameButClean};
 ghost use Rattle.qg_file_commands.specs.Reading.{AsksForFew};
 
 use crate::finding::{inode_in, pieces_in};
 use crate::ranges::MOST_PENDING;
 use qg_disk::Disk;
-use qg_kept::file_edits::Found;
-use qg_kept::{Kept, count_pending, no_nodes, turn_to};
 use qg_num::{Answer, BlockFault, Ino, Refusal, RootId, Steps};
-use qg_rules::LARGEST_SIZE;
+use qg_open_image::file_edits::Found;
+use qg_open_image::{OpenImage, count_pending, no_nodes, turn_to};
 use qg_super::SECTOR;
+use qg_tree_items::LARGEST_SIZE;
 use std::sync::ledger::Ledger;
 
 /// Sets a file's size in bytes, or refuses to.
 pub fn truncate<D: Disk, L: Ledger>(
-    kept: &mut Kept,
+    kept: &mut OpenImage,
     disk: &mut D,
     sub: RootId,
     ino: Ino,
@@ -64,7 +64,7 @@ pub fn truncate<D: Disk, L: Ledger>(
         inode: Some(inode),
         met,
     };
-    qg_kept::file_edits::truncate(&mut kept.fs, kept.alloc, disk, ino, size, found, reads)?;
+    qg_open_image::file_edits::truncate(&mut kept.fs, kept.alloc, disk, ino, size, found, reads)?;
     count_pending(kept);
     Ok(Answer::Done)
 }

@@ -5,22 +5,22 @@ ghost use Rattle.qg_device.specs.History.{Event, Recorded};
 ghost use Rattle.qg_num.specs.declared.command.Command.TheVariants.{Unlink};
 ghost use Rattle.qg_image.specs.State.{State};
 ghost use Rattle.qg_blocks.specs.Stopping.{StopsForCause};
-ghost use Rattle.qg_blocks.specs.Told.{BreaksNone};
-ghost use Rattle.qg_kept.specs.Answering.{Answered, is_unchanging};
-ghost use Rattle.qg_kept.specs.Keeping.{IsKept, IsKeptOf, SameButClean};
+ghost use Rattle.qg_blocks.specs.NodesFound.{BreaksNone};
+ghost use Rattle.qg_open_image.specs.Answering.{Answered, is_unchanging};
+ghost use Rattle.qg_open_image.specs.Keeping.{IsKept, IsKeptOf, SameButClean};
 ghost use Rattle.qg_file_commands.specs.Reading.{AsksForFew};
 
 use crate::finding::{inode_in, pieces_in};
 use crate::ranges::MOST_PENDING;
 use qg_disk::Disk;
-use qg_kept::{Kept, count_pending, no_nodes, turn_to};
 use qg_num::{Answer, BlockFault, Ino, Refusal, RootId, Steps};
-use qg_rules::LARGEST_SIZE;
+use qg_open_image::{OpenImage, count_pending, no_nodes, turn_to};
+use qg_tree_items::LARGEST_SIZE;
 use std::sync::ledger::Ledger;
 
 /// Takes a file away, or refuses to.
 pub fn unlink<D: Disk, L: Ledger>(
-    kept: &mut Kept,
+    kept: &mut OpenImage,
     disk: &mut D,
     sub: RootId,
     ino: Ino,
@@ -53,7 +53,7 @@ pub fn unlink<D: Disk, L: Ledger>(
     if let Some(why) = no_nodes(kept, met.len() as u64)? {
         return Ok(Answer::Refused(why));
     }
-    qg_kept::file_edits::unlink(&mut kept.fs, kept.alloc, disk, ino, met, reads)?;
+    qg_open_image::file_edits::unlink(&mut kept.fs, kept.alloc, disk, ino, met, reads)?;
     count_pending(kept);
     Ok(Answer::Done)
 }

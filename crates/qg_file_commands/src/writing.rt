@@ -7,25 +7,25 @@ ghost use Rattle.qg_image.specs.FilesOf.{inodes_end, is_aligned, least_inode};
 ghost use Rattle.qg_image.specs.Space.{first_run};
 ghost use Rattle.qg_image.specs.State.{State};
 ghost use Rattle.qg_blocks.specs.Stopping.{StopsForCause};
-ghost use Rattle.qg_blocks.specs.Told.{BreaksNone};
+ghost use Rattle.qg_blocks.specs.NodesFound.{BreaksNone};
 ghost use Rattle.qg_space.specs.Holding.{is_free_run};
-ghost use Rattle.qg_kept.specs.Answering.{Answered, is_unchanging};
-ghost use Rattle.qg_kept.specs.Keeping.{IsKept, IsKeptOf, SameButClean};
+ghost use Rattle.qg_open_image.specs.Answering.{Answered, is_unchanging};
+ghost use Rattle.qg_open_image.specs.Keeping.{IsKept, IsKeptOf, SameButClean};
 ghost use Rattle.qg_file_commands.specs.Reading.{AsksForFew};
 
 use crate::finding::found_in;
 use crate::ranges::refusal_of_write;
 use crate::reserving::{accept, judge};
 use qg_disk::Disk;
-use qg_groups::Judged;
-use qg_kept::{Kept, no_nodes, turn_to};
 use qg_num::{Address, Answer, BlockFault, Ino, Refusal, RootId, Steps};
+use qg_open_image::{OpenImage, no_nodes, turn_to};
+use qg_qgroups::ReservationAnswer;
 use qg_super::SECTOR;
 use std::sync::ledger::Ledger;
 
 /// Writes a range of a file, in bytes, or refuses to.
 pub fn write<D: Disk, L: Ledger>(
-    kept: &mut Kept,
+    kept: &mut OpenImage,
     disk: &mut D,
     sub: RootId,
     ino: Ino,
@@ -58,10 +58,10 @@ pub fn write<D: Disk, L: Ledger>(
     let amount = len + u64::from(kept.superblock.nodesize);
     let judged = judge(kept, sub, amount)?;
     let path = match judged {
-        Judged::Over(group, which) => {
+        ReservationAnswer::Over(group, which) => {
             return Ok(Answer::Refused(Refusal::Quota { group, which }));
         }
-        Judged::Path(path) => path,
+        ReservationAnswer::Path(path) => path,
     };
     let Some(run) = run_for(kept, len) else {
         return Ok(Answer::Refused(Refusal::NoRun));
@@ -70,7 +70,7 @@ pub fn write<D: Disk, L: Ledger>(
     if let Some(why) = no_nodes(kept, found.met.len() as u64)? {
         return Ok(Answer::Refused(why));
     }
-    qg_kept::file_edits::write(
+    qg_open_image::file_edits::write(
         &mut kept.fs,
         kept.alloc,
         disk,
@@ -86,7 +86,7 @@ pub fn write<D: Disk, L: Ledger>(
 }
 
 // The free run of so many bytes with the least address.
-fn run_for(kept: &Kept, len: u64) -> Option<Address>
+fn run_for(kept: &OpenImage, len: u64) -> Option<Address>
     requires aligned { IsTrue (is_aligned len) }
     ensures run { (state : State) (history : History) (bytes : ℕ) → IsKept kept.now history bytes
         → IsKeptOf kept.now state history → result ≡ first_run state len }

@@ -8,11 +8,11 @@ use Rattle.qg_device.specs.History.{History}
 use Rattle.qg_num.specs.declared.fault.BlockFault.{BlockFault}
 use Rattle.qg_num.specs.declared.piece.Piece.{Piece}
 use Rattle.qg_node.specs.declared.item.Item.{Item}
-use Rattle.qg_descent.specs.Tree.{Root}
-use Rattle.qg_exchange.specs.Named.{names_of}
-use Rattle.qg_fs_layout.specs.Types.{FsTree}
-use Rattle.qg_fs_layout.specs.Standing.{IsSubvolume, Stands, names_elsewhere}
-use Rattle.qg_fs_layout.proofs.Moved.{moves-then}
+use Rattle.qg_tree_read.specs.Tree.{Root}
+use Rattle.qg_file_edits.specs.Named.{names_of}
+use Rattle.qg_shared_trees.specs.Types.{FsTree}
+use Rattle.qg_shared_trees.specs.Standing.{IsSubvolume, Stands, names_elsewhere}
+use Rattle.qg_shared_trees.proofs.Moved.{moves-then}
 use Rattle.qg_file_edits.specs.Naming.{AreFewNames, AreNamed, AreOfNamed, KeepsNodes, StandsMoved}
 use Rattle.qg_file_edits.proofs.Extents.{IsOfNamed, named-more}
 use Rattle.qg_file_edits.proofs.Kept.{elsewhere-same}

@@ -16,21 +16,21 @@ use Rattle.qg_image.specs.FilesOf.{is_aligned, largest_size, pieces_bytes}
 use Rattle.qg_image.specs.Table.{value_at, with_value}
 use Rattle.qg_image.proofs.Pieces.{WholeFile-is_file}
 use Rattle.qg_machine.specs.FileChange.{before, pieces_or_none, pieces_past, with_size}
-use Rattle.qg_rules.specs.Writable.{AreWritableFiles, IsFileBy, IsWritableFile}
-use Rattle.qg_contents.specs.Written.{inode_of, items_of_file}
-use Rattle.qg_exchange.specs.Pieces.{pieces_cut}
-use Rattle.qg_exchange.proofs.RangeEdits.{edits-size}
-use Rattle.qg_exchange.proofs.FileItemsTables.{writable-with}
-use Rattle.qg_exchange.specs.declared.step.Step.{Step}
-use Rattle.qg_exchange.specs.Applying.{CanExchange}
-use Rattle.qg_exchange.specs.Exchange.{IsExchange}
-use Rattle.qg_exchange.specs.Named.{AreNamesExchanged, named, names_by, names_of}
-use Rattle.qg_exchange.specs.Steps.{AreSteps}
-use Rattle.qg_exchange.proofs.Few.{cut-few}
-use Rattle.qg_exchange.proofs.Names.{names-exchanged, names-spelled}
-use Rattle.qg_exchange.proofs.Possible.{size-can}
-use Rattle.qg_exchange.proofs.Stretches.{cut-exchanged}
-use Rattle.qg_exchange.proofs.Sums.{sums-exchanged}
+use Rattle.qg_tree_items.specs.Writable.{AreWritableFiles, IsFileBy, IsWritableFile}
+use Rattle.qg_root_items.specs.Written.{inode_of, items_of_file}
+use Rattle.qg_file_edits.specs.PiecesWritten.{pieces_cut}
+use Rattle.qg_file_edits.proofs.RangeEdits.{edits-size}
+use Rattle.qg_file_edits.proofs.InodesTables.{writable-with}
+use Rattle.qg_file_edits.specs.declared.step.Step.{Step}
+use Rattle.qg_file_edits.specs.Applying.{CanExchange}
+use Rattle.qg_file_edits.specs.Exchange.{IsExchange}
+use Rattle.qg_file_edits.specs.Named.{AreNamesExchanged, named, names_by, names_of}
+use Rattle.qg_file_edits.specs.Steps.{AreSteps}
+use Rattle.qg_file_edits.proofs.FewSteps.{cut-few}
+use Rattle.qg_file_edits.proofs.Names.{names-exchanged, names-spelled}
+use Rattle.qg_file_edits.proofs.Possible.{size-can}
+use Rattle.qg_file_edits.proofs.Stretches.{cut-exchanged}
+use Rattle.qg_file_edits.proofs.ExchangedSums.{sums-exchanged}
 use Rattle.qg_file_edits.specs.declared.exchange.Exchange.{Exchange}
 use Rattle.qg_file_edits.specs.declared.inode.InodeEdit.{InodeEdit}
 use Rattle.qg_file_edits.specs.Changes.{IsCut, inode_cut}
@@ -38,7 +38,7 @@ use Rattle.qg_file_edits.specs.Editing.{CanEditInode, after_inode}
 use Rattle.qg_file_edits.specs.Exchanging.{MakesFiles, TellPieces, after_exchange, exchanged}
 use Rattle.qg_file_edits.specs.Files.{pieces_of}
 use Rattle.qg_file_edits.specs.Naming.{AreFewNames, AreOfNamed}
-use Rattle.qg_file_edits.proofs.Counted.{file-bytes, gone-part, put-few, put-tell}
+use Rattle.qg_file_edits.proofs.PieceCounts.{file-bytes, gone-part, put-few, put-tell}
 use Rattle.qg_file_edits.proofs.Extents.{IsOfNamed, named-besides, pieces-named}
 use Rattle.qg_file_edits.proofs.Files.{all-with, cut-by, cut-writable, file-found}
 use Rattle.qg_file_edits.proofs.Inodes.{inode-has}

@@ -5,21 +5,21 @@ use Rattle.qg_device.specs.History.{Event, History, Recorded}
 use Rattle.qg_num.specs.declared.fault.BlockFault.{BlockFault}
 use Rattle.qg_num.specs.declared.piece.Piece.{Piece}
 use Rattle.qg_node.specs.declared.item.Item.{Item}
-use Rattle.qg_image.specs.declared.tree.Tree.TheVariants.{Files}
-use Rattle.qg_blocks.specs.Told.{BreaksNone}
+use Rattle.qg_image.specs.declared.tree.TreeKind.TheVariants.{Files}
+use Rattle.qg_blocks.specs.NodesFound.{BreaksNone}
 use Rattle.qg_space.specs.Holding.{free_slots}
-use Rattle.qg_fs_layout.specs.Rooting.{Grows}
-use Rattle.qg_fs_layout.proofs.Heights.{height-low}
+use Rattle.qg_shared_trees.specs.Rooting.{Grows}
+use Rattle.qg_shared_trees.proofs.Heights.{height-low}
 use Rattle.std.proofs.Math.Nat.{mul-le-mul_right}
 use Rattle.qg_super.specs.declared.sizes.Sizes.{Sizes}
 use Rattle.qg_super.specs.Places.{capacity}
-use Rattle.qg_fs_layout.specs.Heavier.{BookGetsHeavier, edit_bytes, name_new_bytes, node_bytes}
-use Rattle.qg_fs_layout.proofs.Sums.{BookGetsHeavier-most, BookGetsHeavier-same, BookGetsHeavier-then}
-use Rattle.qg_fs_layout.specs.Types.{FsTree}
-use Rattle.qg_fs_layout.specs.Standing.{IsEditedTo, IsSubvolume, Stands}
-use Rattle.qg_fs_layout.proofs.Own.{elsewhere-kept, elsewhere-moved, own-kept as reached-kept}
-use Rattle.qg_fs_layout.proofs.Made.{made-named as made-named_none, made-same, made-then as made-more}
-use Rattle.qg_fs_layout.proofs.Moved.{held-kept, moves-itself, moves-then}
+use Rattle.qg_shared_trees.specs.Heavier.{BookGetsHeavier, edit_bytes, name_new_bytes, node_bytes}
+use Rattle.qg_shared_trees.proofs.Sums.{BookGetsHeavier-most, BookGetsHeavier-same, BookGetsHeavier-then}
+use Rattle.qg_shared_trees.specs.Types.{FsTree}
+use Rattle.qg_shared_trees.specs.Standing.{IsEditedTo, IsSubvolume, Stands}
+use Rattle.qg_shared_trees.proofs.Own.{elsewhere-kept, elsewhere-moved, own-kept as reached-kept}
+use Rattle.qg_shared_trees.proofs.Made.{made-named as made-named_none, made-same, made-then as made-more}
+use Rattle.qg_shared_trees.proofs.Moved.{held-kept, moves-itself, moves-then}
 use Rattle.qg_file_edits.specs.Editing.{AreMade, IsEditedBy}
 use Rattle.qg_file_edits.specs.Files.{LeavesHeld}
 use Rattle.qg_file_edits.specs.Naming.{AreNamed, KeepsNodes, StandsMoved}

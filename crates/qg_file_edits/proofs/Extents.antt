@@ -12,8 +12,8 @@ use Rattle.qg_machine.specs.FileChange.{pieces_or_none}
 use Rattle.qg_reach.proofs.Members.{contains_flat_map, contains_map}
 use Rattle.qg_image.specs.declared.element.Element.{Element}
 use Rattle.qg_image.specs.Reach.{extent_of}
-use Rattle.qg_fs_layout.proofs.Lists.{from-mapped, has-mapped}
-use Rattle.qg_exchange.specs.Named.{names_by, names_of}
+use Rattle.qg_shared_trees.proofs.Lists.{from-mapped, has-mapped}
+use Rattle.qg_file_edits.specs.Named.{names_by, names_of}
 use Rattle.qg_file_edits.specs.Files.{pieces_of}
 use Rattle.qg_file_edits.proofs.Files.{file-found}
 

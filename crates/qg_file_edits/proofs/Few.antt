@@ -6,7 +6,7 @@ use Rattle.std.proofs.lemmas.List.Sums.{length-filter}
 use Rattle.qg_num.specs.declared.piece.Piece.{Piece}
 use Rattle.qg_image.specs.FilesOf.{piece_end}
 use Rattle.qg_machine.specs.FileChange.{after, before, pieces_meeting, pieces_past, with_range}
-use Rattle.qg_exchange.specs.Pieces.{pieces_cut, pieces_met}
+use Rattle.qg_file_edits.specs.PiecesWritten.{pieces_cut, pieces_met}
 use Rattle.qg_file_edits.proofs.Taken.{after_few, before_few}
 
 together : (named : List Piece) (first new : Option Piece) → new ≡ first

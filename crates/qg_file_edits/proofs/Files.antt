@@ -11,7 +11,7 @@ use Rattle.qg_image.specs.declared.file.File.{File}
 use Rattle.qg_image.specs.FilesOf.{are_pieces, inodes_end, is_aligned, largest_size, least_inode}
 use Rattle.qg_image.specs.Table.{value_at, with_value, without_key}
 use Rattle.qg_machine.specs.FileChange.{file_or_new, with_pieces, with_size}
-use Rattle.qg_rules.specs.Writable.{AreWritableFiles, IsFileBy, IsPlaced, IsWritableFile}
+use Rattle.qg_tree_items.specs.Writable.{AreWritableFiles, IsFileBy, IsPlaced, IsWritableFile}
 use Rattle.qg_files.proofs.Kept.{is_file-with_pieces, is_file-with_size, new_is_file}
 use Rattle.qg_files.proofs.Ascending.{all-with_value}
 use Rattle.qg_file_edits.proofs.Parts.{Lasts, all-before, all-with_range}

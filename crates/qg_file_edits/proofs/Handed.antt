@@ -8,10 +8,10 @@ use Rattle.qg_num.specs.declared.piece.Piece.{Piece}
 use Rattle.qg_node.specs.declared.item.Item.{Item}
 use Rattle.qg_num.specs.declared.rule.Rule.TheVariants.{Refs}
 use Rattle.qg_blocks.specs.Stopping.{NamesRule}
-use Rattle.qg_blocks.specs.Told.{BreaksNone}
+use Rattle.qg_blocks.specs.NodesFound.{BreaksNone}
 pub use Rattle.qg_blocks.proofs.Broken.{handed}
-use Rattle.qg_fs_layout.specs.Types.{FsTree}
-use Rattle.qg_fs_layout.specs.Standing.{IsMisfitAt}
+use Rattle.qg_shared_trees.specs.Types.{FsTree}
+use Rattle.qg_shared_trees.specs.Standing.{IsMisfitAt}
 use Rattle.qg_file_edits.specs.Editing.{AreMade}
 use Rattle.qg_file_edits.specs.Naming.{AreNamed}
 

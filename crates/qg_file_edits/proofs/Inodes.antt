@@ -8,17 +8,17 @@ use Rattle.qg_node.specs.declared.item.Item.{Item}
 use Rattle.qg_image.specs.declared.file.File.{File}
 use Rattle.qg_image.specs.IsShaped.{same_key}
 use Rattle.qg_image.specs.Table.{value_at}
-use Rattle.qg_parts.proofs.Parts.{and-false}
-use Rattle.qg_rules.specs.Writable.{AreWritableFiles}
-use Rattle.qg_contents.specs.Written.{item_of_piece, items_of_file}
+use Rattle.qg_tree_items.proofs.Parts.{and-false}
+use Rattle.qg_tree_items.specs.Writable.{AreWritableFiles}
+use Rattle.qg_root_items.specs.Written.{item_of_piece, items_of_file}
 use Rattle.qg_edit.specs.Edits.{has_key, with_item, without_key}
-use Rattle.qg_descent.specs.Reading.{body_at}
-use Rattle.qg_exchange.specs.Bodies.{body_in_file}
-use Rattle.qg_exchange.specs.FileEdits.{with_items, without_items}
-use Rattle.qg_exchange.proofs.Edited.{body-with_item, body-without_key}
-use Rattle.qg_exchange.proofs.FileBodies.{body-files}
-use Rattle.qg_exchange.proofs.Told.{has-body}
-use Rattle.qg_exchange.specs.Applying.{key_at}
+use Rattle.qg_tree_read.specs.Reading.{body_at}
+use Rattle.qg_file_edits.specs.Bodies.{body_in_file}
+use Rattle.qg_file_edits.specs.FileEdits.{with_items, without_items}
+use Rattle.qg_file_edits.proofs.EditedItems.{body-with_item, body-without_key}
+use Rattle.qg_file_edits.proofs.FileBodies.{body-files}
+use Rattle.qg_file_edits.proofs.BodiesByKey.{has-body}
+use Rattle.qg_file_edits.specs.Applying.{key_at}
 use Rattle.qg_file_edits.specs.Editing.{inode_key}
 use Rattle.qg_file_edits.specs.Exchanging.{exchanged}
 

@@ -5,12 +5,12 @@ use Rattle.std.specs.List.{filter_map, flat_map}
 use Rattle.std.proofs.lemmas.Result.{on_ok_weaker}
 use Rattle.qg_device.specs.History.{History}
 use Rattle.qg_num.specs.declared.fault.BlockFault.{BlockFault}
-use Rattle.qg_ground.specs.declared.ground.Ground.{Ground}
-use Rattle.qg_ground.specs.Calls.{LeavesBe}
-use Rattle.qg_descent.specs.Tree.{Root}
-use Rattle.qg_fs_layout.specs.Rooting.{Grows}
-use Rattle.qg_fs_layout.specs.Types.{FsTree}
-use Rattle.qg_fs_layout.specs.Standing.{IsSubvolume, KeepsTree, items_in, name_told, names_elsewhere}
+use Rattle.qg_node_alloc.specs.declared.ground.Ground.{Ground}
+use Rattle.qg_node_alloc.specs.Calls.{LeavesBe}
+use Rattle.qg_tree_read.specs.Tree.{Root}
+use Rattle.qg_shared_trees.specs.Rooting.{Grows}
+use Rattle.qg_shared_trees.specs.Types.{FsTree}
+use Rattle.qg_shared_trees.specs.Standing.{IsSubvolume, KeepsTree, items_in, name_told, names_elsewhere}
 use Rattle.qg_file_edits.specs.Files.{LeavesHeld, StaysOwn}
 use Rattle.qg_file_edits.specs.Naming.{KeepsNodes}
 

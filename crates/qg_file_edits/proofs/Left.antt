@@ -11,25 +11,25 @@ use Rattle.qg_num.specs.declared.piece.Piece.{Piece}
 use Rattle.qg_node.specs.declared.item.Item.{Item}
 use Rattle.qg_image.specs.declared.file.File.{File}
 use Rattle.qg_image.specs.Need.{file_copies}
-use Rattle.qg_rules.specs.Writable.{AreWritableFiles, IsFileBy}
-use Rattle.qg_contents.specs.Written.{items_of_file}
-use Rattle.qg_blocks.specs.Told.{BreaksNone}
+use Rattle.qg_tree_items.specs.Writable.{AreWritableFiles, IsFileBy}
+use Rattle.qg_root_items.specs.Written.{items_of_file}
+use Rattle.qg_blocks.specs.NodesFound.{BreaksNone}
 use Rattle.qg_space.specs.Holding.{free_slots}
-use Rattle.qg_ground.specs.Land.{IsDrafted}
+use Rattle.qg_node_alloc.specs.Land.{IsDrafted}
 use Rattle.qg_extents.specs.Table.{IsTable}
-use Rattle.qg_exchange.specs.Named.{named}
-use Rattle.qg_fs_layout.specs.Heavier.{edit_bytes, name_new_bytes}
-use Rattle.qg_fs_layout.proofs.Sums.{BookGetsHeavier-most}
-use Rattle.qg_fs_layout.specs.Types.{FsTree}
-use Rattle.qg_fs_layout.specs.Standing.{IsSubvolume, Stands, made_slots, names_elsewhere, own_slots}
-use Rattle.qg_fs_layout.proofs.Made.{made-free}
-use Rattle.qg_fs_layout.proofs.Own.{leaf-own, made-own, taken-made}
+use Rattle.qg_file_edits.specs.Named.{named}
+use Rattle.qg_shared_trees.specs.Heavier.{edit_bytes, name_new_bytes}
+use Rattle.qg_shared_trees.proofs.Sums.{BookGetsHeavier-most}
+use Rattle.qg_shared_trees.specs.Types.{FsTree}
+use Rattle.qg_shared_trees.specs.Standing.{IsSubvolume, Stands, made_slots, names_elsewhere, own_slots}
+use Rattle.qg_shared_trees.proofs.Made.{made-free}
+use Rattle.qg_shared_trees.proofs.Own.{leaf-own, made-own, taken-made}
 use Rattle.qg_file_edits.specs.Editing.{AreMade, IsEditedBy}
 use Rattle.qg_file_edits.specs.Files.{HoldsFiles, LeavesFiles}
 use Rattle.qg_file_edits.specs.declared.exchange.Exchange.{Exchange}
 use Rattle.qg_file_edits.specs.Exchanging.{MakesFiles}
 use Rattle.qg_file_edits.proofs.Edited.{most_bytes}
-use Rattle.qg_file_edits.proofs.Told.{IsToldFor}
+use Rattle.qg_file_edits.proofs.CommandExchange.{IsToldFor}
 
 -- what a command may copy is six nodes at least for each edit
 copies_most : (height pieces : ℕ) → 6 * (pieces + 3) ≤ file_copies height pieces

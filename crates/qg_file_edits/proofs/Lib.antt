@@ -1,38 +1,58 @@
-pub use Rattle.qg_exchange.proofs.Spelled
-pub use Rattle.qg_fs_layout.proofs.Before
-pub use Rattle.qg_fs_layout.proofs.Changed
-pub use Rattle.qg_fs_layout.proofs.Copied
-pub use Rattle.qg_fs_layout.proofs.Counted as FsLayoutCounted
-pub use Rattle.qg_fs_layout.proofs.Counts
-pub use Rattle.qg_fs_layout.proofs.Covered
-pub use Rattle.qg_fs_layout.proofs.Extents as FsLayoutExtents
-pub use Rattle.qg_fs_layout.proofs.FewNames
-pub use Rattle.qg_fs_layout.proofs.Files as FsLayoutFiles
-pub use Rattle.qg_fs_layout.proofs.Fitting
-pub use Rattle.qg_fs_layout.proofs.ForestExtents
-pub use Rattle.qg_fs_layout.proofs.ForestRoots
-pub use Rattle.qg_fs_layout.proofs.Formed
-pub use Rattle.qg_fs_layout.proofs.Homes
-pub use Rattle.qg_fs_layout.proofs.Lists
-pub use Rattle.qg_fs_layout.proofs.Meeting
-pub use Rattle.qg_fs_layout.proofs.Nodes
-pub use Rattle.qg_fs_layout.proofs.Ordered
-pub use Rattle.qg_fs_layout.proofs.Pieces
-pub use Rattle.qg_fs_layout.proofs.Places
-pub use Rattle.qg_fs_layout.proofs.Reach
-pub use Rattle.qg_fs_layout.proofs.Reached
-pub use Rattle.qg_fs_layout.proofs.Referring
-pub use Rattle.qg_fs_layout.proofs.Roots
-pub use Rattle.qg_fs_layout.proofs.Snapshotted
-pub use Rattle.qg_fs_layout.proofs.Sound
-pub use Rattle.qg_fs_layout.proofs.Sums as TreeRefsSums
-pub use Rattle.qg_fs_layout.proofs.Tables
-pub use Rattle.qg_fs_layout.proofs.Taken as FsTreeTaken
-pub use Rattle.qg_fs_layout.proofs.Told as FsTreeTold
-pub use Rattle.qg_fs_layout.proofs.Trees
-pub use Rattle.qg_fs_layout.proofs.Walks
-pub use Rattle.qg_fs_layout.proofs.Ways
-pub use Rattle.qg_fs_layout.proofs.Whole
+pub use Rattle.qg_inodes.proofs.PiecesMet
+pub use Rattle.qg_inodes.proofs.EditedItems
+pub use Rattle.qg_inodes.proofs.Exchanged
+pub use Rattle.qg_inodes.proofs.FileBodies
+pub use Rattle.qg_inodes.proofs.PiecesByPosition
+pub use Rattle.qg_inodes.proofs.RangeEdits
+pub use Rattle.qg_inodes.proofs.Spelled
+pub use Rattle.qg_inodes.proofs.Tables as InodesTables
+pub use Rattle.qg_inodes.proofs.BodiesByKey
+pub use Rattle.qg_shared_trees.proofs.Before
+pub use Rattle.qg_shared_trees.proofs.Changed
+pub use Rattle.qg_shared_trees.proofs.Copied
+pub use Rattle.qg_shared_trees.proofs.OwedReferences
+pub use Rattle.qg_shared_trees.proofs.Counts
+pub use Rattle.qg_shared_trees.proofs.Covered
+pub use Rattle.qg_shared_trees.proofs.Extents as SharedTreesExtents
+pub use Rattle.qg_shared_trees.proofs.FewNames
+pub use Rattle.qg_shared_trees.proofs.Files as SharedTreesFiles
+pub use Rattle.qg_shared_trees.proofs.Fitting
+pub use Rattle.qg_shared_trees.proofs.ForestExtents
+pub use Rattle.qg_shared_trees.proofs.ForestRoots
+pub use Rattle.qg_shared_trees.proofs.Formed
+pub use Rattle.qg_shared_trees.proofs.Homes
+pub use Rattle.qg_shared_trees.proofs.Lists
+pub use Rattle.qg_shared_trees.proofs.Meeting
+pub use Rattle.qg_shared_trees.proofs.Nodes
+pub use Rattle.qg_shared_trees.proofs.Ordered
+pub use Rattle.qg_shared_trees.proofs.PiecesTold
+pub use Rattle.qg_shared_trees.proofs.Places
+pub use Rattle.qg_shared_trees.proofs.Reach
+pub use Rattle.qg_shared_trees.proofs.Reached
+pub use Rattle.qg_shared_trees.proofs.Referring
+pub use Rattle.qg_shared_trees.proofs.Roots
+pub use Rattle.qg_shared_trees.proofs.Snapshotted
+pub use Rattle.qg_shared_trees.proofs.Sound
+pub use Rattle.qg_shared_trees.proofs.Sums as TreeBackrefsSums
+pub use Rattle.qg_shared_trees.proofs.Tables
+pub use Rattle.qg_shared_trees.proofs.Taken as FsTreeTaken
+pub use Rattle.qg_shared_trees.proofs.TrueToFixed
+pub use Rattle.qg_shared_trees.proofs.Trees
+pub use Rattle.qg_shared_trees.proofs.Walks
+pub use Rattle.qg_shared_trees.proofs.Ways
+pub use Rattle.qg_shared_trees.proofs.SoundState
+pub mod Ascending
+pub mod Positions
+pub mod Between
+pub mod Applied
+pub mod PieceTables
+pub mod Stretches
+pub mod Possible
+pub mod FewSteps
+pub mod Names
+pub mod Rests
+pub mod NameCounts
+pub mod ExchangedSums
 pub mod Items
 pub mod Handed
 pub mod Kept
@@ -49,13 +69,13 @@ pub mod Files
 pub mod Inodes
 pub mod Extents
 pub mod Sources
-pub mod Counted
+pub mod PieceCounts
 pub mod Ranges
 pub mod Cuts
 pub mod Removals
 pub mod Taken
 pub mod Given
 pub mod Few
-pub mod Told
+pub mod CommandExchange
 pub mod Left
 pub mod Room

@@ -13,21 +13,21 @@ use Rattle.qg_num.specs.declared.piece.Piece.{Piece}
 use Rattle.qg_node.specs.declared.item.Item.{Item}
 use Rattle.qg_items.specs.declared.extent.Reference.{Reference}
 use Rattle.qg_image.specs.IsShaped.{same_key}
-use Rattle.qg_contents.specs.Written.{item_of_piece}
+use Rattle.qg_root_items.specs.Written.{item_of_piece}
 use Rattle.qg_edit.specs.Edits.{with_item, without_key}
-use Rattle.qg_fs_layout.proofs.Times.{times-nil}
-use Rattle.qg_fs_layout.specs.Standing.{name_told, names_times}
-use Rattle.qg_fs_layout.proofs.Owned.{names-fewer}
-use Rattle.qg_exchange.specs.Bodies.{piece_at}
-use Rattle.qg_exchange.proofs.Pieces.{at-here, at-later}
-use Rattle.qg_exchange.specs.declared.step.Step.{Step}
-use Rattle.qg_exchange.specs.declared.step.Step.TheVariants.{Remove, Insert, Replace}
-use Rattle.qg_exchange.specs.Applying.{after_step, after_steps, key_at}
-use Rattle.qg_exchange.specs.Named.{names_of}
-use Rattle.qg_exchange.specs.Steps.{AreSteps, position_of, step_at, step_for}
-use Rattle.qg_exchange.proofs.Ascending.{AscendFrom, AscendFrom-increasing}
-use Rattle.qg_exchange.proofs.Counts.{names-add}
-use Rattle.qg_exchange.proofs.Positions.{positions_of, step-here, step-later}
+use Rattle.qg_shared_trees.proofs.Times.{times-nil}
+use Rattle.qg_shared_trees.specs.Standing.{name_told, names_times}
+use Rattle.qg_shared_trees.proofs.Owned.{names-fewer}
+use Rattle.qg_file_edits.specs.Bodies.{piece_at}
+use Rattle.qg_file_edits.proofs.PiecesByPosition.{at-here, at-later}
+use Rattle.qg_file_edits.specs.declared.step.Step.{Step}
+use Rattle.qg_file_edits.specs.declared.step.Step.TheVariants.{Remove, Insert, Replace}
+use Rattle.qg_file_edits.specs.Applying.{after_step, after_steps, key_at}
+use Rattle.qg_file_edits.specs.Named.{names_of}
+use Rattle.qg_file_edits.specs.Steps.{AreSteps, position_of, step_at, step_for}
+use Rattle.qg_file_edits.proofs.Ascending.{AscendFrom, AscendFrom-increasing}
+use Rattle.qg_file_edits.proofs.NameCounts.{names-add}
+use Rattle.qg_file_edits.proofs.Positions.{positions_of, step-here, step-later}
 use Rattle.qg_file_edits.specs.declared.exchange.Exchange.{Exchange}
 use Rattle.qg_file_edits.specs.Exchanging.{AreCoveredThroughout, CoversExchange}
 

@@ -16,22 +16,22 @@ use Rattle.qg_super.specs.declared.sizes.Sizes.{Sizes}
 use Rattle.qg_super.specs.Places.{data_begin, is_run}
 use Rattle.qg_image.specs.Owed.{Owing}
 use Rattle.qg_image.specs.Reach.{extent_of}
-use Rattle.qg_blocks.specs.Told.{BreaksNone}
+use Rattle.qg_blocks.specs.NodesFound.{BreaksNone}
 use Rattle.qg_refs.specs.Book.{full_in}
 use Rattle.qg_extents.specs.Table.{book_of}
-use Rattle.qg_descent.specs.Tree.{Root}
-use Rattle.qg_fs_layout.specs.Exchange.{times}
-use Rattle.qg_fs_layout.proofs.Times.{times-append}
-use Rattle.qg_fs_layout.specs.Types.{TreeRefs}
-use Rattle.qg_fs_layout.specs.Heavier.{BookGetsHeavier, name_bytes, name_new_bytes}
-use Rattle.qg_fs_layout.proofs.Sums.{BookGetsHeavier-most, BookGetsHeavier-same, BookGetsHeavier-then}
-use Rattle.qg_fs_layout.specs.Types.{FsTree}
-use Rattle.qg_fs_layout.specs.Standing.{IsKnownExtent, IsSubvolume, KeepsTree, Stands, extents_named, name_of}
-use Rattle.qg_fs_layout.specs.Standing.{name_told}
-use Rattle.qg_fs_layout.specs.Standing.{names_elsewhere, names_times}
-use Rattle.qg_fs_layout.proofs.Ordered.{stands-ordered}
-use Rattle.qg_fs_layout.proofs.Moved.{moves-itself, moves-then, names-move}
-use Rattle.qg_exchange.specs.Named.{names_of}
+use Rattle.qg_tree_read.specs.Tree.{Root}
+use Rattle.qg_shared_trees.specs.Exchange.{times}
+use Rattle.qg_shared_trees.proofs.Times.{times-append}
+use Rattle.qg_shared_trees.specs.Types.{TreeRefs}
+use Rattle.qg_shared_trees.specs.Heavier.{BookGetsHeavier, name_bytes, name_new_bytes}
+use Rattle.qg_shared_trees.proofs.Sums.{BookGetsHeavier-most, BookGetsHeavier-same, BookGetsHeavier-then}
+use Rattle.qg_shared_trees.specs.Types.{FsTree}
+use Rattle.qg_shared_trees.specs.Standing.{IsKnownExtent, IsSubvolume, KeepsTree, Stands, extents_named, name_of}
+use Rattle.qg_shared_trees.specs.Standing.{name_told}
+use Rattle.qg_shared_trees.specs.Standing.{names_elsewhere, names_times}
+use Rattle.qg_shared_trees.proofs.Ordered.{stands-ordered}
+use Rattle.qg_shared_trees.proofs.Moved.{moves-itself, moves-then, names-move}
+use Rattle.qg_file_edits.specs.Named.{names_of}
 use Rattle.qg_file_edits.specs.Naming.{AreCovered, AreFewNames, AreNamed, AreOfNamed, KeepsNodes, StandsMoved}
 use Rattle.qg_file_edits.proofs.Extents.{IsOfNamed, named-more}
 use Rattle.qg_file_edits.proofs.Items.{IsAt}

@@ -8,13 +8,13 @@ use Rattle.qg_num.specs.declared.fault.BlockFault.{BlockFault}
 use Rattle.qg_num.specs.declared.key.Key.{Key}
 use Rattle.qg_num.specs.declared.piece.Piece.{Piece}
 use Rattle.qg_node.specs.declared.item.Item.{Item}
-use Rattle.qg_blocks.specs.Told.{BreaksNone}
+use Rattle.qg_blocks.specs.NodesFound.{BreaksNone}
 use Rattle.qg_space.specs.Holding.{free_slots}
 use Rattle.qg_edit.specs.Edits.{has_key, with_item, without_key}
-use Rattle.qg_ground.specs.Calls.{LeavesBe}
-use Rattle.qg_fs_layout.specs.Rooting.{Grows}
-use Rattle.qg_fs_layout.specs.Types.{FsTree}
-use Rattle.qg_fs_layout.specs.Standing.{IsEditedTo, IsSubvolume, Stands, name_told}
+use Rattle.qg_node_alloc.specs.Calls.{LeavesBe}
+use Rattle.qg_shared_trees.specs.Rooting.{Grows}
+use Rattle.qg_shared_trees.specs.Types.{FsTree}
+use Rattle.qg_shared_trees.specs.Standing.{IsEditedTo, IsSubvolume, Stands, name_told}
 use Rattle.qg_file_edits.specs.Editing.{AreMade}
 use Rattle.qg_file_edits.specs.Files.{LeavesHeld, StaysOwn}
 use Rattle.qg_file_edits.specs.Naming.{AreCovered}

@@ -13,17 +13,17 @@ use Rattle.qg_num.specs.declared.piece.Piece.{Piece}
 use Rattle.qg_node.specs.declared.item.Item.{Item}
 use Rattle.qg_items.specs.declared.extent.Reference.{Reference}
 use Rattle.qg_image.specs.declared.file.File.{File}
-use Rattle.qg_contents.specs.Written.{items_of_file}
-use Rattle.qg_exchange.specs.declared.step.Step.{Step}
-use Rattle.qg_exchange.specs.Applying.{Applies, after_steps}
-use Rattle.qg_exchange.specs.Named.{AreNamesExchanged, named, names_of}
-use Rattle.qg_exchange.specs.Steps.{AreSteps}
-use Rattle.qg_exchange.proofs.Applied.{makes-exchange}
-use Rattle.qg_exchange.proofs.Counts.{names-ordered}
-use Rattle.qg_fs_layout.specs.Heavier.{BookGetsHeavier, name_new_bytes}
-use Rattle.qg_fs_layout.specs.Types.{FsTree}
-use Rattle.qg_fs_layout.specs.Standing.{IsSubvolume, Stands, name_told, names_elsewhere, names_times}
-use Rattle.qg_fs_layout.proofs.Ordered.{stands-ordered}
+use Rattle.qg_root_items.specs.Written.{items_of_file}
+use Rattle.qg_file_edits.specs.declared.step.Step.{Step}
+use Rattle.qg_file_edits.specs.Applying.{Applies, after_steps}
+use Rattle.qg_file_edits.specs.Named.{AreNamesExchanged, named, names_of}
+use Rattle.qg_file_edits.specs.Steps.{AreSteps}
+use Rattle.qg_file_edits.proofs.Applied.{makes-exchange}
+use Rattle.qg_file_edits.proofs.NameCounts.{names-ordered}
+use Rattle.qg_shared_trees.specs.Heavier.{BookGetsHeavier, name_new_bytes}
+use Rattle.qg_shared_trees.specs.Types.{FsTree}
+use Rattle.qg_shared_trees.specs.Standing.{IsSubvolume, Stands, name_told, names_elsewhere, names_times}
+use Rattle.qg_shared_trees.proofs.Ordered.{stands-ordered}
 use Rattle.qg_file_edits.specs.declared.exchange.Exchange.{Exchange}
 use Rattle.qg_file_edits.specs.Editing.{AreMade, CanEditInode, IsEditedBy, after_inode}
 use Rattle.qg_file_edits.specs.Exchanging.{AreCoveredThroughout, CanEditSo, CoversExchange, MakesFiles, after_exchange}

@@ -19,24 +19,24 @@ use Rattle.qg_image.specs.FilesOf.{are_pieces, inodes_end, is_aligned, largest_s
 use Rattle.qg_image.specs.Table.{value_at, with_value}
 use Rattle.qg_image.proofs.Pieces.{WholeFile-is_file}
 use Rattle.qg_machine.specs.FileChange.{file_or_new, pieces_meeting, pieces_or_none, with_pieces, with_range}
-use Rattle.qg_rules.specs.Writable.{AreWritableFiles, IsFileBy, IsPlaced, IsWritableFile}
-use Rattle.qg_contents.specs.Written.{inode_of, item_of_inode, items_of_file}
+use Rattle.qg_tree_items.specs.Writable.{AreWritableFiles, IsFileBy, IsPlaced, IsWritableFile}
+use Rattle.qg_root_items.specs.Written.{inode_of, item_of_inode, items_of_file}
 use Rattle.qg_edit.specs.Edits.{has_key, with_item}
-use Rattle.qg_exchange.specs.FileEdits.{file_edited}
-use Rattle.qg_exchange.specs.Pieces.{pieces_met}
-use Rattle.qg_exchange.proofs.Exchanged.{makes-file}
-use Rattle.qg_exchange.proofs.RangeEdits.{edits-range}
-use Rattle.qg_exchange.proofs.FileItemsTables.{writable-with}
-use Rattle.qg_exchange.specs.declared.step.Step.{Step}
-use Rattle.qg_exchange.specs.Applying.{CanExchange}
-use Rattle.qg_exchange.specs.Exchange.{IsExchange}
-use Rattle.qg_exchange.specs.Named.{AreNamesExchanged, named, names_by, names_of}
-use Rattle.qg_exchange.specs.Steps.{AreSteps}
-use Rattle.qg_exchange.proofs.Few.{range-few}
-use Rattle.qg_exchange.proofs.Names.{names-exchanged, names-spelled}
-use Rattle.qg_exchange.proofs.Possible.{made-can, range-can}
-use Rattle.qg_exchange.proofs.Stretches.{range-exchanged}
-use Rattle.qg_exchange.proofs.Sums.{sums-exchanged}
+use Rattle.qg_file_edits.specs.FileEdits.{file_edited}
+use Rattle.qg_file_edits.specs.PiecesWritten.{pieces_met}
+use Rattle.qg_file_edits.proofs.Exchanged.{makes-file}
+use Rattle.qg_file_edits.proofs.RangeEdits.{edits-range}
+use Rattle.qg_file_edits.proofs.InodesTables.{writable-with}
+use Rattle.qg_file_edits.specs.declared.step.Step.{Step}
+use Rattle.qg_file_edits.specs.Applying.{CanExchange}
+use Rattle.qg_file_edits.specs.Exchange.{IsExchange}
+use Rattle.qg_file_edits.specs.Named.{AreNamesExchanged, named, names_by, names_of}
+use Rattle.qg_file_edits.specs.Steps.{AreSteps}
+use Rattle.qg_file_edits.proofs.FewSteps.{range-few}
+use Rattle.qg_file_edits.proofs.Names.{names-exchanged, names-spelled}
+use Rattle.qg_file_edits.proofs.Possible.{made-can, range-can}
+use Rattle.qg_file_edits.proofs.Stretches.{range-exchanged}
+use Rattle.qg_file_edits.proofs.ExchangedSums.{sums-exchanged}
 use Rattle.qg_file_edits.specs.declared.exchange.Exchange.{Exchange}
 use Rattle.qg_file_edits.specs.declared.found.Found.{Found}
 use Rattle.qg_file_edits.specs.declared.inode.InodeEdit.{InodeEdit}
@@ -45,7 +45,7 @@ use Rattle.qg_file_edits.specs.Editing.{CanEditInode, after_inode, inode_key}
 use Rattle.qg_file_edits.specs.Exchanging.{MakesFiles, TellPieces, after_exchange, exchanged}
 use Rattle.qg_file_edits.specs.Files.{Finds, pieces_of}
 use Rattle.qg_file_edits.specs.Naming.{AreFewNames, AreOfNamed}
-use Rattle.qg_file_edits.proofs.Counted.{file-bytes, gone-part, put-few, put-tell}
+use Rattle.qg_file_edits.proofs.PieceCounts.{file-bytes, gone-part, put-few, put-tell}
 use Rattle.qg_file_edits.proofs.Extents.{IsOfNamed, named-besides, pieces-named}
 use Rattle.qg_file_edits.proofs.Files.{all-with, old-sound, range-by, range-writable}
 use Rattle.qg_file_edits.proofs.Inodes.{inode-has}

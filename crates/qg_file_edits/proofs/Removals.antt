@@ -13,21 +13,21 @@ use Rattle.qg_node.specs.declared.item.Item.{Item}
 use Rattle.qg_image.specs.declared.file.File.{File}
 use Rattle.qg_image.specs.IsShaped.{same_key}
 use Rattle.qg_image.specs.Table.{value_at, without_key as without_value}
-use Rattle.qg_rules.specs.Writable.{AreWritableFiles, IsFileBy}
-use Rattle.qg_contents.specs.Written.{item_of_piece, items_of_file}
+use Rattle.qg_tree_items.specs.Writable.{AreWritableFiles, IsFileBy}
+use Rattle.qg_root_items.specs.Written.{item_of_piece, items_of_file}
 use Rattle.qg_edit.specs.Edits.{without_key}
-use Rattle.qg_fs_layout.specs.Standing.{name_told, names_times}
-use Rattle.qg_exchange.specs.FileEdits.{without_items}
-use Rattle.qg_exchange.proofs.Exchanged.{removes-file}
-use Rattle.qg_exchange.proofs.FileItemsTables.{writable-without}
-use Rattle.qg_exchange.specs.declared.step.Step.{Step}
-use Rattle.qg_exchange.specs.Applying.{CanExchange}
-use Rattle.qg_exchange.specs.Named.{AreNamesExchanged, named, names_by, names_of}
-use Rattle.qg_exchange.specs.Steps.{AreSteps}
-use Rattle.qg_exchange.proofs.Counts.{names-few}
-use Rattle.qg_exchange.proofs.Few.{steps-few}
-use Rattle.qg_exchange.proofs.Names.{names-removed, names-spelled}
-use Rattle.qg_exchange.proofs.Possible.{removed-can}
+use Rattle.qg_shared_trees.specs.Standing.{name_told, names_times}
+use Rattle.qg_file_edits.specs.FileEdits.{without_items}
+use Rattle.qg_file_edits.proofs.Exchanged.{removes-file}
+use Rattle.qg_file_edits.proofs.InodesTables.{writable-without}
+use Rattle.qg_file_edits.specs.declared.step.Step.{Step}
+use Rattle.qg_file_edits.specs.Applying.{CanExchange}
+use Rattle.qg_file_edits.specs.Named.{AreNamesExchanged, named, names_by, names_of}
+use Rattle.qg_file_edits.specs.Steps.{AreSteps}
+use Rattle.qg_file_edits.proofs.NameCounts.{names-few}
+use Rattle.qg_file_edits.proofs.FewSteps.{steps-few}
+use Rattle.qg_file_edits.proofs.Names.{names-removed, names-spelled}
+use Rattle.qg_file_edits.proofs.Possible.{removed-can}
 use Rattle.qg_file_edits.specs.declared.exchange.Exchange.{Exchange}
 use Rattle.qg_file_edits.specs.declared.inode.InodeEdit.{InodeEdit}
 use Rattle.qg_file_edits.specs.Changes.{IsUnlinked}

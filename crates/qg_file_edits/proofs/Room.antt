@@ -5,11 +5,11 @@ use Rattle.qg_image.specs.declared.file.File.{File}
 use Rattle.qg_image.specs.Need.{file_copies, nodes_filled}
 use Rattle.qg_space.specs.Holding.{free_slots}
 use Rattle.qg_weighed.specs.Weight.{weight_of}
-use Rattle.qg_fs_layout.specs.Heavier.{edit_bytes, name_new_bytes}
-use Rattle.qg_fs_layout.specs.Need.{GetsHeavierBy}
-use Rattle.qg_fs_layout.proofs.Covered.{leaves-need}
-use Rattle.qg_fs_layout.proofs.Sums.{held-heavier}
-use Rattle.qg_fs_layout.specs.Types.{FsTree}
+use Rattle.qg_shared_trees.specs.Heavier.{edit_bytes, name_new_bytes}
+use Rattle.qg_shared_trees.specs.Need.{GetsHeavierBy}
+use Rattle.qg_shared_trees.proofs.Covered.{leaves-need}
+use Rattle.qg_shared_trees.proofs.Sums.{held-heavier}
+use Rattle.qg_shared_trees.specs.Types.{FsTree}
 use Rattle.qg_file_edits.specs.Files.{LeavesFiles}
 
 weighs_besides : (before besides after edits names : ℕ) → after ≤ before + (edits + names)

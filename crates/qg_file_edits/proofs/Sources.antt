@@ -7,14 +7,14 @@ use Rattle.qg_num.specs.declared.piece.Piece.{Piece}
 use Rattle.qg_node.specs.declared.item.Item.{Item}
 use Rattle.qg_image.specs.declared.file.File.{File}
 use Rattle.qg_image.proofs.Contained.{contains_cases}
-use Rattle.qg_image.specs.declared.tree.Tree.TheVariants.{Files}
-use Rattle.qg_contents.specs.Written.{items_of_file}
-use Rattle.qg_descent.specs.Tree.{Root, TellsTree}
-use Rattle.qg_fs_layout.specs.Types.{FsTree}
-use Rattle.qg_fs_layout.specs.Standing.{items_in, name_told, names_elsewhere, trees_of}
-use Rattle.qg_fs_layout.proofs.Lists.{has-flat}
-use Rattle.qg_exchange.specs.Named.{named, names_by}
-use Rattle.qg_exchange.proofs.Names.{names-spelled}
+use Rattle.qg_image.specs.declared.tree.TreeKind.TheVariants.{Files}
+use Rattle.qg_root_items.specs.Written.{items_of_file}
+use Rattle.qg_tree_read.specs.Tree.{Root, TellsTree}
+use Rattle.qg_shared_trees.specs.Types.{FsTree}
+use Rattle.qg_shared_trees.specs.Standing.{items_in, name_told, names_elsewhere, trees_of}
+use Rattle.qg_shared_trees.proofs.Lists.{has-flat}
+use Rattle.qg_file_edits.specs.Named.{named, names_by}
+use Rattle.qg_file_edits.proofs.Names.{names-spelled}
 use Rattle.qg_file_edits.specs.Files.{HasFiles, HoldsFiles, pieces_of}
 use Rattle.qg_file_edits.proofs.Extents.{IsOfNamed, named-among, pieces-named}
 

@@ -6,10 +6,10 @@ use Rattle.qg_device.specs.History.{History}
 use Rattle.qg_num.specs.declared.fault.BlockFault.{BlockFault}
 use Rattle.qg_num.specs.declared.piece.Piece.{Piece}
 use Rattle.qg_node.specs.declared.item.Item.{Item}
-use Rattle.qg_exchange.specs.declared.step.Step.{Step}
-use Rattle.qg_exchange.specs.Applying.{Applies, CanApply, after_step, after_steps}
-use Rattle.qg_fs_layout.specs.Types.{FsTree}
-use Rattle.qg_fs_layout.specs.Standing.{IsSubvolume, Stands, name_told}
+use Rattle.qg_file_edits.specs.declared.step.Step.{Step}
+use Rattle.qg_file_edits.specs.Applying.{Applies, CanApply, after_step, after_steps}
+use Rattle.qg_shared_trees.specs.Types.{FsTree}
+use Rattle.qg_shared_trees.specs.Standing.{IsSubvolume, Stands, name_told}
 use Rattle.qg_file_edits.specs.Editing.{AreMade, IsEditedBy}
 use Rattle.qg_file_edits.specs.Exchanging.{AreCoveredThroughout}
 use Rattle.qg_file_edits.specs.Files.{LeavesHeld, StaysOwn}

@@ -14,12 +14,12 @@ use Rattle.qg_image.specs.Table.{value_at}
 use Rattle.qg_image.proofs.Pieces.{WholeFile-is_file}
 use Rattle.qg_machine.specs.FileChange.{after, before, moved, part_after, part_before, pieces_meeting, pieces_or_none}
 use Rattle.qg_machine.specs.FileChange.{within}
-use Rattle.qg_rules.specs.Writable.{AreWritableFiles, IsFileBy, IsPlaced, IsWritableFile}
+use Rattle.qg_tree_items.specs.Writable.{AreWritableFiles, IsFileBy, IsPlaced, IsWritableFile}
 use Rattle.qg_files.specs.Apart.{AreApart, AreApartFrom}
 use Rattle.qg_files.proofs.Kept.{are_pieces-moved, are_pieces-within, no_pieces}
 use Rattle.qg_files.proofs.KeptApart.{apart-within_from, ends-within}
 use Rattle.qg_files.proofs.Order.{all_begin_from}
-use Rattle.qg_exchange.specs.Pieces.{pieces_met}
+use Rattle.qg_file_edits.specs.PiecesWritten.{pieces_met}
 use Rattle.qg_files.proofs.Sectors.{aligned-add}
 use Rattle.qg_file_edits.specs.Files.{pieces_of}
 use Rattle.qg_file_edits.proofs.Extents.{IsOfNamed}

@@ -8,15 +8,15 @@ use Rattle.qg_node.specs.declared.item.Item.{Item}
 use Rattle.qg_items.specs.declared.file.InodeItem.{InodeItem}
 use Rattle.qg_items.specs.declared.kind.TheConstants.{INODE_ITEM}
 use Rattle.qg_items.specs.ItemText.{inode_text}
-use Rattle.qg_parts.specs.Keys.{key_with}
-use Rattle.qg_blocks.specs.Told.{BreaksNone}
-use Rattle.qg_contents.specs.Written.{item_under}
+use Rattle.qg_tree_items.specs.Keys.{key_with}
+use Rattle.qg_blocks.specs.NodesFound.{BreaksNone}
+use Rattle.qg_node.specs.Nodes.{item_under}
 use Rattle.qg_space.specs.Holding.{free_slots}
 use Rattle.qg_edit.specs.Edits.{has_key, with_item, without_key}
-use Rattle.qg_fs_layout.specs.Heavier.{BookGetsHeavier, edit_bytes, name_new_bytes}
-use Rattle.qg_fs_layout.specs.Types.{FsTree}
-use Rattle.qg_fs_layout.specs.Standing.{IsElsewhere, Stands, made_slots, own_slots}
-use Rattle.qg_fs_layout.specs.Laying.{IsMoved}
+use Rattle.qg_shared_trees.specs.Heavier.{BookGetsHeavier, edit_bytes, name_new_bytes}
+use Rattle.qg_shared_trees.specs.Types.{FsTree}
+use Rattle.qg_shared_trees.specs.Standing.{IsElsewhere, Stands, made_slots, own_slots}
+use Rattle.qg_shared_trees.specs.Laying.{IsMoved}
 use Rattle.qg_file_edits.specs.declared.inode.InodeEdit.{InodeEdit}
 use Rattle.qg_file_edits.specs.declared.inode.InodeEdit.TheVariants.{Insert, Replace, Remove}
 

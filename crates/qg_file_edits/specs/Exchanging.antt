@@ -6,14 +6,14 @@ use Rattle.std.specs.Option.{option_to_list}
 use Rattle.qg_num.specs.declared.piece.Piece.{Piece}
 use Rattle.qg_node.specs.declared.item.Item.{Item}
 use Rattle.qg_image.specs.declared.file.File.{File}
-use Rattle.qg_contents.specs.Written.{item_of_piece, items_of_file}
+use Rattle.qg_root_items.specs.Written.{item_of_piece, items_of_file}
 use Rattle.qg_space.specs.Holding.{Holding, is_free_run}
-use Rattle.qg_fs_layout.specs.Standing.{name_told}
-use Rattle.qg_exchange.specs.FileEdits.{with_items, without_items}
-use Rattle.qg_exchange.specs.declared.step.Step.{Step}
-use Rattle.qg_exchange.specs.Applying.{CanExchange, after_steps}
-use Rattle.qg_exchange.specs.Named.{AreNamesExchanged, named, names_of}
-use Rattle.qg_exchange.specs.Steps.{AreSteps}
+use Rattle.qg_shared_trees.specs.Standing.{name_told}
+use Rattle.qg_file_edits.specs.FileEdits.{with_items, without_items}
+use Rattle.qg_file_edits.specs.declared.step.Step.{Step}
+use Rattle.qg_file_edits.specs.Applying.{CanExchange, after_steps}
+use Rattle.qg_file_edits.specs.Named.{AreNamesExchanged, named, names_of}
+use Rattle.qg_file_edits.specs.Steps.{AreSteps}
 use Rattle.qg_files.specs.Apart.{AreApart}
 use Rattle.qg_file_edits.specs.declared.exchange.Exchange.{Exchange}
 use Rattle.qg_file_edits.specs.Editing.{CanEditInode, after_inode}

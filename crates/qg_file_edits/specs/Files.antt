@@ -10,17 +10,17 @@ use Rattle.qg_image.specs.declared.file.File.{File}
 use Rattle.qg_image.specs.FilesOf.{inodes_end, is_aligned, largest_size, least_inode}
 use Rattle.qg_image.specs.Table.{value_at}
 use Rattle.qg_machine.specs.FileChange.{pieces_or_none}
-use Rattle.qg_rules.specs.Writable.{AreWritableFiles, IsFileBy}
-use Rattle.qg_contents.specs.Written.{inode_of, items_of_file}
+use Rattle.qg_tree_items.specs.Writable.{AreWritableFiles, IsFileBy}
+use Rattle.qg_root_items.specs.Written.{inode_of, items_of_file}
 use Rattle.qg_space.specs.Holding.{free_slots}
-use Rattle.qg_descent.specs.Tree.{Root}
-use Rattle.qg_exchange.specs.Pieces.{pieces_met}
-use Rattle.qg_exchange.specs.Named.{named}
+use Rattle.qg_tree_read.specs.Tree.{Root}
+use Rattle.qg_file_edits.specs.PiecesWritten.{pieces_met}
+use Rattle.qg_file_edits.specs.Named.{named}
 use Rattle.qg_image.specs.Need.{file_copies}
-use Rattle.qg_fs_layout.specs.Heavier.{BookGetsHeavier, edit_bytes, name_new_bytes}
-use Rattle.qg_fs_layout.specs.Types.{FsTree}
-use Rattle.qg_fs_layout.specs.Standing.{IsSubvolume, Stands, items_in, made_slots, taken_slots}
-use Rattle.qg_fs_layout.specs.Laying.{IsMoved}
+use Rattle.qg_shared_trees.specs.Heavier.{BookGetsHeavier, edit_bytes, name_new_bytes}
+use Rattle.qg_shared_trees.specs.Types.{FsTree}
+use Rattle.qg_shared_trees.specs.Standing.{IsSubvolume, Stands, items_in, made_slots, taken_slots}
+use Rattle.qg_shared_trees.specs.Laying.{IsMoved}
 use Rattle.qg_file_edits.specs.declared.found.Found.{Found}
 
 -- ---- where the tree is told

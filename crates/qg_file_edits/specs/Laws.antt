@@ -5,7 +5,7 @@ use Rattle.qg_image.specs.declared.file.File.{File}
 use Rattle.qg_image.specs.Need.{file_copies, nodes_filled}
 use Rattle.qg_space.specs.Holding.{free_slots}
 use Rattle.qg_weighed.specs.Weight.{weight_of}
-use Rattle.qg_fs_layout.specs.Types.{FsTree}
+use Rattle.qg_shared_trees.specs.Types.{FsTree}
 use Rattle.qg_file_edits.specs.Files.{LeavesFiles}
 
 -- A command that touches so many pieces, and finds the slots free that it needs, leaves those free that a commit may

@@ -1,17 +1,23 @@
-pub use Rattle.qg_exchange.specs.Named
-pub use Rattle.qg_exchange.specs.Bodies
-pub use Rattle.qg_exchange.specs.FileItemsLaws as FileItemsLaws
-pub use Rattle.qg_fs_layout.specs.Counting
-pub use Rattle.qg_fs_layout.specs.Editing as TreeEditsEditing
-pub use Rattle.qg_fs_layout.specs.Following
-pub use Rattle.qg_fs_layout.specs.ForestStanding
-pub use Rattle.qg_fs_layout.specs.Heavier
-pub use Rattle.qg_fs_layout.specs.Laying
-pub use Rattle.qg_fs_layout.specs.Need
-pub use Rattle.qg_fs_layout.specs.Rooting
-pub use Rattle.qg_fs_layout.specs.Settled
-pub use Rattle.qg_fs_layout.specs.Standing
-pub use Rattle.qg_fs_layout.specs.TreeBook
+pub use Rattle.qg_inodes.specs.Bodies
+pub use Rattle.qg_inodes.specs.FileEdits
+pub use Rattle.qg_inodes.specs.FileItemsLaws
+pub use Rattle.qg_inodes.specs.PiecesWritten
+pub use Rattle.qg_shared_trees.specs.Counting
+pub use Rattle.qg_shared_trees.specs.Editing as TreeEditsEditing
+pub use Rattle.qg_shared_trees.specs.Following
+pub use Rattle.qg_shared_trees.specs.ForestStanding
+pub use Rattle.qg_shared_trees.specs.Heavier
+pub use Rattle.qg_shared_trees.specs.Laying
+pub use Rattle.qg_shared_trees.specs.Need
+pub use Rattle.qg_shared_trees.specs.Rooting
+pub use Rattle.qg_shared_trees.specs.Settled
+pub use Rattle.qg_shared_trees.specs.Standing
+pub use Rattle.qg_shared_trees.specs.TreeBook
+pub mod Steps
+pub mod Applying
+pub mod Exchange
+pub mod Named
+pub mod ExchangeLaws
 pub mod Files
 pub mod Naming
 pub mod Editing

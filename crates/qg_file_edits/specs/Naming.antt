@@ -7,11 +7,11 @@ use Rattle.qg_num.specs.declared.piece.Piece.{Piece}
 use Rattle.qg_node.specs.declared.item.Item.{Item}
 use Rattle.qg_items.specs.declared.extent.Reference.{Reference}
 use Rattle.qg_image.specs.Reach.{extent_of}
-use Rattle.qg_blocks.specs.Told.{BreaksNone}
+use Rattle.qg_blocks.specs.NodesFound.{BreaksNone}
 use Rattle.qg_space.specs.Holding.{free_slots}
-use Rattle.qg_fs_layout.specs.Types.{FsTree}
-use Rattle.qg_fs_layout.specs.Standing.{IsSubvolume, KeepsTree, Stands, names_times}
-use Rattle.qg_fs_layout.specs.Laying.{IsMoved}
+use Rattle.qg_shared_trees.specs.Types.{FsTree}
+use Rattle.qg_shared_trees.specs.Standing.{IsSubvolume, KeepsTree, Stands, names_times}
+use Rattle.qg_shared_trees.specs.Laying.{IsMoved}
 
 -- each of some pieces names an extent that these names lead to
 abbrev pub AreOfNamed : List (ℕ × Piece) → List Piece → Type 0

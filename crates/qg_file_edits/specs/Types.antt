@@ -1,2 +1,2 @@
 -- Types of the crates below that this crate passes on.
-pub use Rattle.qg_fs_layout.specs.Types.{FsTree, TreeRefs}
+pub use Rattle.qg_shared_trees.specs.Types.{FsTree, TreeRefs}

@@ -6,20 +6,21 @@ ghost use Rattle.qg_num.specs.declared.piece.Piece.{Piece as PieceValue};
 ghost use Rattle.qg_node.specs.declared.item.Item.{Item as ItemValue};
 ghost use Rattle.qg_blocks.specs.Stopping.{StopsForCause};
 ghost use Rattle.qg_edit.specs.Edits.{has_key, with_item, without_key};
-ghost use Rattle.qg_exchange.specs.Applying.{Applies, CanApply, after_step, after_steps};
-ghost use Rattle.qg_fs_layout.specs.Standing.{IsSubvolume, Stands, name_told};
+ghost use Rattle.qg_file_edits.specs.Applying.{Applies, CanApply, after_step, after_steps};
+ghost use Rattle.qg_shared_trees.specs.Standing.{IsSubvolume, Stands, name_told};
 ghost use Rattle.qg_file_edits.specs.Editing.{AreMade, CanEditInode, after_inode};
 ghost use Rattle.qg_file_edits.specs.Exchanging.{AreCoveredThroughout};
 ghost use Rattle.qg_file_edits.specs.Files.{LeavesHeld, StaysOwn};
 ghost use Rattle.qg_file_edits.specs.Naming.{AreCovered};
 
+use crate::Step;
 use crate::inode::InodeEdit;
-use crate::texts::{inode_bytes, inode_key, piece_bytes, piece_key};
+use crate::texts::{inode_bytes, piece_bytes};
 use qg_disk::Disk;
-use qg_exchange::Step;
-use qg_fs_layout::fs_tree::FsTree;
+use qg_inodes::{inode_key, piece_key};
 use qg_node::Body;
 use qg_num::{BlockFault, Ino, Key, Steps};
+use qg_shared_trees::fs_tree::FsTree;
 use std::alloc::Global;
 use std::sync::ledger::Ledger;
 

@@ -9,11 +9,11 @@ ghost use Rattle.qg_num.specs.declared.rule.Rule.TheVariants.{Refs};
 ghost use Rattle.qg_node.specs.declared.item.Item.{Item as ItemValue};
 ghost use Rattle.qg_blocks.specs.Stopping.{NamesRule, StopsForCause};
 ghost use Rattle.qg_image.specs.declared.file.File.{File as FileValue};
-ghost use Rattle.qg_contents.specs.Written.{items_of_file};
-ghost use Rattle.qg_exchange.specs.Named.{named, names_of};
+ghost use Rattle.qg_root_items.specs.Written.{items_of_file};
+ghost use Rattle.qg_file_edits.specs.Named.{named, names_of};
 ghost use Rattle.qg_extents.specs.Table.{IsTable};
-ghost use Rattle.qg_fs_layout.specs.Heavier.{BookGetsHeavier, name_new_bytes};
-ghost use Rattle.qg_fs_layout.specs.Standing.{IsSubvolume, Stands, names_elsewhere};
+ghost use Rattle.qg_shared_trees.specs.Heavier.{BookGetsHeavier, name_new_bytes};
+ghost use Rattle.qg_shared_trees.specs.Standing.{IsSubvolume, Stands, names_elsewhere};
 ghost use Rattle.qg_files.specs.Apart.{AreApart};
 ghost use Rattle.qg_file_edits.specs.Editing.{AreMade};
 ghost use Rattle.qg_file_edits.specs.Exchanging.{CanEditSo, CoversExchange, IsReadyFor, MakesFiles, after_exchange};
@@ -23,10 +23,10 @@ ghost use Rattle.qg_file_edits.specs.Naming.{AreFewNames, AreNamed, AreOfNamed, 
 use crate::editing::{edit_inode, take_steps};
 use crate::inode::InodeEdit;
 use crate::naming::{name_each, name_new, unname_each};
+use crate::steps_between;
 use qg_disk::Disk;
-use qg_exchange::steps_between;
-use qg_fs_layout::fs_tree::FsTree;
 use qg_num::{BlockFault, Ino, Piece, Pieces, Steps};
+use qg_shared_trees::fs_tree::FsTree;
 use std::alloc::Global;
 use std::sync::ledger::Ledger;
 

@@ -8,13 +8,13 @@ ghost use Rattle.qg_num.specs.declared.rule.Rule.TheVariants.{Refs};
 ghost use Rattle.qg_node.specs.declared.item.Item.{Item as ItemValue};
 ghost use Rattle.qg_blocks.specs.Stopping.{NamesRule};
 ghost use Rattle.qg_space.specs.Holding.{is_free_run};
-ghost use Rattle.qg_fs_layout.specs.Heavier.{BookGetsHeavier, name_bytes, name_new_bytes};
-ghost use Rattle.qg_exchange.specs.Named.{names_of};
-ghost use Rattle.qg_fs_layout.specs.Standing.{IsSubvolume, Stands, name_told, names_elsewhere};
+ghost use Rattle.qg_shared_trees.specs.Heavier.{BookGetsHeavier, name_bytes, name_new_bytes};
+ghost use Rattle.qg_file_edits.specs.Named.{names_of};
+ghost use Rattle.qg_shared_trees.specs.Standing.{IsSubvolume, Stands, name_told, names_elsewhere};
 ghost use Rattle.qg_file_edits.specs.Naming.{AreCovered, AreFewNames, AreNamed, AreOfNamed, KeepsNodes};
 
-use qg_fs_layout::fs_tree::FsTree;
 use qg_num::{BlockFault, Ino, Piece};
+use qg_shared_trees::fs_tree::FsTree;
 
 /// Pieces of a file name extents that others name already, in this tree or in another.
 pub(crate) fn name_each(fs: &mut FsTree, ino: Ino, pieces: &[Piece]) -> Result<(), BlockFault>

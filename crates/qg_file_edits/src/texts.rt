@@ -1,37 +1,12 @@
-// Keys and bodies of a file's items.
+// Bodies of a file's items.
 ghost use Rattle.std.specs.Prelude.{◌≡◌};
 ghost use Rattle.qg_items.specs.ItemText.{extent_data_text, inode_text};
-ghost use Rattle.qg_contents.specs.Written.{extent_data_of};
-ghost use Rattle.qg_exchange.specs.Applying.{key_at};
-ghost use Rattle.qg_file_edits.specs.Editing.{inode_key};
+ghost use Rattle.qg_root_items.specs.Written.{extent_data_of};
 
-use qg_items::kind::{EXTENT_DATA, INODE_ITEM};
 use qg_items::{
     EXTENT_DATA_BYTES, ExtentData, INODE_ITEM_BYTES, InodeItem, write_extent_data, write_inode,
 };
-use qg_num::{Ino, Key, Piece};
-
-/// The key of a file's INODE_ITEM.
-pub(crate) fn inode_key(ino: Ino) -> Key
-    ensures { result ≡ inode_key ino }
-{
-    Key {
-        objectid: ino.value(),
-        kind: INODE_ITEM,
-        offset: 0,
-    }
-}
-
-/// The key of the EXTENT_DATA of a file's piece at a position, in bytes.
-pub(crate) fn piece_key(ino: Ino, position: u64) -> Key
-    ensures { result ≡ key_at ino position }
-{
-    Key {
-        objectid: ino.value(),
-        kind: EXTENT_DATA,
-        offset: position,
-    }
-}
+use qg_num::Piece;
 
 /// The bytes of an INODE_ITEM.
 pub(crate) fn inode_bytes(inode: &InodeItem) -> [u8; INODE_ITEM_BYTES]

@@ -17,10 +17,10 @@ use Rattle.qg_items.specs.declared.root.RootItem.{RootItem}
 use Rattle.qg_super.specs.declared.superblock.Super.{Super}
 use Rattle.qg_image.specs.ItemMeaning.{is_subvolume_number, root_part}
 use Rattle.qg_image.specs.Table.{keys_of, value_at}
-use Rattle.qg_parts.specs.Keys.{root_key}
-use Rattle.qg_parts.proofs.Keys.{root_keyed}
+use Rattle.qg_tree_items.specs.Keys.{root_key}
+use Rattle.qg_tree_items.proofs.KeysOfParts.{root_keyed}
 use Rattle.qg_shape.proofs.Ascending.{all_behind, ascending_tail_of}
-use Rattle.qg_image.specs.declared.tree.Tree.TheVariants.{Roots}
+use Rattle.qg_image.specs.declared.tree.TreeKind.TheVariants.{Roots}
 use Rattle.qg_image.specs.ImageState.{root_items, roots_in, subvolume_roots}
 use Rattle.qg_image.specs.Walk.{is_item_of}
 use Rattle.qg_fs_laws.proofs.OtherRecords.{root-said}

@@ -21,10 +21,10 @@ use Rattle.qg_image.specs.ImageState.{addresses_of, as_committed}
 use Rattle.qg_machine.specs.GroupChange.{recounted, recounted_group, same_counters}
 use Rattle.qg_machine.specs.Layout.{LiesInOtherSlot}
 use Rattle.qg_machine.specs.Step.{Commits, settled}
-use Rattle.qg_tree_commit.specs.Types.{OtherTrees}
-use Rattle.qg_tree_commit.specs.Sound.{committed}
-use Rattle.qg_tree_commit.specs.Telling.{AreToldBy}
-use Rattle.qg_tree_commit.specs.Trees.{stamp_after}
+use Rattle.qg_commit.specs.Types.{OtherTrees}
+use Rattle.qg_commit.specs.Sound.{committed}
+use Rattle.qg_commit.specs.Telling.{AreToldBy}
+use Rattle.qg_commit.specs.Trees.{stamp_after}
 use Rattle.qg_fs_laws.specs.Keeping.{AreDueCounters, group_after, quota_after, quota_laid}
 
 -- ---- the group

@@ -24,11 +24,11 @@ use Rattle.qg_image.specs.Space.{present_extents}
 use Rattle.qg_image.specs.State.{Placed, State, Subvolume}
 use Rattle.qg_image.proofs.Contained.{contains_later}
 use Rattle.qg_image.specs.ImageState.{addresses_of}
-use Rattle.qg_rules.specs.Writable.{IsFileBy}
-use Rattle.qg_contents.specs.Written.{items_of_file}
-use Rattle.qg_home.proofs.Reaching.{entry_of_value, value_of_entry}
+use Rattle.qg_tree_items.specs.Writable.{IsFileBy}
+use Rattle.qg_root_items.specs.Written.{items_of_file}
+use Rattle.qg_owner_rule.proofs.Reaching.{entry_of_value, value_of_entry}
 use Rattle.qg_space.proofs.Members.{Contains-has_slot}
-use Rattle.qg_descent.specs.Tree.{Root}
+use Rattle.qg_tree_read.specs.Tree.{Root}
 use Rattle.qg_file_edits.specs.Named.{named}
 use Rattle.qg_refs.specs.declared.kept.Kept.{Kept}
 use Rattle.qg_file_edits.specs.Types.{TreeRefs}
@@ -37,11 +37,11 @@ use Rattle.qg_file_edits.specs.Types.{FsTree}
 use Rattle.qg_file_edits.proofs.Lists.{from-mapped, has-mapped}
 use Rattle.qg_file_edits.specs.Laying.{IsLaidOut}
 use Rattle.qg_file_edits.specs.Files.{HasFiles, HoldsFiles}
-use Rattle.qg_standing.specs.Committing.{IsCommitted, StandsStill, for_generation}
-use Rattle.qg_tree_commit.specs.Types.{OtherTrees}
-use Rattle.qg_tree_commit.specs.Sound.{committed}
-use Rattle.qg_tree_commit.specs.Telling.{AreToldBy}
-use Rattle.qg_tree_commit.specs.Trees.{nodes_laid}
+use Rattle.qg_commit_trees.specs.Committing.{IsCommitted, StandsStill, for_generation}
+use Rattle.qg_commit.specs.Types.{OtherTrees}
+use Rattle.qg_commit.specs.Sound.{committed}
+use Rattle.qg_commit.specs.Telling.{AreToldBy}
+use Rattle.qg_commit.specs.Trees.{nodes_laid}
 use Rattle.qg_fs_laws.specs.Keeping.{IsKept, KeepsState, NamesOthers, OthersHaveFiles, quota_laid}
 use Rattle.qg_fs_laws.proofs.Kept.{slot-laid, taken-told, whole}
 use Rattle.qg_fs_laws.proofs.Runs.{runs-told}

@@ -15,16 +15,16 @@ use Rattle.qg_image.specs.Table.{has_key, value_at, with_value}
 use Rattle.qg_image.specs.declared.element.Element.{Element}
 use Rattle.qg_image.specs.Need.{file_copies}
 use Rattle.qg_image.specs.State.{Accepted, Committed, Layout, Placed, State, Subvolume, next_generation}
-use Rattle.qg_contents.specs.Written.{items_of_file}
+use Rattle.qg_root_items.specs.Written.{items_of_file}
 use Rattle.qg_machine.specs.Layout.{made_nodes}
 use Rattle.qg_machine.specs.Step.{with_tree}
 use Rattle.qg_space.specs.Holding.{has_slot}
 use Rattle.qg_refs.specs.Book.{full_in}
 use Rattle.qg_extents.specs.Table.{book_of}
-use Rattle.qg_descent.specs.Tree.{Root}
-use Rattle.qg_descent.proofs.Frames.{items-same}
+use Rattle.qg_tree_read.specs.Tree.{Root}
+use Rattle.qg_tree_read.proofs.Frames.{items-same}
 use Rattle.qg_reach.proofs.Layouts.{value_at-with_other, value_at-with_same}
-use Rattle.qg_rules.specs.Writable.{IsFileBy}
+use Rattle.qg_tree_items.specs.Writable.{IsFileBy}
 use Rattle.qg_file_edits.proofs.Snapshotted.{root_entry}
 use Rattle.qg_file_edits.specs.Types.{FsTree}
 use Rattle.qg_file_edits.specs.Standing.{every_slot, items_in, layout_in, made_slots, nodes_of, placed_at, roots_of}

@@ -24,18 +24,18 @@ use Rattle.qg_image.specs.Owed.{owed_count}
 use Rattle.qg_image.specs.Reach.{extent_of, is_among, level_of, reaches}
 use Rattle.qg_image.specs.State.{Layout, Placed, State, Subvolume, layout_of, node_at}
 use Rattle.qg_image.proofs.Contained.{contains_cases, contains_here, contains_later}
-use Rattle.qg_image.specs.declared.tree.Tree.TheVariants.{Files}
+use Rattle.qg_image.specs.declared.tree.TreeKind.TheVariants.{Files}
 use Rattle.qg_image.specs.Walk.{root_expected}
-use Rattle.qg_contents.specs.Written.{extent_data_of, inode_of, item_of_inode, item_of_piece, items_of_file}
-use Rattle.qg_contents.proofs.FileTree.{file_items-told}
+use Rattle.qg_root_items.specs.Written.{extent_data_of, inode_of, item_of_inode, item_of_piece, items_of_file}
+use Rattle.qg_root_items.proofs.FileTree.{file_items-told}
 use Rattle.qg_machine.specs.Layout.{IsTreeOf, found_in, super_to_come}
-use Rattle.qg_home.proofs.Reaching.{entry_of_value}
+use Rattle.qg_owner_rule.proofs.Reaching.{entry_of_value}
 use Rattle.qg_space.specs.Holding.{has_slot}
 use Rattle.qg_refs.specs.Book.{full_in}
 use Rattle.qg_extents.specs.Table.{book_of}
-use Rattle.qg_descent.specs.Tree.{IsTree, Reaches, Root, TellsTree, super_of}
-use Rattle.qg_descent.proofs.Frames.{IsTree-same}
-use Rattle.qg_descent.proofs.Walked.{IsTree-walked}
+use Rattle.qg_tree_read.specs.Tree.{IsTree, Reaches, Root, TellsTree, super_of}
+use Rattle.qg_tree_read.proofs.Frames.{IsTree-same}
+use Rattle.qg_tree_read.proofs.Walked.{IsTree-walked}
 use Rattle.qg_file_edits.specs.Rooting.{IsRooted}
 use Rattle.qg_file_edits.specs.Following.{references_to}
 use Rattle.qg_file_edits.specs.ForestStanding.{HoldsState, tree_of}
@@ -43,7 +43,7 @@ use Rattle.qg_file_edits.proofs.ForestExtents.{among-one, apart-held, level-foun
 use Rattle.qg_file_edits.proofs.Homes.{owner-reaches}
 use Rattle.qg_file_edits.proofs.Meeting.{IsLed, IsMet as IsMetIn, IsRoot, each-there, met-back, placed-there, root-low}
 use Rattle.qg_file_edits.proofs.Meeting.{root-valued}
-use Rattle.qg_file_edits.proofs.Pieces.{named-item}
+use Rattle.qg_file_edits.proofs.PiecesTold.{named-item}
 use Rattle.qg_file_edits.proofs.Referring.{OwesChild, OwesRoot, child-counted, children_of, named_by, owed-referred}
 use Rattle.qg_file_edits.proofs.Referring.{root-counted}
 use Rattle.qg_file_edits.proofs.ForestRoots.{root_level-value, root_of-value}
@@ -57,7 +57,7 @@ use Rattle.qg_file_edits.proofs.FewNames.{names-few}
 use Rattle.qg_file_edits.proofs.Lists.{has-mapped}
 use Rattle.qg_file_edits.proofs.Places.{slot-once}
 use Rattle.qg_file_edits.proofs.Sound.{told-formed}
-use Rattle.qg_file_edits.proofs.FsTreeTold.{free-untaken}
+use Rattle.qg_file_edits.proofs.TrueToFixed.{free-untaken}
 use Rattle.qg_file_edits.specs.Laying.{IsMet}
 use Rattle.qg_file_edits.proofs.Reach.{in-reaches, reaches-root}
 use Rattle.qg_file_edits.specs.Named.{named}

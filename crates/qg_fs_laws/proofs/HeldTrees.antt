@@ -16,12 +16,12 @@ use Rattle.qg_image.specs.Table.{keys_of, value_at, without_key}
 use Rattle.qg_image.specs.Reach.{level_of}
 use Rattle.qg_image.specs.State.{Layout, Placed, State, Subvolume, layout_of, next_generation, node_at}
 use Rattle.qg_image.proofs.Contained.{contains_cases, contains_here, contains_later}
-use Rattle.qg_home.proofs.Reaching.{entry_of_value, value_of_entry}
+use Rattle.qg_owner_rule.proofs.Reaching.{entry_of_value, value_of_entry}
 use Rattle.qg_space.proofs.Marks.{SlotsFit-is_served}
 use Rattle.qg_space.proofs.Members.{contains_filter, filter_contains}
-use Rattle.qg_ground.specs.Land.{IsDrafted}
-use Rattle.qg_descent.specs.Tree.{Reaches, Root}
-use Rattle.qg_descent.proofs.BranchFrames.{reach-same}
+use Rattle.qg_node_alloc.specs.Land.{IsDrafted}
+use Rattle.qg_tree_read.specs.Tree.{Reaches, Root}
+use Rattle.qg_tree_read.proofs.BranchFrames.{reach-same}
 use Rattle.qg_file_edits.specs.ForestStanding.{HoldsState, tree_of}
 use Rattle.qg_file_edits.proofs.ForestExtents.{AreApart, apart-held, node-met}
 use Rattle.qg_file_edits.proofs.Meeting.{IsMet as IsMetIn, met-there, placed-there, root-valued}

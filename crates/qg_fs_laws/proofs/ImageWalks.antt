@@ -24,7 +24,7 @@ use Rattle.qg_super.specs.SuperText.{sizes_of}
 use Rattle.qg_image.specs.Below.{items_below, joined, nodes_below}
 use Rattle.qg_image.specs.declared.expected.Expected.{Expected}
 use Rattle.qg_image.specs.declared.failure.Failure.{Failure}
-use Rattle.qg_image.specs.declared.tree.Tree.{Tree}
+use Rattle.qg_image.specs.declared.tree.TreeKind.{TreeKind}
 use Rattle.qg_image.specs.Failure.{first_failure, unless}
 use Rattle.qg_image.specs.ImageState.{level_in, tree_items, tree_nodes}
 use Rattle.qg_image.specs.ItemsUnder.{is_way, items_under, nodes_of, nodes_under}
@@ -33,9 +33,9 @@ use Rattle.qg_image.specs.Walk.{pointers_failure, root_expected, shape_failure, 
 use Rattle.qg_image.specs.Walk.{way_failure}
 use Rattle.qg_walk.specs.Standing.{expected_below}
 use Rattle.qg_walk.proofs.Failures.{first_none, neither, walk-passed}
-use Rattle.qg_descent.specs.Tree.{IsTree}
-use Rattle.qg_descent.proofs.BranchOrder.{ascends-under}
-use Rattle.qg_descent.proofs.Walked.{IsTree-walked}
+use Rattle.qg_tree_read.specs.Tree.{IsTree}
+use Rattle.qg_tree_read.proofs.BranchOrder.{ascends-under}
+use Rattle.qg_tree_read.proofs.Walked.{IsTree-walked}
 use Rattle.qg_file_edits.proofs.Formed.{read-formed}
 use Rattle.qg_file_edits.proofs.Walks.{walk-weaker}
 use Rattle.qg_fs_laws.specs.Opening.{AreItemsOf}
@@ -82,7 +82,7 @@ one_ok found a b first second = let same : ◌≡◌ {A = Result Node Failure} (
 
 -- ---- the walk
 
-module _ (tree : Tree) (super : Super) (image : List ℕ) where
+module _ (tree : TreeKind) (super : Super) (image : List ℕ) where
   abbrev judge : Expected → ℕ → Node → Option Failure
   judge = node_failure tree super
 

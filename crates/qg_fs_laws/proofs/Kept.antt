@@ -21,34 +21,34 @@ use Rattle.qg_image.specs.Owed.{layout_extents}
 use Rattle.qg_image.specs.Reach.{level_of}
 use Rattle.qg_image.specs.State.{Placed, State, Subvolume, layout_of, node_at}
 use Rattle.qg_image.proofs.Contained.{contains_cases, contains_here}
-use Rattle.qg_contents.specs.Written.{items_of_file}
-use Rattle.qg_contents.proofs.FileTree.{file_items-told}
+use Rattle.qg_root_items.specs.Written.{items_of_file}
+use Rattle.qg_root_items.proofs.FileTree.{file_items-told}
 use Rattle.qg_machine.specs.Layout.{IsWhole}
 use Rattle.qg_machine.specs.Refusals.{root_level}
 use Rattle.qg_space.specs.Holding.{has_slot}
 use Rattle.qg_space.proofs.Members.{one_passes, passes_one}
-use Rattle.qg_ground.specs.Land.{IsDrafted}
+use Rattle.qg_node_alloc.specs.Land.{IsDrafted}
 use Rattle.qg_weighed.specs.Laws.{CountsLayout}
 use Rattle.qg_weighed.specs.Weight.{record_known}
 use Rattle.qg_file_edits.proofs.Ways.{ways-some}
 use Rattle.qg_refs.specs.Book.{full_in}
 use Rattle.qg_extents.specs.Table.{book_of}
-use Rattle.qg_descent.specs.Tree.{Root}
+use Rattle.qg_tree_read.specs.Tree.{Root}
 use Rattle.qg_file_edits.specs.Types.{FsTree}
 use Rattle.qg_file_edits.specs.Standing.{Stands, items_in, nodes_of, placed_at, trees_of, ways_in}
 use Rattle.qg_file_edits.proofs.Lists.{all-contained}
 use Rattle.qg_file_edits.proofs.Reached.{reached-some}
 use Rattle.qg_file_edits.proofs.FsTreeTaken.{has-led}
 use Rattle.qg_file_edits.specs.Laying.{AreFit, HaveFiles, IsCounted, IsMet, IsMetAs, nodes_in}
-use Rattle.qg_file_edits.proofs.FsLayoutCounted.{owed-counted}
-use Rattle.qg_file_edits.proofs.FsLayoutFiles.{files-fit}
+use Rattle.qg_file_edits.proofs.OwedReferences.{owed-counted}
+use Rattle.qg_file_edits.proofs.SharedTreesFiles.{files-fit}
 use Rattle.qg_file_edits.proofs.Fitting.{nodes-fit}
 use Rattle.qg_file_edits.proofs.Nodes.{reached-by, value-reached}
 use Rattle.qg_file_edits.proofs.Trees.{entry-there, items-at_hand, met-slot, nodes-laid, root-level, sized}
 use Rattle.qg_file_edits.proofs.Trees.{tree-subvolume}
-use Rattle.qg_file_edits.proofs.Whole.{entry-laid, state-whole}
+use Rattle.qg_file_edits.proofs.SoundState.{entry-laid, state-whole}
 use Rattle.qg_file_edits.specs.Named.{named}
-use Rattle.qg_tree_commit.proofs.Owing.{owes_begins}
+use Rattle.qg_commit.proofs.Owing.{owes_begins}
 use Rattle.qg_file_edits.specs.Files.{HasFiles}
 use Rattle.qg_fs_laws.specs.Keeping.{IsKept, KeepsState}
 

@@ -7,13 +7,13 @@ use Rattle.qg_image.specs.declared.file.File.{File}
 use Rattle.qg_image.specs.Table.{value_at}
 use Rattle.qg_image.specs.State.{State, Subvolume}
 use Rattle.qg_image.proofs.Contained.{contains_later}
-use Rattle.qg_rules.specs.Writable.{IsFileBy}
-use Rattle.qg_contents.specs.Written.{items_of_file}
+use Rattle.qg_tree_items.specs.Writable.{IsFileBy}
+use Rattle.qg_root_items.specs.Written.{items_of_file}
 use Rattle.qg_space.specs.Holding.{Holding}
-use Rattle.qg_descent.specs.Tree.{Root}
+use Rattle.qg_tree_read.specs.Tree.{Root}
 use Rattle.qg_file_edits.specs.Named.{named}
 use Rattle.qg_file_edits.specs.Types.{FsTree}
-use Rattle.qg_standing.specs.Committing.{StandsStill}
+use Rattle.qg_commit_trees.specs.Committing.{StandsStill}
 use Rattle.qg_file_edits.specs.Files.{HasFiles}
 use Rattle.qg_fs_laws.specs.Keeping.{KeepsState}
 

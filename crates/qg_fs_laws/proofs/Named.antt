@@ -12,12 +12,13 @@ use Rattle.qg_image.specs.Reach.{extent_of}
 use Rattle.qg_image.specs.Space.{present_extents}
 use Rattle.qg_image.specs.State.{State, Subvolume}
 use Rattle.qg_image.proofs.Contained.{contains_cases, contains_here, contains_later}
-use Rattle.qg_descent.specs.Tree.{Root}
+use Rattle.qg_tree_read.specs.Tree.{Root}
 use Rattle.qg_file_edits.specs.Types.{FsTree}
 use Rattle.qg_file_edits.specs.Standing.{extents_named, items_in, name_told, names_elsewhere, trees_of}
 use Rattle.qg_file_edits.proofs.Lists.{from-flat, from-mapped, from-some, has-flat, has-mapped}
 use Rattle.qg_file_edits.specs.Laying.{names_in}
-use Rattle.qg_file_edits.proofs.FsLayoutExtents.{TellsExtent, from-files, from-present, in-files, in-names, in-present}
+use Rattle.qg_file_edits.proofs.SharedTreesExtents.{TellsExtent, from-files, from-present, in-files, in-names}
+use Rattle.qg_file_edits.proofs.SharedTreesExtents.{in-present}
 
 -- an item of a tree tells an extent
 record IsToldBy (fs : FsTree) (history : History) (run : Element) : Type 0 where

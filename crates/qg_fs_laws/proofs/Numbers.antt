@@ -8,7 +8,7 @@ use Rattle.qg_device.specs.History.{History}
 use Rattle.qg_image.specs.declared.file.File.{File}
 use Rattle.qg_image.specs.Table.{keys_of, with_value}
 use Rattle.qg_image.specs.State.{State, Subvolume}
-use Rattle.qg_contents.specs.Written.{items_of_file}
+use Rattle.qg_root_items.specs.Written.{items_of_file}
 use Rattle.qg_file_edits.specs.Types.{FsTree}
 use Rattle.qg_file_edits.proofs.Roots.{roots-ascend}
 use Rattle.qg_file_edits.proofs.Trees.{numbers-apart, roots-laid}

@@ -20,16 +20,16 @@ use Rattle.qg_image.specs.declared.element.Element.{Element}
 use Rattle.qg_image.specs.Space.{present_extents}
 use Rattle.qg_image.specs.State.{Layout, Placed, State, Subvolume}
 use Rattle.qg_image.proofs.Contained.{contains_later}
-use Rattle.qg_image.specs.declared.tree.Tree.TheVariants.{Files}
+use Rattle.qg_image.specs.declared.tree.TreeKind.TheVariants.{Files}
 use Rattle.qg_image.specs.ImageState.{addresses_of, items_of_root, other_nodes, roots_in, state_in, subvolume_in}
 use Rattle.qg_image.specs.ImageState.{subvolume_roots, subvolumes_in, subvolume_told}
 use Rattle.qg_image.specs.Walk.{root_told}
-use Rattle.qg_rules.specs.Writable.{IsFileBy}
+use Rattle.qg_tree_items.specs.Writable.{IsFileBy}
 use Rattle.qg_space.proofs.Marks.{SlotsFit-is_served}
-use Rattle.qg_home.proofs.Reaching.{entry_of_value, value_of_entry}
+use Rattle.qg_owner_rule.proofs.Reaching.{entry_of_value, value_of_entry}
 use Rattle.qg_extents.specs.Table.{IsTable, book_of}
 use Rattle.qg_refs.specs.Book.{full_in}
-use Rattle.qg_descent.specs.Tree.{Root}
+use Rattle.qg_tree_read.specs.Tree.{Root}
 use Rattle.qg_file_edits.specs.Types.{FsTree}
 use Rattle.qg_file_edits.specs.Standing.{Stands}
 use Rattle.qg_file_edits.proofs.Before.{among_of}
@@ -39,10 +39,10 @@ use Rattle.qg_file_edits.specs.FileItemsLaws.{AreItemsOf}
 use Rattle.qg_file_edits.proofs.Spelled.{spelled}
 use Rattle.qg_file_edits.specs.Laying.{HoldsSlots, IsLaidOut, IsMet, names_in, nodes_in}
 use Rattle.qg_file_edits.proofs.Nodes.{nodes-ascend, reached-by, value-reached}
-use Rattle.qg_standing.specs.Opening.{IsOpened, IsSoundImage, IsSoundSubvolume, StandsOpened, opened_tree}
-use Rattle.qg_standing.proofs.Opened.{drafted-there, met-slot, next-opened, node-met, own-opened, placed-opened}
-use Rattle.qg_standing.proofs.Opened.{slot-met, tree-entry}
-use Rattle.qg_standing.proofs.OpenedStands.{stands-opened}
+use Rattle.qg_commit_trees.specs.Opening.{IsOpened, IsSoundImage, IsSoundSubvolume, StandsOpened, opened_tree}
+use Rattle.qg_commit_trees.proofs.Opened.{drafted-there, met-slot, next-opened, node-met, own-opened, placed-opened}
+use Rattle.qg_commit_trees.proofs.Opened.{slot-met, tree-entry}
+use Rattle.qg_commit_trees.proofs.OpenedStands.{stands-opened}
 use Rattle.qg_file_edits.specs.Files.{HasFiles, HoldsFiles}
 use Rattle.qg_fs_laws.specs.Keeping.{KeepsState, OthersHaveFiles}
 use Rattle.qg_fs_laws.specs.Opening.{AreBytes, HasBytes, HoldsCommit, IsOf}

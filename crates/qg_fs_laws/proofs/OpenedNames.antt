@@ -27,8 +27,8 @@ use Rattle.qg_image.specs.Members.{level_of_group}
 use Rattle.qg_image.specs.Need.{held_records, quota_records, root_records}
 use Rattle.qg_image.specs.Record.{Record, RootOf, InfoOf, LimitOf, RelationOf, Status, extent_record, quota_record}
 use Rattle.qg_image.proofs.Contained.{contains_cases, contains_here, contains_later, none_contained}
-use Rattle.qg_home.proofs.Reaching.{entry_of_value}
-use Rattle.qg_owed.proofs.Filters.{contains_kept, kept_contains}
+use Rattle.qg_owner_rule.proofs.Reaching.{entry_of_value}
+use Rattle.qg_backref_rule.proofs.Filters.{contains_kept, kept_contains}
 use Rattle.qg_image.specs.ImageState.{extent_parts, group_told, info_told, limit_told, pair_told, quota_in}
 use Rattle.qg_image.specs.ImageState.{quota_parts, quota_root, quota_told, root_items, roots_in, state_in}
 use Rattle.qg_image.specs.ImageState.{subvolume_in}

@@ -29,14 +29,14 @@ use Rattle.qg_refs.specs.Book.{Book, references_in, what_in}
 use Rattle.qg_refs.specs.Counts.{count_of}
 use Rattle.qg_refs.proofs.Counting.{count-nil}
 use Rattle.qg_extents.specs.Table.{IsTable, book_of}
-use Rattle.qg_extents.specs.Told.{IsTold, parts_at, the_only, told_count, told_in, what_told}
+use Rattle.qg_extents.specs.BookRecords.{IsTold, parts_at, the_only, told_count, told_in, what_told}
 use Rattle.qg_weighed.specs.Laws.{IsRecorded, is_among, is_of_extents}
 use Rattle.qg_weighed.specs.Weight.{record_known, record_of_level}
 use Rattle.qg_weighed.proofs.Distinct.{same_record_is}
 use Rattle.qg_weighed.proofs.Recorded.{place_of, recorded, recorded_in, records-say}
 use Rattle.qg_weighed.proofs.Trees.{Are, none-named}
 use Rattle.qg_file_edits.specs.Types.{FsTree}
-use Rattle.qg_standing.specs.Opening.{IsOpened, IsSoundImage}
+use Rattle.qg_commit_trees.specs.Opening.{IsOpened, IsSoundImage}
 use Rattle.qg_fs_laws.specs.Opening.{HoldsCommit, HoldsOthers}
 use Rattle.qg_fs_laws.specs.OpeningLaws.{OpenedIsRecorded}
 use Rattle.qg_fs_laws.proofs.OtherRecords.{entry_record, records-there}

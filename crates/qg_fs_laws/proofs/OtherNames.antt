@@ -35,13 +35,13 @@ use Rattle.qg_image.specs.Record.{record_named, same_record}
 use Rattle.qg_image.specs.State.{Committed, State, nothing_held}
 use Rattle.qg_image.proofs.Contained.{contains_cases, none_contained}
 use Rattle.qg_image.specs.Among.{node_among}
-use Rattle.qg_image.specs.declared.tree.Tree.TheVariants.{Extents}
+use Rattle.qg_image.specs.declared.tree.TreeKind.TheVariants.{Extents}
 use Rattle.qg_image.specs.Walk.{is_item_of}
-use Rattle.qg_contents.specs.Written.{item_of_named, items_of_roots, roots_named}
+use Rattle.qg_root_items.specs.Written.{item_of_named, items_of_roots, roots_named}
 use Rattle.qg_quota.specs.Written.{both_ways, info_part, item_of_info, item_of_limit, item_of_relation, item_of_status}
 use Rattle.qg_quota.specs.Written.{items_of_quota, limit_part, parts_of_quota, relation_part, status_at}
-use Rattle.qg_tree_commit.proofs.CheckFound.{items_below-nodes}
-use Rattle.qg_owed.proofs.Passing.{all_at}
+use Rattle.qg_commit.proofs.CheckFound.{items_below-nodes}
+use Rattle.qg_backref_rule.proofs.Passing.{all_at}
 use Rattle.qg_space.proofs.Members.{any_same, one_passes}
 use Rattle.qg_refs.specs.declared.kept.Kept.{Kept}
 use Rattle.qg_extents.specs.Table.{IsTable}
@@ -50,11 +50,11 @@ use Rattle.qg_weighed.specs.Laws.{IsRecorded, is_among, is_of_extents}
 use Rattle.qg_weighed.specs.Weight.{records_in}
 use Rattle.qg_weighed.proofs.Distinct.{same_record_is}
 use Rattle.qg_weighed.proofs.Named.{said-recorded}
-use Rattle.qg_tree.specs.Build.{IsBuilt}
-use Rattle.qg_tree.specs.declared.building.Built.{Built}
+use Rattle.qg_tree_layout.specs.Build.{IsBuilt}
+use Rattle.qg_tree_layout.specs.declared.building.Built.{Built}
 use Rattle.qg_file_edits.proofs.Lists.{from-flat, from-mapped, from-some, has-flat, made-some}
-use Rattle.qg_tree_commit.specs.Types.{OtherTrees}
-use Rattle.qg_tree_commit.specs.Trees.{AreTrees, IsQuotaTreeOf, nodes_laid, quota_nodes_laid, root_item_laid}
+use Rattle.qg_commit.specs.Types.{OtherTrees}
+use Rattle.qg_commit.specs.Trees.{AreTrees, IsQuotaTreeOf, nodes_laid, quota_nodes_laid, root_item_laid}
 use Rattle.qg_fs_laws.specs.Keeping.{NamesOthers, other_names}
 use Rattle.qg_fs_laws.proofs.Said.{IsOfQuota, all-said, any-both, any-both-ways, any-mapped, any-with, both_of}
 use Rattle.qg_fs_laws.proofs.Said.{infos-named, limits-named, none-said, quotas-named, related, relation_of}

@@ -20,12 +20,12 @@ use Rattle.qg_image.specs.declared.part.ExtentPart.{ExtentPart}
 use Rattle.qg_image.specs.declared.part.QuotaPart.{QuotaPart}
 use Rattle.qg_image.specs.declared.part.QuotaPart.TheVariants as part
 use Rattle.qg_image.specs.ItemMeaning.{extent_part, extent_part_stamps, quota_part, root_part, some_passes}
-use Rattle.qg_parts.specs.Keys.{quota_key}
-use Rattle.qg_parts.proofs.Keys.{quota_keyed, root_keyed}
+use Rattle.qg_tree_items.specs.Keys.{quota_key}
+use Rattle.qg_tree_items.proofs.KeysOfParts.{quota_keyed, root_keyed}
 use Rattle.qg_image.specs.declared.quota.Quota.{Quota}
 use Rattle.qg_image.specs.Need.{held_records}
 use Rattle.qg_image.specs.Record.{Record, RootOf, extent_record, quota_record, record_named}
-use Rattle.qg_image.specs.declared.tree.Tree.TheVariants.{Extents, Quotas, Roots}
+use Rattle.qg_image.specs.declared.tree.TreeKind.TheVariants.{Extents, Quotas, Roots}
 use Rattle.qg_image.specs.ImageState.{extent_parts, items_of_root, nodes_of_root, of_tree, other_nodes, quota_parts}
 use Rattle.qg_image.specs.ImageState.{quota_root, root_items, root_nodes, roots_in, state_in}
 use Rattle.qg_image.specs.Walk.{are_by, is_item_of}

@@ -26,12 +26,12 @@ use Rattle.qg_image.specs.Members.{hierarchy_of, level_of_group}
 use Rattle.qg_image.specs.State.{State, Subvolume}
 use Rattle.qg_image.proofs.Contained.{contains_here, contains_later}
 use Rattle.qg_machine.specs.GroupChange.{has_pair}
-use Rattle.qg_hier.specs.Groups.{IsSound, pair_cmp}
-use Rattle.qg_hier.proofs.Sets.{equal_pairs}
+use Rattle.qg_qgroups.specs.Groups.{IsSound, pair_cmp}
+use Rattle.qg_qgroups.proofs.Sets.{equal_pairs}
 use Rattle.qg_weighed.specs.Laws.{is_among}
 use Rattle.qg_weighed.proofs.Distinct.{adds, bytes-alike, bytes-one}
 use Rattle.qg_file_edits.proofs.Lists.{from-mapped}
-use Rattle.qg_tree_commit.specs.Trees.{quota_tree_bytes, root_tree_bytes}
+use Rattle.qg_commit.specs.Trees.{quota_tree_bytes, root_tree_bytes}
 use Rattle.qg_fs_laws.specs.Keeping.{other_names, other_weight}
 
 -- ---- each once

@@ -22,8 +22,8 @@ use Rattle.qg_image.specs.Reach.{extent_of, level_of, own_elements, pieces_of, p
 use Rattle.qg_image.specs.Reach.{reach_of_root, reach_under}
 use Rattle.qg_image.specs.State.{Placed, State, Subvolume, layout_of, node_at}
 use Rattle.qg_image.proofs.Contained.{contains_cases, contains_here, contains_later, none_contained}
-use Rattle.qg_home.proofs.Reaching.{entry_of_value}
-use Rattle.qg_counted.specs.Counted.{AreAllReached}
+use Rattle.qg_owner_rule.proofs.Reaching.{entry_of_value}
+use Rattle.qg_qgroup_counts.specs.AllReached.{AreAllReached}
 use Rattle.qg_reach.proofs.Distinct.{apart_with}
 use Rattle.qg_reach.proofs.SlotRule.{slot_below}
 use Rattle.qg_file_edits.specs.Types.{FsTree}

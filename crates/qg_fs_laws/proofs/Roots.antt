@@ -14,13 +14,13 @@ use Rattle.qg_image.specs.Table.{keys_of, value_at}
 use Rattle.qg_image.specs.Reach.{level_of}
 use Rattle.qg_image.specs.State.{Placed, State, Subvolume, node_at}
 use Rattle.qg_image.proofs.Contained.{contains_here, contains_later}
-use Rattle.qg_home.proofs.Reaching.{value_of_entry}
+use Rattle.qg_owner_rule.proofs.Reaching.{value_of_entry}
 use Rattle.qg_image.specs.OtherTrees.{root_item_of, subvolume_items}
-use Rattle.qg_contents.specs.Written.{items_of_file}
+use Rattle.qg_root_items.specs.Written.{items_of_file}
 use Rattle.qg_refs.specs.declared.kept.What.{What}
 use Rattle.qg_refs.specs.Book.{what_in}
 use Rattle.qg_extents.specs.Table.{book_of}
-use Rattle.qg_descent.specs.Tree.{Root}
+use Rattle.qg_tree_read.specs.Tree.{Root}
 use Rattle.qg_file_edits.specs.Named.{named}
 use Rattle.qg_file_edits.specs.Settled.{what_of}
 use Rattle.qg_file_edits.specs.Types.{FsTree}
@@ -31,7 +31,7 @@ use Rattle.qg_file_edits.proofs.Nodes.{value-reached}
 use Rattle.qg_file_edits.proofs.Roots.{HasRoot as HasTree}
 use Rattle.qg_file_edits.proofs.Trees.{entry-there, met-slot, nodes-laid, root-level, root-reached, sized}
 use Rattle.qg_file_edits.proofs.Trees.{subvolume-tree, value-subvolume}
-use Rattle.qg_tree_commit.specs.Telling.{HasRoot}
+use Rattle.qg_commit.specs.Telling.{HasRoot}
 use Rattle.qg_fs_laws.specs.Keeping.{IsKept, KeepsState}
 use Rattle.qg_fs_laws.proofs.Kept.{counted, stands}
 use Rattle.qg_fs_laws.proofs.Numbers.{numbers-ascend}

@@ -12,17 +12,17 @@ use Rattle.qg_image.specs.declared.element.Element.{Element}
 use Rattle.qg_image.specs.Reach.{reaches}
 use Rattle.qg_image.specs.Space.{present_extents}
 use Rattle.qg_image.specs.State.{Placed, State, Subvolume, layout_of}
-use Rattle.qg_home.proofs.Reaching.{entry_of_value}
-use Rattle.qg_contents.specs.Written.{items_of_file}
+use Rattle.qg_owner_rule.proofs.Reaching.{entry_of_value}
+use Rattle.qg_root_items.specs.Written.{items_of_file}
 use Rattle.qg_space.specs.Agreement.{IsHoldingOf}
 use Rattle.qg_extents.specs.Table.{book_of}
-use Rattle.qg_descent.specs.Tree.{Root}
+use Rattle.qg_tree_read.specs.Tree.{Root}
 use Rattle.qg_file_edits.specs.ForestStanding.{HoldsNode, HoldsState, IsKnownRun}
 use Rattle.qg_file_edits.proofs.Homes.{all-home}
 use Rattle.qg_file_edits.specs.Types.{FsTree}
 use Rattle.qg_file_edits.specs.Standing.{items_in, trees_of}
 use Rattle.qg_file_edits.proofs.Trees.{items-at_hand, met-slot, subvolume-tree, tree-subvolume, value-subvolume}
-use Rattle.qg_file_edits.proofs.Whole.{owner-reaches, value-laid}
+use Rattle.qg_file_edits.proofs.SoundState.{owner-reaches, value-laid}
 use Rattle.qg_file_edits.specs.Named.{named}
 use Rattle.qg_fs_laws.specs.Keeping.{IsKept, KeepsState}
 use Rattle.qg_fs_laws.proofs.Kept.{counted, have, stands, whole}

@@ -18,7 +18,7 @@ use Rattle.qg_image.specs.Record.{Record, InfoOf, LimitOf, RelationOf, RootOf, e
 use Rattle.qg_image.specs.Record.{record_named}
 use Rattle.qg_image.proofs.Contained.{contains_here, contains_later}
 use Rattle.qg_machine.specs.GroupChange.{same_pair, with_pair}
-use Rattle.qg_hier.proofs.Sets.{pair_is}
+use Rattle.qg_qgroups.proofs.Sets.{pair_is}
 use Rattle.qg_quota.specs.Written.{both_ways, info_part, limit_part, relation_part}
 
 -- ---- lists that are the same

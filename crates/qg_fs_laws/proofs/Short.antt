@@ -20,13 +20,13 @@ use Rattle.qg_image.proofs.Contained.{contains_cases, contains_here, contains_la
 use Rattle.qg_image.specs.Verdict.{extent_set, is_extent, longest_extent, space_failure}
 use Rattle.qg_machine.specs.FileChange.{after, before, file_or_new, moved, new_piece, part_after, part_before}
 use Rattle.qg_machine.specs.FileChange.{pieces_or_none, with_pieces, with_range, with_size, within}
-use Rattle.qg_home.proofs.Reaching.{entry_of_value}
+use Rattle.qg_owner_rule.proofs.Reaching.{entry_of_value}
 use Rattle.qg_reach.specs.Fits.{first_fits}
 use Rattle.qg_reach.proofs.ExtentSets.{extent_set_same}
 use Rattle.qg_reach.proofs.SpaceRule.{Keeps-space}
 use Rattle.qg_space.proofs.Members.{filter_contains}
 use Rattle.qg_file_edits.proofs.Lists.{from-mapped, from-some, has-flat, has-mapped}
-use Rattle.qg_file_edits.proofs.FsLayoutExtents.{in-present}
+use Rattle.qg_file_edits.proofs.SharedTreesExtents.{in-present}
 use Rattle.qg_file_edits.specs.Changes.{files_cut, files_with}
 use Rattle.qg_fs_laws.specs.Committing.{AreShort, AreShortPieces, IsShort, LeavesShort}
 

@@ -22,35 +22,35 @@ use Rattle.qg_image.specs.Space as present
 use Rattle.qg_image.specs.State.{Placed, State, Subvolume, layout_of, next_generation}
 use Rattle.qg_image.specs.OtherTrees.{subvolume_items}
 use Rattle.qg_image.specs.Verdict.{extent_set, longest_extent, space_failure}
-use Rattle.qg_contents.specs.Written.{items_of_file}
+use Rattle.qg_root_items.specs.Written.{items_of_file}
 use Rattle.qg_machine.specs.Written.{new_nodes}
 use Rattle.qg_machine.specs.Step.{Commits}
 use Rattle.qg_extents.specs.Table.{book_of}
 use Rattle.qg_space.specs.Holding.{is_free_slot}
-use Rattle.qg_tree_commit.specs.Calls.{IsReadBack}
-use Rattle.qg_descent.specs.Tree.{Root}
+use Rattle.qg_commit.specs.Calls.{IsReadBack}
+use Rattle.qg_tree_read.specs.Tree.{Root}
 use Rattle.qg_file_edits.specs.Named.{named}
 use Rattle.qg_file_edits.specs.Types.{FsTree}
 use Rattle.qg_file_edits.specs.Standing.{Stands, items_in, trees_of}
 use Rattle.qg_file_edits.proofs.Lists.{from-flat, from-mapped}
 use Rattle.qg_file_edits.specs.Laying.{AreFit}
-use Rattle.qg_file_edits.proofs.FsLayoutExtents.{from-present}
-use Rattle.qg_file_edits.proofs.FsLayoutFiles.{files-fit}
+use Rattle.qg_file_edits.proofs.SharedTreesExtents.{from-present}
+use Rattle.qg_file_edits.proofs.SharedTreesFiles.{files-fit}
 use Rattle.qg_file_edits.proofs.Fitting.{nodes-fit}
 use Rattle.qg_file_edits.proofs.Trees.{nodes-laid, tree-subvolume}
 use Rattle.qg_reach.specs.Sets.{HaveSame}
-use Rattle.qg_tree_commit.specs.Types.{OtherTrees}
-use Rattle.qg_tree_commit.specs.OtherTreesHolds.{HoldsLayout}
-use Rattle.qg_tree_commit.specs.Sound.{committed}
-use Rattle.qg_tree_commit.specs.Sound as sound
-use Rattle.qg_tree_commit.specs.Telling.{AreToldBy, IsStateOf, Knows}
-use Rattle.qg_tree_commit.specs.Trees.{AreTrees}
-use Rattle.qg_tree_commit.proofs.Sound.{is_committed}
-use Rattle.qg_tree_commit.specs.Holds.{IsOnDisk, with_tree_commit}
-use Rattle.qg_tree_commit.specs.Writing.{fresh_nodes, nodes_written}
-use Rattle.qg_tree_commit.proofs.NewNodes.{written-new}
-use Rattle.qg_tree_commit.proofs.OnDisk.{on-disk}
-use Rattle.qg_tree_commit.proofs.Subvolume.{fresh-read}
+use Rattle.qg_commit.specs.Types.{OtherTrees}
+use Rattle.qg_commit.specs.OtherTreesHolds.{HoldsLayout}
+use Rattle.qg_commit.specs.Sound.{committed}
+use Rattle.qg_commit.specs.Sound as sound
+use Rattle.qg_commit.specs.Telling.{AreToldBy, IsStateOf, Knows}
+use Rattle.qg_commit.specs.Trees.{AreTrees}
+use Rattle.qg_commit.proofs.Sound.{is_committed}
+use Rattle.qg_commit.specs.HoldsAfter.{IsOnDisk, with_tree_commit}
+use Rattle.qg_commit.specs.Writing.{fresh_nodes, nodes_written}
+use Rattle.qg_commit.proofs.NewNodes.{written-new}
+use Rattle.qg_commit.proofs.OnDisk.{on-disk}
+use Rattle.qg_commit.proofs.Subvolume.{fresh-read}
 use Rattle.qg_fs_laws.specs.Keeping.{IsKept, KeepsState, quota_laid}
 use Rattle.qg_fs_laws.proofs.Commit.{commit-of-machine}
 use Rattle.qg_fs_laws.proofs.Free.{space-told}

@@ -21,7 +21,7 @@ use Rattle.qg_image.specs.Owed.{Agrees, homeless}
 use Rattle.qg_image.specs.Space.{present_extents}
 use Rattle.qg_image.specs.State.{layout_of}
 use Rattle.qg_image.specs.declared.failure.Failure.{Failure}
-use Rattle.qg_image.specs.declared.tree.Tree.TheVariants.{Extents, Files, Quotas, Roots}
+use Rattle.qg_image.specs.declared.tree.TreeKind.TheVariants.{Extents, Files, Quotas, Roots}
 use Rattle.qg_image.specs.Failure.{first_failure, unless}
 use Rattle.qg_image.specs.ImageState.{extent_parts, items_of_root, nodes_of_root, quota_in, quota_parts}
 use Rattle.qg_image.specs.ImageState.{quota_root, quota_told, root_items, root_nodes, roots_in, state_in}
@@ -31,7 +31,7 @@ use Rattle.qg_image.specs.Verdict.{is_status_part, places_failure, quota_failure
 use Rattle.qg_image.specs.Verdict.{space_failure, subvolume_failure, together_failure, verdict}
 use Rattle.qg_image.specs.Walk.{are_by, is_item_of, root_expected, root_told, tree_failure}
 use Rattle.qg_walk.proofs.Failures.{kept-none}
-use Rattle.qg_standing.specs.Opening.{IsSoundImage, IsSoundSubvolume}
+use Rattle.qg_commit_trees.specs.Opening.{IsSoundImage, IsSoundSubvolume}
 use Rattle.qg_fs_laws.specs.Opening.{AreItemsOf, HoldsOthers, HoldsQuotaOf}
 use Rattle.qg_fs_laws.proofs.Ascending.{roots-ascend, subvolumes-ascend, value-kept}
 use Rattle.qg_fs_laws.proofs.ImageWalks.{items-ascend, items-held, items-walked, nodes-walked}

@@ -12,15 +12,15 @@ use Rattle.qg_image.specs.declared.file.File.{File}
 use Rattle.qg_image.specs.Space.{present_extents}
 use Rattle.qg_image.specs.State.{State, Subvolume}
 use Rattle.qg_image.specs.Verdict.{extent_set, space_failure}
-use Rattle.qg_contents.specs.Written.{items_of_file}
+use Rattle.qg_root_items.specs.Written.{items_of_file}
 use Rattle.qg_space.specs.Holding.{Holding}
 use Rattle.qg_file_edits.specs.Named.{named}
 use Rattle.qg_file_edits.specs.Types.{FsTree}
-use Rattle.qg_standing.specs.Committing.{IsCommitted, StandsStill}
-use Rattle.qg_tree_commit.specs.Types.{OtherTrees}
-use Rattle.qg_tree_commit.specs.Sound.{committed}
-use Rattle.qg_tree_commit.specs.Telling.{AreToldBy}
-use Rattle.qg_tree_commit.specs.Trees.{nodes_laid}
+use Rattle.qg_commit_trees.specs.Committing.{IsCommitted, StandsStill}
+use Rattle.qg_commit.specs.Types.{OtherTrees}
+use Rattle.qg_commit.specs.Sound.{committed}
+use Rattle.qg_commit.specs.Telling.{AreToldBy}
+use Rattle.qg_commit.specs.Trees.{nodes_laid}
 use Rattle.qg_fs_laws.specs.Keeping.{KeepsState, LieApart, quota_laid}
 use Rattle.qg_fs_laws.specs.Committing.{AreShort, IsInOrder, IsShort, IsSoundCommit, KeepsCommit, LaysTree}
 use Rattle.qg_fs_laws.specs.Committing.{LeavesShort}

@@ -21,15 +21,15 @@ use Rattle.qg_refs.specs.Book.{what_in}
 use Rattle.qg_extents.specs.Table.{book_of}
 use Rattle.qg_space.specs.Holding.{AscendApart, Holding}
 use Rattle.qg_weighed.specs.Laws.{IsRecorded}
-use Rattle.qg_descent.specs.Tree.{Root}
+use Rattle.qg_tree_read.specs.Tree.{Root}
 use Rattle.qg_file_edits.specs.Types.{FsTree}
 use Rattle.qg_file_edits.specs.Standing.{trees_of}
 use Rattle.qg_file_edits.specs.Changes.{files_cloned_from, files_cut, files_written}
-use Rattle.qg_tree_commit.specs.Types.{OtherTrees}
-use Rattle.qg_tree_commit.specs.Sound.{committed}
-use Rattle.qg_tree_commit.specs.Sound as sound
-use Rattle.qg_tree_commit.specs.Holds.{AreFree, with_tree_commit}
-use Rattle.qg_tree_commit.specs.Writing.{IsLaying, nodes_written}
+use Rattle.qg_commit.specs.Types.{OtherTrees}
+use Rattle.qg_commit.specs.Sound.{committed}
+use Rattle.qg_commit.specs.Sound as sound
+use Rattle.qg_commit.specs.HoldsAfter.{AreFree, with_tree_commit}
+use Rattle.qg_commit.specs.Writing.{IsLaying, nodes_written}
 use Rattle.qg_fs_laws.specs.Keeping.{AreDueCounters, IsKept, KeepsState, NamesOthers, other_names, quota_laid}
 
 -- ---- what is asked

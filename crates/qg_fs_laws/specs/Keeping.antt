@@ -26,19 +26,19 @@ use Rattle.qg_machine.specs.FileChange.{file_change, pieces_meeting, pieces_or_n
 use Rattle.qg_machine.specs.Layout.{CopiesOnWrite}
 use Rattle.qg_machine.specs.Step.{with_tree}
 use Rattle.qg_space.specs.Holding.{Holding, first_run, free_slots, has_slot, is_free_run, is_free_slot}
-use Rattle.qg_blocks.specs.Told.{fresh_at}
+use Rattle.qg_blocks.specs.NodesFound.{fresh_at}
 use Rattle.qg_refs.specs.declared.kept.What.{What}
 use Rattle.qg_refs.specs.Book.{full_in, what_in}
 use Rattle.qg_extents.specs.Table.{IsTable, book_of}
 use Rattle.qg_weighed.specs.Laws.{is_among, is_of_extents}
-use Rattle.qg_descent.specs.Tree.{Root}
+use Rattle.qg_tree_read.specs.Tree.{Root}
 use Rattle.qg_file_edits.specs.ForestStanding.{tree_of}
 use Rattle.qg_file_edits.specs.Types.{FsTree}
 use Rattle.qg_file_edits.specs.Standing.{IsReachedBy, IsSubvolume, trees_of}
 use Rattle.qg_file_edits.specs.Laying.{HoldsSlots, IsLaidOut, nodes_in}
 use Rattle.qg_file_edits.specs.Changes.{files_cloned_from, files_cut, files_written}
 use Rattle.qg_file_edits.specs.Files.{HasFiles, HoldsFiles, pieces_of}
-use Rattle.qg_tree_commit.specs.Trees.{stamp_after}
+use Rattle.qg_commit.specs.Trees.{stamp_after}
 
 -- ---- what is kept
 

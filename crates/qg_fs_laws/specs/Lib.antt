@@ -11,21 +11,21 @@ pub use Rattle.qg_file_edits.specs.Settled
 pub use Rattle.qg_file_edits.specs.Standing
 pub use Rattle.qg_file_edits.specs.TreeBook
 pub use Rattle.qg_file_edits.specs.TreeEditsEditing
-pub use Rattle.qg_standing.specs.Committing as StandingCommitting
-pub use Rattle.qg_standing.specs.Opening as StandingOpening
-pub use Rattle.qg_tree_commit.specs.Calls
-pub use Rattle.qg_tree_commit.specs.Editable
-pub use Rattle.qg_tree_commit.specs.Fresh
-pub use Rattle.qg_tree_commit.specs.Holds
-pub use Rattle.qg_tree_commit.specs.IsImage
-pub use Rattle.qg_tree_commit.specs.Mkfs
-pub use Rattle.qg_tree_commit.specs.Opened
-pub use Rattle.qg_tree_commit.specs.Opening as CommitOpening
-pub use Rattle.qg_tree_commit.specs.Report
-pub use Rattle.qg_tree_commit.specs.Sound
-pub use Rattle.qg_tree_commit.specs.Stale
-pub use Rattle.qg_tree_commit.specs.Trees
-pub use Rattle.qg_tree_commit.specs.Writing
+pub use Rattle.qg_commit_trees.specs.Committing as CommitTreesCommitting
+pub use Rattle.qg_commit_trees.specs.Opening as CommitTreesOpening
+pub use Rattle.qg_commit.specs.Calls
+pub use Rattle.qg_commit.specs.Editable
+pub use Rattle.qg_commit.specs.Fresh
+pub use Rattle.qg_commit.specs.HoldsAfter
+pub use Rattle.qg_commit.specs.IsImage
+pub use Rattle.qg_commit.specs.Mkfs
+pub use Rattle.qg_commit.specs.Opened
+pub use Rattle.qg_commit.specs.Opening as CommitOpening
+pub use Rattle.qg_commit.specs.Report
+pub use Rattle.qg_commit.specs.Sound
+pub use Rattle.qg_commit.specs.Stale
+pub use Rattle.qg_commit.specs.Trees
+pub use Rattle.qg_commit.specs.Writing
 pub mod Keeping
 pub mod StepLaws
 pub mod Opening

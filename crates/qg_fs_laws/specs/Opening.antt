@@ -15,8 +15,8 @@ use Rattle.qg_image.specs.FilesOf.{AreItemsOfFiles}
 use Rattle.qg_image.specs.Table.{value_at}
 use Rattle.qg_image.specs.declared.element.Element.{Element}
 use Rattle.qg_image.specs.declared.quota.Quota.{Quota}
-use Rattle.qg_image.specs.declared.tree.Tree.TheVariants.{Extents, Files, Quotas, Roots}
-use Rattle.qg_image.specs.declared.tree.Tree.{Tree}
+use Rattle.qg_image.specs.declared.tree.TreeKind.TheVariants.{Extents, Files, Quotas, Roots}
+use Rattle.qg_image.specs.declared.tree.TreeKind.{TreeKind}
 use Rattle.qg_image.specs.ImageState.{addresses_of, items_of_root, nodes_of_root, other_nodes, quota_parts}
 use Rattle.qg_image.specs.ImageState.{quota_told, root_items, root_nodes, roots_in, subvolume_roots}
 use Rattle.qg_image.specs.Verdict.{fits_quota, is_status_part}
@@ -46,7 +46,7 @@ pub record IsOf (super : Super) (image : List ℕ) (sub : ℕ) (root : RootItem)
   pub are : AreItemsOfFiles super.generation (items_of_root Files super image root) files
 
 -- items of a tree stand in these nodes, and are some that the tree may hold in an image of this generation
-pub record AreItemsOf (tree : Tree) (generation : ℕ) (nodes : List Node) (items : List Item) : Type 0 where
+pub record AreItemsOf (tree : TreeKind) (generation : ℕ) (nodes : List Node) (items : List Item) : Type 0 where
   pub stand : items ≡ flat_map own_items nodes
   pub held : IsTrue (list_all (is_item_of tree generation) items)
 

@@ -13,7 +13,7 @@ use Rattle.qg_image.specs.Verdict.{IsSound}
 use Rattle.qg_weighed.specs.Laws.{IsRecorded}
 use Rattle.qg_extents.specs.Table.{IsTable}
 use Rattle.qg_file_edits.specs.Types.{FsTree}
-use Rattle.qg_standing.specs.Opening.{IsOpened, IsSoundImage}
+use Rattle.qg_commit_trees.specs.Opening.{IsOpened, IsSoundImage}
 use Rattle.qg_fs_laws.specs.Keeping.{KeepsState, NamesOthers, other_names}
 use Rattle.qg_fs_laws.specs.Opening.{HasBytes, HoldsCommit, HoldsOthers, IsOf}
 

@@ -14,20 +14,20 @@ use Rattle.qg_image.specs.Need.{file_copies, weight}
 use Rattle.qg_image.specs.Record.{Record}
 use Rattle.qg_image.specs.Space.{is_free_slot}
 use Rattle.qg_image.specs.State.{Accepted, State, Subvolume, layout_of, next_generation}
-use Rattle.qg_counted.specs.Counted.{AreAllReached}
+use Rattle.qg_qgroup_counts.specs.AllReached.{AreAllReached}
 use Rattle.qg_machine.specs.Layout.{IsWhole}
 use Rattle.qg_machine.specs.Refusals.{root_level}
 use Rattle.qg_machine.specs.Step.{Commits}
-use Rattle.qg_hier.specs.Groups.{IsSound}
+use Rattle.qg_qgroups.specs.Groups.{IsSound}
 use Rattle.qg_weighed.specs.Laws.{CountsLayout, IsRecorded}
 use Rattle.qg_weighed.specs.Weight.{weight_of}
 use Rattle.qg_file_edits.specs.ForestStanding.{HoldsState}
 use Rattle.qg_file_edits.specs.Types.{FsTree}
 use Rattle.qg_file_edits.specs.Files.{HasFiles, LeavesFiles}
-use Rattle.qg_tree_commit.specs.Types.{OtherTrees}
-use Rattle.qg_tree_commit.specs.Sound.{committed}
-use Rattle.qg_tree_commit.specs.Telling.{AreToldBy}
-use Rattle.qg_tree_commit.specs.Trees.{quota_tree_bytes, root_tree_bytes}
+use Rattle.qg_commit.specs.Types.{OtherTrees}
+use Rattle.qg_commit.specs.Sound.{committed}
+use Rattle.qg_commit.specs.Telling.{AreToldBy}
+use Rattle.qg_commit.specs.Trees.{quota_tree_bytes, root_tree_bytes}
 use Rattle.qg_fs_laws.specs.Keeping.{AreDueCounters, AreTreesOf, AreYoung, FollowsCommand, IsKept}
 use Rattle.qg_fs_laws.specs.Keeping.{KeepsState, LieApart, NamesOthers, OthersHaveFiles}
 use Rattle.qg_fs_laws.specs.Keeping.{TellsChanges, TellsSpace, elements_of, mine_after, other_names, other_weight}

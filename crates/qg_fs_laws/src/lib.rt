@@ -8,11 +8,11 @@ mod stepping;
 
 pub use committing::{extents_stay_short, tree_commit_is_kept, tree_commit_is_sound};
 pub use opening::{opened_is_kept, sound_image_is_known};
+pub use qg_commit as image_commit;
+pub use qg_commit::{check, other_trees};
+pub use qg_commit_trees as commit_trees;
 pub use qg_file_edits as file_edits;
-pub use qg_file_edits::{fs_tree, tree_refs};
-pub use qg_standing as standing;
-pub use qg_tree_commit as tree_commit;
-pub use qg_tree_commit::{check, image_commit, other_trees};
+pub use qg_file_edits::{fs_tree, tree_backrefs};
 pub use stepping::{
     commit_is_one_of_the_machine, file_command_copies, held_state_is_kept, numbers_are_the_trees,
     reach_is_the_trees, state_is_held,

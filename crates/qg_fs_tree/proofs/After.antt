@@ -21,10 +21,10 @@ use Rattle.qg_image.specs.State.{Placed}
 use Rattle.qg_image.specs.Owed.{owed_count}
 use Rattle.qg_image.specs.Reach.{extent_of}
 use Rattle.qg_image.proofs.Contained.{contains_cases, contains_here, contains_later}
-use Rattle.qg_image.specs.declared.tree.Tree.TheVariants.{Files}
+use Rattle.qg_image.specs.declared.tree.TreeKind.TheVariants.{Files}
 use Rattle.qg_image.specs.Walk.{root_expected, walk_failure}
 use Rattle.qg_walk.specs.Standing.{form_failure}
-use Rattle.qg_blocks.specs.Told.{fresh_at, told, told_or}
+use Rattle.qg_blocks.specs.NodesFound.{fresh_at, told, told_or}
 use Rattle.qg_space.specs.Holding.{has_slot, is_free_slot}
 use Rattle.qg_space.proofs.Members.{one_passes, passes_one}
 use Rattle.qg_tree_edits.specs.Land.{IsDrafted, Rests}
@@ -35,9 +35,9 @@ use Rattle.qg_tree_edits.proofs.BranchFrames.{reach-same}
 use Rattle.qg_tree_edits.proofs.Frames.{items-same, walk-same}
 use Rattle.qg_tree_edits.specs.Rooting.{IsReplaced}
 use Rattle.qg_tree_edits.proofs.Ways.{ways-some}
-use Rattle.qg_tree_refs.specs.Exchange.{times}
-use Rattle.qg_tree_refs.specs.Settled.{IsSettled}
-use Rattle.qg_tree_refs.proofs.Times.{times-nil}
+use Rattle.qg_tree_backrefs.specs.Exchange.{times}
+use Rattle.qg_tree_backrefs.specs.Settled.{IsSettled}
+use Rattle.qg_tree_backrefs.proofs.Times.{times-nil}
 use Rattle.qg_fs_tree.specs.declared.fs_tree.FsTree.{FsTree}
 use Rattle.qg_fs_tree.specs.Standing.{IsAtHome, IsBeside, IsElsewhere, IsKnownExtent, IsReached, IsReachedBy, Stands}
 use Rattle.qg_fs_tree.specs.Standing.{every_slot, extents_named, is_full_then, items_in, layout_in, name_of, name_told}
@@ -58,7 +58,7 @@ use Rattle.qg_fs_tree.proofs.Owes.{keyed_in, mark_in, owed_in}
 use Rattle.qg_fs_tree.proofs.Owings.{names_of}
 use Rattle.qg_fs_tree.proofs.Reached.{reached-some}
 use Rattle.qg_fs_tree.proofs.SlotSums.{over}
-use Rattle.qg_fs_tree.proofs.Told.{free-apart, free-unheld}
+use Rattle.qg_fs_tree.proofs.TrueToFixed.{free-apart, free-unheld}
 use Rattle.qg_fs_tree.proofs.Turned.{IsNewNode, StandsFor, no_way}
 
 -- each fresh node that the tree at hand reaches is its own

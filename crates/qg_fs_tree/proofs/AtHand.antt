@@ -21,7 +21,7 @@ use Rattle.qg_image.specs.State.{Layout, Placed}
 use Rattle.qg_image.specs.Owed.{owed_count}
 use Rattle.qg_image.specs.Reach.{extent_of}
 use Rattle.qg_image.proofs.Contained.{contains_cases, contains_here, contains_later}
-use Rattle.qg_image.specs.declared.tree.Tree.TheVariants.{Files}
+use Rattle.qg_image.specs.declared.tree.TreeKind.TheVariants.{Files}
 use Rattle.qg_image.specs.Walk.{is_owner}
 use Rattle.qg_space.proofs.Marks.{SlotsFit-is_served}
 use Rattle.qg_space.proofs.Members.{one_passes, passes_one}
@@ -31,7 +31,7 @@ use Rattle.qg_extents.specs.Table.{book_of}
 use Rattle.qg_tree_edits.specs.Tree.{Root, super_of}
 use Rattle.qg_tree_edits.specs.Editing.{IsEditable}
 use Rattle.qg_tree_edits.specs.Rooting.{IsRooted}
-use Rattle.qg_tree_refs.specs.declared.tree_refs.TreeRefs.{TreeRefs}
+use Rattle.qg_tree_backrefs.specs.declared.tree_refs.TreeRefs.{TreeRefs}
 use Rattle.qg_fs_tree.specs.declared.fs_tree.FsTree.{FsTree}
 use Rattle.qg_fs_tree.specs.Standing.{AreNumbered, CanTurn, IsBeside, IsKnownExtent, IsSubvolume, IsTurned, Stands}
 use Rattle.qg_fs_tree.specs.Standing.{every_slot, items_in, layout_in, name_told, names_elsewhere, names_times}

@@ -17,9 +17,9 @@ use Rattle.qg_super.specs.Places.{data_begin, is_run, is_slot}
 use Rattle.qg_image.specs.State.{Placed}
 use Rattle.qg_image.specs.Owed.{owed_by_node}
 use Rattle.qg_image.proofs.Contained.{contains_cases, contains_here, contains_later, none_contained}
-use Rattle.qg_image.specs.declared.tree.Tree.TheVariants.{Files}
+use Rattle.qg_image.specs.declared.tree.TreeKind.TheVariants.{Files}
 use Rattle.qg_reach.proofs.SlotRule.{slot_below}
-use Rattle.qg_blocks.specs.Told.{fresh_at, told, told_or}
+use Rattle.qg_blocks.specs.NodesFound.{fresh_at, told, told_or}
 use Rattle.qg_space.specs.Holding.{has_slot}
 use Rattle.qg_space.proofs.Members.{one_passes, passes_one}
 use Rattle.qg_tree_edits.specs.Land.{IsDrafted}
@@ -31,11 +31,11 @@ use Rattle.qg_tree_edits.specs.Counting.{committed_at}
 use Rattle.qg_tree_edits.specs.Rooting.{IsRooted}
 use Rattle.qg_tree_edits.proofs.Committed.{committed-is}
 use Rattle.qg_tree_edits.proofs.Ways.{ways-some}
-use Rattle.qg_tree_refs.specs.Exchange.{times}
-use Rattle.qg_tree_refs.specs.Following.{references_to}
-use Rattle.qg_tree_refs.proofs.Counted.{many, total}
-use Rattle.qg_tree_refs.proofs.Owings.{times-cons}
-use Rattle.qg_tree_refs.proofs.Times.{times-nil, times-own}
+use Rattle.qg_tree_backrefs.specs.Exchange.{times}
+use Rattle.qg_tree_backrefs.specs.Following.{references_to}
+use Rattle.qg_tree_backrefs.proofs.ReferenceTotals.{many, total}
+use Rattle.qg_tree_backrefs.proofs.Owings.{times-cons}
+use Rattle.qg_tree_backrefs.proofs.Times.{times-nil, times-own}
 use Rattle.qg_fs_tree.specs.declared.fs_tree.FsTree.{FsTree}
 use Rattle.qg_fs_tree.specs.Standing.{IsBeside, IsElsewhere, IsKnownExtent, IsReached, IsReachedBy, Stands, name_of}
 use Rattle.qg_fs_tree.specs.Standing.{names_elsewhere, nodes_of, trees_of, ways_in}

@@ -8,7 +8,7 @@ use Rattle.qg_node.specs.declared.node.Node.{Node}
 use Rattle.qg_node.specs.Nodes.{header_of}
 use Rattle.qg_image.specs.State.{Placed}
 use Rattle.qg_image.specs.Owed.{Owing}
-use Rattle.qg_cow.specs.Children.{way_to}
+use Rattle.qg_cow_refs.specs.Children.{way_to}
 use Rattle.qg_refs.specs.Book.{full_in}
 use Rattle.qg_extents.specs.Table.{book_of}
 use Rattle.qg_tree_edits.specs.Tree.{Root}

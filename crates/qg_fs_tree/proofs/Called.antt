@@ -9,28 +9,28 @@ use Rattle.qg_num.specs.declared.fault.BlockFault.TheVariants.{Image}
 use Rattle.qg_num.specs.declared.rule.Rule.TheVariants.{Refs}
 use Rattle.qg_node.specs.declared.item.Item.{Item}
 use Rattle.qg_super.specs.Places.{second_place}
-use Rattle.qg_image.specs.declared.tree.Tree.TheVariants.{Files}
+use Rattle.qg_image.specs.declared.tree.TreeKind.TheVariants.{Files}
 use Rattle.qg_image.specs.Walk.{is_owner}
 use Rattle.qg_super.specs.declared.sizes.Sizes.{Sizes}
 use Rattle.qg_blocks.specs.Stopping.{StopsForCause}
-use Rattle.qg_blocks.specs.Told.{BreaksNone}
+use Rattle.qg_blocks.specs.NodesFound.{BreaksNone}
 use Rattle.qg_blocks.proofs.Stopping.{misfit-refs, stops-misfit}
 use Rattle.qg_tree_edits.specs.Land.{IsDrafted, Rests}
 use Rattle.qg_tree_edits.specs.Tellings.{Telling}
 use Rattle.qg_tree_edits.proofs.Lands.{Rests-draft}
-use Rattle.qg_tree_edits.specs.GroundCalls.{LeavesBe}
+use Rattle.qg_tree_edits.specs.NodeAllocCalls.{LeavesBe}
 use Rattle.qg_extents.specs.Table.{IsTable}
 use Rattle.qg_items.specs.declared.extent.Reference.{Reference}
 use Rattle.qg_tree_edits.specs.Counting.{IsTreeTold}
 use Rattle.qg_tree_edits.specs.Rooting.{IsReplaced, StaysTree}
-use Rattle.qg_tree_refs.specs.Following.{Follows}
-use Rattle.qg_tree_refs.specs.Settled.{IsSettled}
+use Rattle.qg_tree_backrefs.specs.Following.{Follows}
+use Rattle.qg_tree_backrefs.specs.Settled.{IsSettled}
 use Rattle.qg_fs_tree.specs.declared.fs_tree.FsTree.{FsTree}
 use Rattle.qg_fs_tree.specs.Standing.{IsEditedTo, IsSubvolume, Stands, name_told, names_times}
 use Rattle.qg_fs_tree.proofs.Owned.{AreOwned-after, ComesOf}
 use Rattle.qg_fs_tree.proofs.Beside.{own_ways}
 use Rattle.qg_fs_tree.proofs.Edited.{IsEditedTo-told, IsToldOf, fits-after}
-use Rattle.qg_fs_tree.proofs.Told.{true-told}
+use Rattle.qg_fs_tree.proofs.TrueToFixed.{true-told}
 
 module _ (old new : FsTree) (history : History) (bytes : ℕ) (items left_items : List Item)
     (names : List (ℕ × Piece)) (tellings : List Telling)

@@ -12,7 +12,7 @@ use Rattle.qg_items.specs.declared.extent.Reference.{Reference}
 use Rattle.qg_super.specs.Places.{is_slot}
 use Rattle.qg_image.specs.State.{Placed}
 use Rattle.qg_image.specs.Owed.{owed_count}
-use Rattle.qg_image.specs.declared.tree.Tree.TheVariants.{Files}
+use Rattle.qg_image.specs.declared.tree.TreeKind.TheVariants.{Files}
 use Rattle.qg_image.specs.Walk.{root_expected}
 use Rattle.qg_space.proofs.Marks.{SlotsFit-is_served}
 use Rattle.qg_tree_edits.specs.Land.{IsDrafted}
@@ -25,16 +25,16 @@ use Rattle.qg_tree_edits.proofs.Under.{IsUnder}
 use Rattle.qg_tree_edits.specs.Rooting.{IsRooted}
 use Rattle.qg_tree_edits.proofs.PartBelow.{told-ascends}
 use Rattle.qg_tree_edits.proofs.Ways.{ways-some}
-use Rattle.qg_tree_refs.specs.Exchange.{times}
+use Rattle.qg_tree_backrefs.specs.Exchange.{times}
 use Rattle.qg_fs_tree.specs.declared.fs_tree.FsTree.{FsTree}
 use Rattle.qg_fs_tree.specs.Standing.{IsReached, IsReachedBy, layout_in, name_of, nodes_of, ways_in}
 use Rattle.qg_fs_tree.proofs.Beside.{foreign_of, mark_of, own_ways, roots_owed, slots_of}
-use Rattle.qg_tree_refs.proofs.Counted.{many}
+use Rattle.qg_tree_backrefs.proofs.ReferenceTotals.{many}
 use Rattle.qg_fs_tree.proofs.Identity.{branch-keyed, keyed_told, over-ways, ways-single}
 use Rattle.qg_fs_tree.proofs.Keyed.{keyed_ways}
 use Rattle.qg_fs_tree.proofs.Layouts.{owed-foreign, owed-is, owed_marked, owed_there}
 use Rattle.qg_fs_tree.proofs.Owes.{keyed_in, owed_in}
-use Rattle.qg_tree_refs.proofs.Owings.{many-cons}
+use Rattle.qg_tree_backrefs.proofs.Owings.{many-cons}
 use Rattle.qg_fs_tree.proofs.Owings.{named_by, names_of}
 use Rattle.qg_fs_tree.proofs.Places.{slot-once}
 use Rattle.qg_fs_tree.proofs.Reached.{reached-some}

@@ -10,7 +10,7 @@ use Rattle.qg_items.specs.declared.extent.Reference.{Reference}
 use Rattle.qg_super.specs.declared.sizes.Sizes.{Sizes}
 use Rattle.qg_super.specs.Places.{capacity, is_slot}
 use Rattle.qg_image.specs.State.{Placed}
-use Rattle.qg_image.specs.declared.tree.Tree.TheVariants.{Files}
+use Rattle.qg_image.specs.declared.tree.TreeKind.TheVariants.{Files}
 use Rattle.qg_space.specs.Holding.{has_slot, is_free_slot}
 use Rattle.qg_space.proofs.Free.{free_is_slot}
 use Rattle.qg_space.proofs.Marks.{SlotsFit-is_served}
@@ -19,12 +19,12 @@ use Rattle.qg_tree_edits.specs.Tellings.{Telling}
 use Rattle.qg_extents.specs.Table.{IsTable}
 use Rattle.qg_tree_edits.specs.Counting.{IsAsWas, IsBare, Turns, clean_at, copied_in, gains, made_in}
 use Rattle.qg_tree_edits.specs.Rooting.{IsReplaced}
-use Rattle.qg_tree_refs.specs.Following.{Follows}
-use Rattle.qg_tree_refs.specs.Settled.{IsSettled}
+use Rattle.qg_tree_backrefs.specs.Following.{Follows}
+use Rattle.qg_tree_backrefs.specs.Settled.{IsSettled}
 use Rattle.qg_fs_tree.specs.declared.fs_tree.FsTree.{FsTree}
-use Rattle.qg_tree_refs.specs.Heavier.{BookGetsHeavier, edit_bytes, telling_bytes}
-use Rattle.qg_tree_refs.proofs.Sums.{BookGetsHeavier-most}
-use Rattle.qg_tree_refs.proofs.Told.{BookGetsHeavier-followed}
+use Rattle.qg_tree_backrefs.specs.Heavier.{BookGetsHeavier, edit_bytes, telling_bytes}
+use Rattle.qg_tree_backrefs.proofs.Sums.{BookGetsHeavier-most}
+use Rattle.qg_tree_backrefs.proofs.RecordsFollowed.{BookGetsHeavier-followed}
 use Rattle.qg_fs_tree.specs.Standing.{IsEditedTo, IsReached, Stands, every_slot, made_slots, name_told, names_times}
 use Rattle.qg_fs_tree.specs.Standing.{own_slots}
 use Rattle.qg_fs_tree.proofs.After.{AreOwned, Stands-after, beside-kept, marks-kept}

@@ -14,7 +14,7 @@ use Rattle.qg_node.specs.declared.node.Node.{Node}
 use Rattle.qg_node.specs.Nodes.{header_of}
 use Rattle.qg_image.specs.State.{Placed}
 use Rattle.qg_image.specs.Owed.{Owing, owed_by_node}
-use Rattle.qg_cow.proofs.CopyLaws.{owed-shared}
+use Rattle.qg_cow_refs.proofs.CopyLaws.{owed-shared}
 use Rattle.qg_tree_edits.specs.Tellings.{Telling}
 use Rattle.qg_tree_edits.specs.Tellings.Telling.{Copied, Made, Left}
 use Rattle.qg_refs.specs.Book.{count_at, full_in, references_at, references_in, what_in}
@@ -22,15 +22,16 @@ use Rattle.qg_refs.specs.Counts.{greatest_count}
 use Rattle.qg_extents.specs.Table.{book_of}
 use Rattle.qg_tree_edits.specs.Counting.{IsBare, IsTimely, LeadsNone, Turns, gains, losses, one}
 use Rattle.qg_tree_edits.proofs.Ways.{one-here, one-other}
-use Rattle.qg_tree_refs.specs.declared.tree_refs.TreeRefs.{TreeRefs}
-use Rattle.qg_tree_refs.specs.Exchange.{CanExchange, Exchange, Exchanges, IsKnown, IsNew, times, turns_full, what_comes}
-use Rattle.qg_tree_refs.specs.Exchange.{ways_to}
-use Rattle.qg_tree_refs.specs.Following.{Follows, IsProper, KeepsLevel, Step, coming_of, exchange_of, is_of_level}
-use Rattle.qg_tree_refs.specs.Following.{references_to}
-use Rattle.qg_tree_refs.proofs.Times.{times-append, times-nil}
-use Rattle.qg_tree_refs.proofs.Counted.{many, total}
-use Rattle.qg_tree_refs.proofs.Owings.{known-alike, many-cons, shared-no_block, shared-no_data}
-use Rattle.qg_tree_refs.proofs.Single.{count-total, length-none, length-one}
+use Rattle.qg_tree_backrefs.specs.declared.tree_refs.TreeRefs.{TreeRefs}
+use Rattle.qg_tree_backrefs.specs.Exchange.{CanExchange, Exchange, Exchanges, IsKnown, IsNew, times, turns_full}
+use Rattle.qg_tree_backrefs.specs.Exchange.{what_comes}
+use Rattle.qg_tree_backrefs.specs.Exchange.{ways_to}
+use Rattle.qg_tree_backrefs.specs.Following.{Follows, IsProper, KeepsLevel, Step, coming_of, exchange_of, is_of_level}
+use Rattle.qg_tree_backrefs.specs.Following.{references_to}
+use Rattle.qg_tree_backrefs.proofs.Times.{times-append, times-nil}
+use Rattle.qg_tree_backrefs.proofs.ReferenceTotals.{many, total}
+use Rattle.qg_tree_backrefs.proofs.Owings.{known-alike, many-cons, shared-no_block, shared-no_data}
+use Rattle.qg_tree_backrefs.proofs.Single.{count-total, length-none, length-one}
 use Rattle.qg_fs_tree.proofs.Keyed.{keyed-less, keyed-moved, keyed-none, keyed-own, keyed-same, keyed_ways}
 use Rattle.qg_fs_tree.proofs.Owings.{keyed-no_child, names-no_block, names_of}
 use Rattle.qg_fs_tree.proofs.Owes.{in-alike, is_own, keyed-other, keyed_in, length-more, many-child, mark_in, owed-own}

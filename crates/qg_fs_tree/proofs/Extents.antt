@@ -17,10 +17,10 @@ use Rattle.qg_image.specs.Owed.{owed_by_node}
 use Rattle.qg_tree_edits.specs.Land.{IsDrafted}
 use Rattle.qg_refs.specs.Book.{count_at, references_at}
 use Rattle.qg_extents.specs.Table.{book_of}
-use Rattle.qg_image.specs.declared.tree.Tree.TheVariants.{Files}
+use Rattle.qg_image.specs.declared.tree.TreeKind.TheVariants.{Files}
 use Rattle.qg_tree_edits.specs.Tree.{Root, super_of}
 use Rattle.qg_tree_edits.proofs.BranchFrames.{reach-top}
-use Rattle.qg_tree_refs.proofs.Counted.{many, total}
+use Rattle.qg_tree_backrefs.proofs.ReferenceTotals.{many, total}
 use Rattle.qg_fs_tree.specs.declared.fs_tree.FsTree.{FsTree}
 use Rattle.qg_fs_tree.specs.Standing.{IsReachedBy, Stands, items_in, name_of, name_told, names_elsewhere, names_times}
 use Rattle.qg_fs_tree.specs.Standing.{nodes_of}

@@ -20,12 +20,12 @@ use Rattle.qg_super.specs.declared.superblock.Super.{Super}
 use Rattle.qg_super.specs.Places.{is_served, slot_at}
 use Rattle.qg_super.proofs.Served.{SizesFit-is_served}
 use Rattle.qg_image.specs.Record.{same_reference}
-use Rattle.qg_image.specs.declared.tree.Tree.{Tree}
+use Rattle.qg_image.specs.declared.tree.TreeKind.{TreeKind}
 use Rattle.qg_tree_edits.specs.Branch.{AreBranches, IsBranch}
 use Rattle.qg_tree_edits.specs.Tree.{Reaches}
 use Rattle.qg_tree_edits.specs.Counting.{pointers_there, ways}
-use Rattle.qg_tree_refs.proofs.Owings.{times-cons, times-few}
-use Rattle.qg_tree_refs.proofs.Times.{one_of, times-nil}
+use Rattle.qg_tree_backrefs.proofs.Owings.{times-cons, times-few}
+use Rattle.qg_tree_backrefs.proofs.Times.{one_of, times-nil}
 use Rattle.qg_fs_tree.specs.Standing.{every_slot, name_of, name_told, names_times}
 use Rattle.qg_fs_tree.proofs.Identity.{over-ways, under}
 use Rattle.qg_fs_tree.proofs.SlotSums.{IsOnce, over}
@@ -80,7 +80,7 @@ node_most nodesize (Leaf header items) is =
     omega (arith, fits, most)
 node_most nodesize (Inner header pointers) is = omega arith
 
-module _ (tree : Tree) (super : Super) (nodes : ℕ → Option Node) where
+module _ (tree : TreeKind) (super : Super) (nodes : ℕ → Option Node) where
   abbrev count_at : ℕ → ℕ
   count_at s = items_count (nodes s)
 

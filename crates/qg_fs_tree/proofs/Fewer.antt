@@ -6,8 +6,8 @@ use Rattle.qg_num.specs.declared.piece.Piece.{Piece}
 use Rattle.qg_items.specs.declared.extent.Reference.{Reference}
 use Rattle.qg_image.specs.State.{Placed}
 use Rattle.qg_image.specs.Owed.{owed_by_node}
-use Rattle.qg_tree_refs.specs.Exchange.{times}
-use Rattle.qg_tree_refs.proofs.Counted.{many}
+use Rattle.qg_tree_backrefs.specs.Exchange.{times}
+use Rattle.qg_tree_backrefs.proofs.ReferenceTotals.{many}
 use Rattle.qg_fs_tree.proofs.Owings.{names_of}
 use Rattle.qg_fs_tree.proofs.Turned.{AreFixed, Around, children_of}
 

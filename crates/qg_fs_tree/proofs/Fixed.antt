@@ -15,8 +15,8 @@ use Rattle.qg_super.specs.Places.{is_slot}
 use Rattle.qg_super.proofs.Served.{SizesFit-is_served}
 use Rattle.qg_image.specs.State.{Placed}
 use Rattle.qg_image.specs.Owed.{owed_by_node}
-use Rattle.qg_cow.specs.Children.{owner_of}
-use Rattle.qg_image.specs.declared.tree.Tree.TheVariants.{Files}
+use Rattle.qg_cow_refs.specs.Children.{owner_of}
+use Rattle.qg_image.specs.declared.tree.TreeKind.TheVariants.{Files}
 use Rattle.qg_space.specs.Holding.{has_slot}
 use Rattle.qg_tree_edits.specs.Land.{IsDrafted}
 use Rattle.qg_refs.specs.Book.{references_at}
@@ -29,9 +29,9 @@ use Rattle.qg_tree_edits.specs.Rooting.{IsRooted}
 use Rattle.qg_tree_edits.proofs.Committed.{committed-are}
 use Rattle.qg_tree_edits.proofs.Downward.{ways-closed}
 use Rattle.qg_tree_edits.proofs.Ways.{ways-some}
-use Rattle.qg_tree_refs.specs.Exchange.{times}
-use Rattle.qg_tree_refs.specs.Following.{references_to}
-use Rattle.qg_tree_refs.proofs.Counted.{many}
+use Rattle.qg_tree_backrefs.specs.Exchange.{times}
+use Rattle.qg_tree_backrefs.specs.Following.{references_to}
+use Rattle.qg_tree_backrefs.proofs.ReferenceTotals.{many}
 use Rattle.qg_fs_tree.specs.declared.fs_tree.FsTree.{FsTree}
 use Rattle.qg_fs_tree.specs.Standing.{AreNamed, IsElsewhere, IsReachedBy, Stands, items_in, name_of, name_told}
 use Rattle.qg_fs_tree.specs.Standing.{names_elsewhere, nodes_of}
@@ -327,7 +327,7 @@ module _ (fs : FsTree) (history : History) (items : List Item) (names : List (�
     single = single fs history items names stands drafted;
     placed = placed fs history items names stands drafted;
     marks = λ q some.
-        let node = own_node q some in
+        let node = cow_node q some in
         sym (ap mark_in (foreign-led fs history items names stands drafted q some)
         ∙ foreign-full (nodes_of fs history q) fs.tree.owner (mark_of fs q) node.0 node.1);
     within = λ q p is. is;
@@ -338,8 +338,8 @@ module _ (fs : FsTree) (history : History) (items : List Item) (names : List (�
         sym (parts.2 ∙ beside-kept fs history items names stands drafted q p.node none parts.0 parts.1);
     lasts = λ at lasts. refl;
   } where
-    own_node : (q : ℕ) → 0 < own_ways fs history q → (node : Node) × (nodes_of fs history q ≡ Some node)
-    own_node q some =
+    cow_node : (q : ℕ) → 0 < own_ways fs history q → (node : Node) × (nodes_of fs history q ≡ Some node)
+    cow_node q some =
         node-there fs history fs.tree items stands.rooted drafted q
         (reached fs history items names stands drafted q some)
 

@@ -14,7 +14,7 @@ use Rattle.qg_node.specs.declared.node.Node.TheVariants.{Leaf, Inner}
 use Rattle.qg_node.specs.Nodes.{header_of, items_bytes, used_bytes}
 use Rattle.qg_items.specs.declared.extent.Reference.{Reference}
 use Rattle.qg_super.specs.Places.{capacity}
-use Rattle.qg_blocks.specs.Told.{fresh_at, told}
+use Rattle.qg_blocks.specs.NodesFound.{fresh_at, told}
 use Rattle.qg_tree_edits.specs.Types.{Ground}
 use Rattle.qg_tree_edits.specs.Land.{IsDrafted}
 use Rattle.qg_tree_edits.specs.Tellings.{Telling}
@@ -23,13 +23,13 @@ use Rattle.qg_refs.specs.declared.kept.What.{What}
 use Rattle.qg_refs.specs.declared.kept.Kept.{Kept}
 use Rattle.qg_refs.specs.Book.{Adds, Drops, references_in}
 use Rattle.qg_extents.specs.Table.{IsTable, book_of}
-use Rattle.qg_tree_refs.specs.Weight.{extent_record_bytes, reference_bytes}
+use Rattle.qg_tree_backrefs.specs.Weight.{extent_record_bytes, reference_bytes}
 use Rattle.qg_tree_edits.specs.Counting.{IsAsWas, IsBare, clean_at, copied_in, made_in}
-use Rattle.qg_tree_refs.specs.declared.tree_refs.TreeRefs.{TreeRefs}
-use Rattle.qg_tree_refs.specs.Heavier.{BookGetsHeavier, GetsHeavier, name_bytes, name_new_bytes, node_bytes}
-use Rattle.qg_tree_refs.specs.Heavier.{telling_bytes}
-use Rattle.qg_tree_refs.proofs.Sums.{GetsHeavier-most}
-use Rattle.qg_tree_refs.proofs.Weighs.{GetsHeavier-added, GetsHeavier-dropped}
+use Rattle.qg_tree_backrefs.specs.declared.tree_refs.TreeRefs.{TreeRefs}
+use Rattle.qg_tree_backrefs.specs.Heavier.{BookGetsHeavier, GetsHeavier, name_bytes, name_new_bytes, node_bytes}
+use Rattle.qg_tree_backrefs.specs.Heavier.{telling_bytes}
+use Rattle.qg_tree_backrefs.proofs.Sums.{GetsHeavier-most}
+use Rattle.qg_tree_backrefs.proofs.Weighs.{GetsHeavier-added, GetsHeavier-dropped}
 use Rattle.qg_fs_tree.proofs.Sound.{told-formed}
 
 -- ---- what an edit tells

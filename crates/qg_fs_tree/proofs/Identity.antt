@@ -16,9 +16,9 @@ use Rattle.qg_node.specs.declared.node.Node.TheVariants.{Leaf, Inner}
 use Rattle.qg_node.specs.Nodes.{header_of, is_ascending, own_items, own_pointers}
 use Rattle.qg_items.specs.declared.extent.Reference.{Reference}
 use Rattle.qg_super.specs.declared.superblock.Super.{Super}
-use Rattle.qg_image.specs.declared.tree.Tree.{Tree}
+use Rattle.qg_image.specs.declared.tree.TreeKind.{TreeKind}
 use Rattle.qg_image.specs.Owed.{Owing}
-use Rattle.qg_cow.specs.Children.{keyed_children}
+use Rattle.qg_cow_refs.specs.Children.{keyed_children}
 use Rattle.qg_tree_edits.specs.Branch.{AreBranches, IsBranch, IsPointed}
 use Rattle.qg_tree_edits.specs.Tree.{Reaches}
 use Rattle.qg_tree_edits.proofs.BranchApart.{branches-apart}
@@ -28,8 +28,8 @@ use Rattle.qg_tree_edits.proofs.Branches.{branch-level, each-get}
 use Rattle.qg_tree_edits.specs.Counting.{one, pointers_there, ways, ways_each}
 use Rattle.qg_tree_edits.proofs.Ways.{one-here, one-other, sum-same, ways-inner, ways-leaf, ways-none, ways_each-cons}
 use Rattle.qg_tree_edits.proofs.Ways.{ways_each-none}
-use Rattle.qg_tree_refs.specs.Exchange.{times}
-use Rattle.qg_tree_refs.proofs.Times.{times-append, times-nil}
+use Rattle.qg_tree_backrefs.specs.Exchange.{times}
+use Rattle.qg_tree_backrefs.proofs.Times.{times-append, times-nil}
 use Rattle.qg_fs_tree.specs.Standing.{name_of, name_told}
 use Rattle.qg_fs_tree.proofs.Keyed.{keyed-none, keyed-plus, keyed-same, keyed_ways}
 use Rattle.qg_fs_tree.proofs.Owings.{named_by, pointing, times-keyed}
@@ -88,7 +88,7 @@ named_append owner xs ys at reference =
 
 -- ---- the identity
 
-module _ (tree : Tree) (super : Super) (nodes : ℕ → Option Node) (owner at : ℕ) (reference : Reference) where
+module _ (tree : TreeKind) (super : Super) (nodes : ℕ → Option Node) (owner at : ℕ) (reference : Reference) where
   -- what a node would owe
   abbrev owes : ℕ → ℕ
   owes s = times (keyed_told owner (nodes s)) at reference
@@ -154,7 +154,7 @@ module _ (tree : Tree) (super : Super) (nodes : ℕ → Option Node) (owner at :
 
 -- ---- one way at most
 
-module _ (tree : Tree) (super : Super) (nodes : ℕ → Option Node) where
+module _ (tree : TreeKind) (super : Super) (nodes : ℕ → Option Node) where
   -- of pointers at most one leads there
   each_single : (level : ℕ)
       → ((from : ℕ) (items : List Item) → IsBranch tree super nodes level from items → is_ascending (keys_of items)

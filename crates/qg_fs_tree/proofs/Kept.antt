@@ -5,7 +5,7 @@ use Rattle.qg_image.specs.declared.element.Element.{Element}
 use Rattle.qg_space.specs.Holding.{Holding, free_slots, is_free_slot}
 use Rattle.qg_tree_edits.specs.Types.{Ground}
 use Rattle.qg_tree_edits.specs.Land.{IsDrafted}
-use Rattle.qg_tree_refs.specs.declared.tree_refs.TreeRefs.{TreeRefs}
+use Rattle.qg_tree_backrefs.specs.declared.tree_refs.TreeRefs.{TreeRefs}
 use Rattle.qg_fs_tree.specs.declared.fs_tree.FsTree.{FsTree}
 use Rattle.qg_fs_tree.specs.Standing.{IsSubvolume}
 

@@ -6,12 +6,12 @@ use Rattle.std.proofs.lemmas.Bool.Decides.{eqb_tells}
 use Rattle.qg_items.specs.declared.extent.Reference.{Reference}
 use Rattle.qg_items.specs.declared.extent.Reference.TheVariants.{KeyedBlock, SharedBlock, KeyedData, SharedData}
 use Rattle.qg_image.specs.Record.{same_reference}
-use Rattle.qg_cow.specs.Children.{way_to}
+use Rattle.qg_cow_refs.specs.Children.{way_to}
 use Rattle.qg_tree_edits.specs.Counting.{one}
 use Rattle.qg_tree_edits.proofs.Ways.{one-here, one-other}
-use Rattle.qg_tree_refs.specs.Exchange.{times}
-use Rattle.qg_tree_refs.proofs.Times.{times_here, times_there}
-use Rattle.qg_tree_refs.proofs.Counted.{IsCounted, IsCounted-as, IsCounted-one}
+use Rattle.qg_tree_backrefs.specs.Exchange.{times}
+use Rattle.qg_tree_backrefs.proofs.Times.{times_here, times_there}
+use Rattle.qg_tree_backrefs.proofs.ReferenceTotals.{IsCounted, IsCounted-as, IsCounted-one}
 
 -- the references of a tree to a node, by how many ways lead to it: a keyed one for each
 abbrev pub keyed_ways : ℕ → (ℕ → ℕ) → ℕ → Reference → ℕ

@@ -16,19 +16,19 @@ use Rattle.qg_node.specs.declared.node.Node.{Node}
 use Rattle.qg_node.specs.Nodes.{header_of}
 use Rattle.qg_image.specs.State.{Layout, Placed}
 use Rattle.qg_image.specs.Owed.{Owing, owed, owed_by_node, owed_count}
-use Rattle.qg_cow.specs.Children.{keyed_children, way_to}
-use Rattle.qg_cow.proofs.CopyLaws.{owed-keyed}
+use Rattle.qg_cow_refs.specs.Children.{keyed_children, way_to}
+use Rattle.qg_cow_refs.proofs.CopyLaws.{owed-keyed}
 use Rattle.qg_tree_edits.specs.Tree.{Root}
 use Rattle.qg_tree_edits.specs.Counting.{one}
-use Rattle.qg_tree_refs.specs.Exchange.{times}
-use Rattle.qg_tree_refs.proofs.Times.{times-append, times-nil}
+use Rattle.qg_tree_backrefs.specs.Exchange.{times}
+use Rattle.qg_tree_backrefs.proofs.Times.{times-append, times-nil}
 use Rattle.qg_fs_tree.specs.declared.fs_tree.FsTree.{FsTree}
 use Rattle.qg_fs_tree.specs.Standing.{every_slot, layout_in, nodes_of, placed_at, roots_of}
 use Rattle.qg_fs_tree.proofs.Beside.{elsewhere, foreign_of, mark_of, own_ways, roots_owed, slots_of}
 use Rattle.qg_fs_tree.proofs.Identity.{keyed_told}
 use Rattle.qg_fs_tree.proofs.Keyed.{keyed_ways, times-way}
 use Rattle.qg_fs_tree.proofs.Owes.{keyed_in, owed_in}
-use Rattle.qg_tree_refs.proofs.Owings.{times-cons}
+use Rattle.qg_tree_backrefs.proofs.Owings.{times-cons}
 use Rattle.qg_fs_tree.proofs.SlotSums.{over, sums-plus, sums-same}
 use Rattle.qg_fs_tree.proofs.Turned.{no_way}
 

@@ -1,8 +1,8 @@
 pub use Rattle.qg_tree_edits.proofs.Downward
 pub use Rattle.qg_tree_edits.proofs.Heights
 pub use Rattle.qg_tree_edits.proofs.Ways
-pub use Rattle.qg_tree_refs.proofs.Owings as TreeRefsOwings
-pub use Rattle.qg_tree_refs.proofs.Times
+pub use Rattle.qg_tree_backrefs.proofs.Owings as TreeBackrefsOwings
+pub use Rattle.qg_tree_backrefs.proofs.Times
 pub mod SlotSums
 pub mod Keyed
 pub mod Owings
@@ -28,7 +28,7 @@ pub mod Own
 pub mod Taken
 pub mod Low
 pub mod Kept
-pub mod Told
+pub mod TrueToFixed
 pub mod Called
 pub mod Owes
 pub mod Lists

@@ -16,10 +16,10 @@ use Rattle.qg_node.specs.NodeText.{IsNodeSize}
 use Rattle.qg_super.specs.declared.superblock.Super.{Super}
 use Rattle.qg_super.specs.Places.{capacity}
 use Rattle.qg_image.specs.IsShaped.{is_shaped}
-use Rattle.qg_image.specs.declared.tree.Tree.{Tree}
-use Rattle.qg_image.specs.declared.tree.Tree.TheVariants.{Files}
+use Rattle.qg_image.specs.declared.tree.TreeKind.{TreeKind}
+use Rattle.qg_image.specs.declared.tree.TreeKind.TheVariants.{Files}
 use Rattle.qg_image.specs.Walk.{root_expected}
-use Rattle.qg_blocks.specs.Told.{told}
+use Rattle.qg_blocks.specs.NodesFound.{told}
 use Rattle.qg_tree_edits.specs.Types.{Ground}
 use Rattle.qg_tree_edits.specs.Land.{IsDrafted}
 use Rattle.qg_tree_edits.specs.Branch.{AreBranches, IsBranch, IsPointed}
@@ -48,7 +48,7 @@ unfolding heavy
 some_heavy nodesize zero = omega arith
 some_heavy nodesize (suc level) = let some = some_heavy nodesize level in omega (arith, some)
 
-module _ (tree : Tree) (super : Super) (nodes : ℕ → Option Node) (size : IsNodeSize super.nodesize) where
+module _ (tree : TreeKind) (super : Super) (nodes : ℕ → Option Node) (size : IsNodeSize super.nodesize) where
   HasBytes : ℕ → Type 0
   HasBytes level = (pointer : Pointer) (items : List Item) → IsPointed super nodes pointer
       → IsBranch tree super nodes level pointer.child items → heavy super.nodesize level ≤ 4 * items_bytes items
@@ -95,7 +95,7 @@ module _ (tree : Tree) (super : Super) (nodes : ℕ → Option Node) (size : IsN
       let some = some_heavy super.nodesize level in
       omega (arith, all, least, some)
 
-low_under : (tree : Tree) (root : Root) (land : Ground) (history : History) (items : List Item)
+low_under : (tree : TreeKind) (root : Root) (land : Ground) (history : History) (items : List Item)
     (height : ℕ) → IsDrafted land root.next
     → IsUnder tree (super_of root land.blocks.draft) (told land.blocks.draft history) height
     (root_expected (Some height) None) root.address items

@@ -18,7 +18,7 @@ use Rattle.qg_node.specs.Reading.{◌>>=◌, check, count_at, has_checksum, has_
 use Rattle.qg_node.specs.Reading.{leaf_at, node_read, pointers_at}
 use Rattle.qg_super.specs.declared.sizes.Sizes.{Sizes}
 use Rattle.qg_blocks.specs.Standing.{standing}
-use Rattle.qg_blocks.specs.Told.{fresh_at, told, told_or}
+use Rattle.qg_blocks.specs.NodesFound.{fresh_at, told, told_or}
 use Rattle.qg_tree_edits.specs.Types.{Ground}
 use Rattle.qg_tree_edits.specs.Land.{IsDrafted}
 use Rattle.qg_fs_tree.proofs.Formed.{check-ok}

@@ -31,12 +31,12 @@ use Rattle.qg_refs.specs.Book.{Adds, Book, Drops, count_at, references_at, refer
 use Rattle.qg_refs.specs.Counts.{IsRefList, count_of, greatest_count}
 use Rattle.qg_refs.proofs.RankOrder.{same_reference_is}
 use Rattle.qg_extents.specs.Table.{IsTable, book_of}
-use Rattle.qg_tree_refs.specs.Exchange.{times}
-use Rattle.qg_tree_refs.specs.Following.{references_to}
-use Rattle.qg_tree_refs.proofs.Counted.{many, total}
-use Rattle.qg_tree_refs.proofs.Owings.{many-cons, times-cons, times-few}
-use Rattle.qg_tree_refs.proofs.Single.{length-none, length-total}
-use Rattle.qg_tree_refs.proofs.Times.{one_of, times-own, times_here, times_there}
+use Rattle.qg_tree_backrefs.specs.Exchange.{times}
+use Rattle.qg_tree_backrefs.specs.Following.{references_to}
+use Rattle.qg_tree_backrefs.proofs.ReferenceTotals.{many, total}
+use Rattle.qg_tree_backrefs.proofs.Owings.{many-cons, times-cons, times-few}
+use Rattle.qg_tree_backrefs.proofs.Single.{length-none, length-total}
+use Rattle.qg_tree_backrefs.proofs.Times.{one_of, times-own, times_here, times_there}
 use Rattle.qg_fs_tree.specs.declared.fs_tree.FsTree.{FsTree}
 use Rattle.qg_fs_tree.specs.Standing.{AreNamed, IsKnownExtent, Stands, extents_named, name_of, name_told}
 use Rattle.qg_fs_tree.specs.Standing.{names_elsewhere, names_times}

@@ -21,22 +21,22 @@ use Rattle.qg_image.specs.State.{Placed}
 use Rattle.qg_image.specs.Record.{same_reference}
 use Rattle.qg_image.specs.Owed.{Owing, owed_by_node, owed_by_part, owed_to_child, reference_offset}
 use Rattle.qg_image.proofs.Contained.{contains_cases, contains_here, contains_later, none_contained}
-use Rattle.qg_cow.specs.Children.{keyed_children, way_to}
+use Rattle.qg_cow_refs.specs.Children.{keyed_children, way_to}
 use Rattle.qg_tree_edits.specs.Branch.{IsBranch}
 use Rattle.qg_tree_edits.specs.Tree.{Reaches, Root}
 use Rattle.qg_tree_edits.proofs.Branches.{branch-below}
 use Rattle.qg_refs.specs.Counts.{greatest_count}
 use Rattle.qg_super.specs.declared.superblock.Super.{Super}
-use Rattle.qg_image.specs.declared.tree.Tree.{Tree}
+use Rattle.qg_image.specs.declared.tree.TreeKind.{TreeKind}
 use Rattle.qg_image.specs.declared.part.FilePart.{FilePart}
 use Rattle.qg_image.specs.declared.part.FilePart.TheVariants.{Inode, PieceOf}
 use Rattle.qg_image.specs.ItemMeaning.{file_part}
 use Rattle.qg_tree_edits.specs.Counting.{one, ways}
 use Rattle.qg_tree_edits.proofs.Ways.{one-here, one-other, sum-some, ways-inner}
-use Rattle.qg_tree_refs.specs.Exchange.{those_at, times}
-use Rattle.qg_tree_refs.proofs.Counted.{many}
-use Rattle.qg_tree_refs.proofs.Owings.{many-alike, many-append, many-cons, times-cons}
-use Rattle.qg_tree_refs.proofs.Times.{one_of, times-append, times-nil}
+use Rattle.qg_tree_backrefs.specs.Exchange.{those_at, times}
+use Rattle.qg_tree_backrefs.proofs.ReferenceTotals.{many}
+use Rattle.qg_tree_backrefs.proofs.Owings.{many-alike, many-append, many-cons, times-cons}
+use Rattle.qg_tree_backrefs.proofs.Times.{one_of, times-append, times-nil}
 use Rattle.qg_fs_tree.specs.Standing.{name_of, name_told}
 use Rattle.qg_fs_tree.proofs.Keyed.{times-way}
 use Rattle.qg_fs_tree.proofs.Owes.{in-alike, is_own, items-have-not, node-parts, not-both, pointers-have-not}
@@ -107,7 +107,7 @@ pointing_ways nodes level (pointer ∷ pointers) q =
     let rest = pointing_ways nodes level pointers q in
     omega (arith, first, last, here, rest)
 
-module _ (tree : Tree) (super : Super) (nodes : ℕ → Option Node) where
+module _ (tree : TreeKind) (super : Super) (nodes : ℕ → Option Node) where
   top_same : (o : Option Node) (node other : Node) → o ≡ Some node → o ≡ Some other → node ≡ other
   top_same o node other is there = let e : Some node ≡ Some other = sym is ∙ there in cc
 

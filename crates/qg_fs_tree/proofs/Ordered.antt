@@ -12,13 +12,13 @@ use Rattle.qg_items.specs.declared.extent.Reference.{Reference}
 use Rattle.qg_image.specs.Owed.{Owing}
 use Rattle.qg_image.specs.Reach.{extent_of}
 use Rattle.qg_extents.specs.Table.{book_of}
-use Rattle.qg_tree_refs.specs.Exchange.{times}
-use Rattle.qg_tree_refs.proofs.Times.{times-nil}
+use Rattle.qg_tree_backrefs.specs.Exchange.{times}
+use Rattle.qg_tree_backrefs.proofs.Times.{times-nil}
 use Rattle.qg_fs_tree.specs.Standing.{IsKnownExtent, name_of, names_elsewhere, names_times}
 use Rattle.qg_fs_tree.proofs.Before.{among_of, index_among}
 use Rattle.qg_fs_tree.proofs.Lists.{from-mapped, has-mapped}
 use Rattle.qg_fs_tree.specs.Laws.{StandsInAnotherOrder}
-use Rattle.qg_tree_refs.proofs.Owings.{times-cons}
+use Rattle.qg_tree_backrefs.proofs.Owings.{times-cons}
 
 -- how often a list has a reference, one by one
 times_each : (xs : List Owing) (at : ℕ) (reference : Reference) → times xs at reference

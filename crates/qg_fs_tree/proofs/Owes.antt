@@ -20,18 +20,18 @@ use Rattle.qg_node.specs.declared.pointer.Pointer.{Pointer}
 use Rattle.qg_node.specs.Nodes.{header_of, own_items, own_pointers}
 use Rattle.qg_image.specs.State.{Placed}
 use Rattle.qg_image.specs.Owed.{Owing, owed_by_node, owed_by_part, owed_to_child, reference_offset}
-use Rattle.qg_cow.specs.Children.{keyed_children, owner_of, shared_children}
-use Rattle.qg_cow.proofs.CopyLaws.{owed-keyed, owed-shared}
+use Rattle.qg_cow_refs.specs.Children.{keyed_children, owner_of, shared_children}
+use Rattle.qg_cow_refs.proofs.CopyLaws.{owed-keyed, owed-shared}
 use Rattle.qg_image.specs.Record.{same_reference}
 use Rattle.qg_refs.specs.declared.counted.Counted.{Counted}
 use Rattle.qg_refs.specs.Counts.{count_of, counted}
 use Rattle.qg_refs.proofs.Counting.{count-cons, count-nil}
 use Rattle.qg_refs.proofs.RankOrder.{same_itself}
-use Rattle.qg_tree_refs.specs.Exchange.{times}
-use Rattle.qg_tree_refs.proofs.Counted.{many, total, total-cons}
-use Rattle.qg_tree_refs.proofs.Owings.{HaveNot, addresses, children-alike, have-not-more, many-append, many-cons}
-use Rattle.qg_tree_refs.proofs.Owings.{shared-no_block, shared-no_data}
-use Rattle.qg_tree_refs.proofs.Times.{one_of, times-append, times-nil}
+use Rattle.qg_tree_backrefs.specs.Exchange.{times}
+use Rattle.qg_tree_backrefs.proofs.ReferenceTotals.{many, total, total-cons}
+use Rattle.qg_tree_backrefs.proofs.Owings.{HaveNot, addresses, children-alike, have-not-more, many-append, many-cons}
+use Rattle.qg_tree_backrefs.proofs.Owings.{shared-no_block, shared-no_data}
+use Rattle.qg_tree_backrefs.proofs.Times.{one_of, times-append, times-nil}
 use Rattle.qg_fs_tree.specs.Standing.{name_of, name_told}
 use Rattle.qg_fs_tree.proofs.Keyed.{keyed_ways}
 use Rattle.qg_fs_tree.proofs.Owings.{names-no_block, names-no_shared_block, names-no_shared_data, names_of, pointing}

@@ -16,13 +16,13 @@ use Rattle.qg_image.specs.declared.part.FilePart.{FilePart}
 use Rattle.qg_image.specs.declared.part.FilePart.TheVariants.{Inode, PieceOf}
 use Rattle.qg_image.specs.ItemMeaning.{file_part}
 use Rattle.qg_image.specs.Owed.{Owing, owed_by_part}
-use Rattle.qg_cow.specs.Children.{keyed_children, way_to}
+use Rattle.qg_cow_refs.specs.Children.{keyed_children, way_to}
 use Rattle.qg_tree_edits.specs.Counting.{one}
-use Rattle.qg_tree_refs.specs.Exchange.{times}
-use Rattle.qg_tree_refs.proofs.Keyed.{keyed-under}
-use Rattle.qg_tree_refs.proofs.Times.{times-append, times-nil}
+use Rattle.qg_tree_backrefs.specs.Exchange.{times}
+use Rattle.qg_tree_backrefs.proofs.Keyed.{keyed-under}
+use Rattle.qg_tree_backrefs.proofs.Times.{times-append, times-nil}
 use Rattle.qg_fs_tree.specs.Standing.{name_of, name_told, piece_in}
-use Rattle.qg_tree_refs.proofs.Owings.{have-not-more, times-cons}
+use Rattle.qg_tree_backrefs.proofs.Owings.{have-not-more, times-cons}
 use Rattle.qg_fs_tree.proofs.Keyed.{keyed_ways, keyed-none, keyed-plus, keyed-same, times-way}
 use Rattle.qg_tree_edits.proofs.Ways.{one-other}
 

@@ -6,7 +6,7 @@ use Rattle.qg_device.specs.History.{History}
 use Rattle.qg_num.specs.declared.piece.Piece.{Piece}
 use Rattle.qg_node.specs.declared.item.Item.{Item}
 use Rattle.qg_super.specs.declared.sizes.Sizes.{Sizes}
-use Rattle.qg_blocks.specs.Told.{told}
+use Rattle.qg_blocks.specs.NodesFound.{told}
 use Rattle.qg_space.specs.Holding.{Holding, has_slot}
 use Rattle.qg_space.proofs.Marks.{SlotsFit-is_served}
 use Rattle.qg_tree_edits.specs.Types.{Ground}

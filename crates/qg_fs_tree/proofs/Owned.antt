@@ -9,16 +9,16 @@ use Rattle.qg_node.specs.declared.item.Item.{Item}
 use Rattle.qg_node.specs.declared.node.Node.{Node}
 use Rattle.qg_node.specs.Nodes.{header_of}
 use Rattle.qg_items.specs.declared.extent.Reference.{Reference}
-use Rattle.qg_image.specs.declared.tree.Tree.TheVariants.{Files}
-use Rattle.qg_blocks.specs.Told.{fresh_at}
+use Rattle.qg_image.specs.declared.tree.TreeKind.TheVariants.{Files}
+use Rattle.qg_blocks.specs.NodesFound.{fresh_at}
 use Rattle.qg_tree_edits.specs.Land.{IsDrafted}
 use Rattle.qg_tree_edits.specs.Rooting.{IsReplaced}
 use Rattle.qg_fs_tree.specs.declared.fs_tree.FsTree.{FsTree}
 use Rattle.qg_fs_tree.specs.Standing.{Stands, name_of, name_told, names_times}
-use Rattle.qg_tree_refs.proofs.Owings.{times-cons}
+use Rattle.qg_tree_backrefs.proofs.Owings.{times-cons}
 use Rattle.qg_fs_tree.proofs.After.{AreOwned}
 use Rattle.qg_fs_tree.proofs.Before.{first_tree}
-use Rattle.qg_fs_tree.proofs.Told.{free-untaken}
+use Rattle.qg_fs_tree.proofs.TrueToFixed.{free-untaken}
 
 -- each fresh node is of an owner, or of that of the fresh node that lay there before
 abbrev pub ComesOf : FsTree → FsTree → Type 0

@@ -19,9 +19,9 @@ use Rattle.qg_super.specs.Places.{is_slot}
 use Rattle.qg_image.specs.declared.element.Element.{Element}
 use Rattle.qg_image.specs.Owed.{owed_count}
 use Rattle.qg_image.specs.Reach.{extent_of}
-use Rattle.qg_image.specs.declared.tree.Tree.TheVariants.{Files}
+use Rattle.qg_image.specs.declared.tree.TreeKind.TheVariants.{Files}
 use Rattle.qg_blocks.specs.Standing.{has_slot, standing}
-use Rattle.qg_blocks.specs.Told.{fresh_at, told, told_or}
+use Rattle.qg_blocks.specs.NodesFound.{fresh_at, told, told_or}
 use Rattle.qg_space.specs.Holding.{Holding, is_free_slot}
 use Rattle.qg_space.specs.Holding.{has_slot as has_taken}
 use Rattle.qg_tree_edits.specs.Types.{Ground}
@@ -33,9 +33,9 @@ use Rattle.qg_extents.specs.Table.{book_of}
 use Rattle.qg_tree_edits.specs.Tree.{Reaches, Root}
 use Rattle.qg_tree_edits.specs.Counting.{one, ways}
 use Rattle.qg_tree_edits.specs.Rooting.{IsRooted}
-use Rattle.qg_tree_refs.specs.declared.tree_refs.TreeRefs.{TreeRefs}
-use Rattle.qg_tree_refs.specs.Following.{references_to}
-use Rattle.qg_tree_refs.specs.Settled.{IsSettled}
+use Rattle.qg_tree_backrefs.specs.declared.tree_refs.TreeRefs.{TreeRefs}
+use Rattle.qg_tree_backrefs.specs.Following.{references_to}
+use Rattle.qg_tree_backrefs.specs.Settled.{IsSettled}
 use Rattle.qg_fs_tree.specs.declared.fs_tree.FsTree.{FsTree}
 use Rattle.qg_fs_tree.specs.Standing.{IsBeside, IsKnownExtent, IsReachedBy, Stands, every_slot, items_in, layout_in}
 use Rattle.qg_fs_tree.specs.Standing.{name_told, names_elsewhere, names_times, nodes_of, trees_of, ways_in}
@@ -46,7 +46,7 @@ use Rattle.qg_fs_tree.proofs.Keyed.{keyed_ways}
 use Rattle.qg_fs_tree.proofs.SlotSums.{over, over-alike, over-same}
 use Rattle.qg_fs_tree.proofs.After.{flat-same}
 use Rattle.qg_fs_tree.proofs.Turned.{no_way}
-use Rattle.qg_tree_refs.specs.Exchange.{times}
+use Rattle.qg_tree_backrefs.specs.Exchange.{times}
 
 -- ---- nothing is told but at slots
 

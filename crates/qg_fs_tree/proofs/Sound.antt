@@ -13,7 +13,7 @@ use Rattle.qg_node.specs.NodeText.{IsNode}
 use Rattle.qg_node.specs.Reading.{node_read}
 use Rattle.qg_super.specs.declared.sizes.Sizes.{Sizes}
 use Rattle.qg_blocks.specs.Standing.{has_slot, ruled, standing}
-use Rattle.qg_blocks.specs.Told.{fresh_at, told, told_or}
+use Rattle.qg_blocks.specs.NodesFound.{fresh_at, told, told_or}
 use Rattle.qg_blocks.proofs.Stands.{HasSlot-has_slot}
 use Rattle.qg_tree_edits.specs.Types.{Ground}
 use Rattle.qg_tree_edits.specs.Land.{IsDrafted}

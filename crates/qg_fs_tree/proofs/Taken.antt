@@ -12,9 +12,9 @@ use Rattle.qg_space.specs.Holding.{has_slot}
 use Rattle.qg_tree_edits.specs.Land.{IsDrafted}
 use Rattle.qg_refs.specs.Book.{references_at}
 use Rattle.qg_extents.specs.Table.{IsTable, book_of}
-use Rattle.qg_tree_refs.specs.declared.tree_refs.TreeRefs.{TreeRefs}
-use Rattle.qg_tree_refs.specs.Following.{references_to}
-use Rattle.qg_tree_refs.proofs.Counted.{total}
+use Rattle.qg_tree_backrefs.specs.declared.tree_refs.TreeRefs.{TreeRefs}
+use Rattle.qg_tree_backrefs.specs.Following.{references_to}
+use Rattle.qg_tree_backrefs.proofs.ReferenceTotals.{total}
 use Rattle.qg_fs_tree.specs.declared.fs_tree.FsTree.{FsTree}
 use Rattle.qg_fs_tree.specs.Standing.{Stands, nodes_of}
 use Rattle.qg_fs_tree.proofs.Before.{beside-there, elsewhere-parts, some_length}

@@ -13,14 +13,14 @@ use Rattle.qg_node.specs.declared.node.Node.{Node}
 use Rattle.qg_node.specs.Nodes.{header_of, own_items, own_pointers}
 use Rattle.qg_image.specs.State.{Placed}
 use Rattle.qg_image.specs.Owed.{Owing, owed_by_node}
-use Rattle.qg_cow.specs.declared.cases.Edits.{Edits}
-use Rattle.qg_cow.specs.declared.cases.Edits.TheVariants.{ShareOld, AddKeyed, TakeOver, TurnKeyed}
-use Rattle.qg_cow.specs.declared.cases.Leaving.{Leaving}
-use Rattle.qg_cow.specs.declared.cases.Leaving.TheVariants.{Goes}
-use Rattle.qg_cow.specs.Children.{keyed_children, owner_of, shared_children, way_to}
-use Rattle.qg_cow.specs.Copying.{children_gain, copy_case, copy_losses}
-use Rattle.qg_cow.specs.Left.{leaving_gains, leaving_losses, left_case}
-use Rattle.qg_cow.proofs.CopyLaws.{owed-shared}
+use Rattle.qg_cow_refs.specs.declared.cases.Edits.{Edits}
+use Rattle.qg_cow_refs.specs.declared.cases.Edits.TheVariants.{ShareOld, AddKeyed, TakeOver, TurnKeyed}
+use Rattle.qg_cow_refs.specs.declared.cases.Leaving.{Leaving}
+use Rattle.qg_cow_refs.specs.declared.cases.Leaving.TheVariants.{Goes}
+use Rattle.qg_cow_refs.specs.Children.{keyed_children, owner_of, shared_children, way_to}
+use Rattle.qg_cow_refs.specs.Copying.{children_gain, copy_case, copy_losses}
+use Rattle.qg_cow_refs.specs.Left.{leaving_gains, leaving_losses, left_case}
+use Rattle.qg_cow_refs.proofs.CopyLaws.{owed-shared}
 use Rattle.qg_tree_edits.specs.Tellings.{Telling}
 use Rattle.qg_tree_edits.specs.Tellings.Telling.{Copied, Made, Left}
 use Rattle.qg_refs.specs.declared.kept.What.{What}
@@ -30,14 +30,16 @@ use Rattle.qg_refs.specs.Counts.{greatest_count}
 use Rattle.qg_extents.specs.Table.{book_of}
 use Rattle.qg_tree_edits.specs.Counting.{IsBare, IsTimely, LeadsNone, gains, losses, one}
 use Rattle.qg_tree_edits.proofs.Ways.{one-here, one-other}
-use Rattle.qg_tree_refs.specs.declared.tree_refs.TreeRefs.{TreeRefs}
-use Rattle.qg_tree_refs.specs.Exchange.{Exchange, times, what_comes, ways_to}
-use Rattle.qg_tree_refs.specs.Following.{coming_of, copying_in, exchange_of, full_by_copy, full_by_leaving, leaving_in}
-use Rattle.qg_tree_refs.specs.Following.{placed_by, references_to}
-use Rattle.qg_tree_refs.proofs.Times.{times-nil}
-use Rattle.qg_tree_refs.proofs.Counted.{IsCounted, IsCounted-list, IsCounted-over, IsCounted-plus, IsCounted-same}
-use Rattle.qg_tree_refs.proofs.Counted.{IsCounted-sum, IsCounted-times, many, total}
-use Rattle.qg_tree_refs.proofs.Owings.{many-alike}
+use Rattle.qg_tree_backrefs.specs.declared.tree_refs.TreeRefs.{TreeRefs}
+use Rattle.qg_tree_backrefs.specs.Exchange.{Exchange, times, what_comes, ways_to}
+use Rattle.qg_tree_backrefs.specs.Following.{coming_of, copying_in, exchange_of, full_by_copy, full_by_leaving}
+use Rattle.qg_tree_backrefs.specs.Following.{leaving_in}
+use Rattle.qg_tree_backrefs.specs.Following.{placed_by, references_to}
+use Rattle.qg_tree_backrefs.proofs.Times.{times-nil}
+use Rattle.qg_tree_backrefs.proofs.ReferenceTotals.{IsCounted, IsCounted-list, IsCounted-over, IsCounted-plus}
+use Rattle.qg_tree_backrefs.proofs.ReferenceTotals.{IsCounted-same}
+use Rattle.qg_tree_backrefs.proofs.ReferenceTotals.{IsCounted-sum, IsCounted-times, many, total}
+use Rattle.qg_tree_backrefs.proofs.Owings.{many-alike}
 use Rattle.qg_fs_tree.proofs.Keyed.{IsCounted-keyed, keyed-most, keyed-none, keyed_ways, times-way}
 use Rattle.qg_fs_tree.proofs.Owings.{names-no_block, names_of}
 use Rattle.qg_fs_tree.proofs.Owes.{IsForeign, in-alike, is_own, keyed-other, keyed_in, mark_in, names-other, owed-own}

@@ -26,9 +26,9 @@ use Rattle.qg_image.specs.declared.element.Element.{Element}
 use Rattle.qg_image.specs.State.{Layout, Placed}
 use Rattle.qg_image.specs.Owed.{Owing, owed_count, reference_offset}
 use Rattle.qg_image.specs.Reach.{extent_of}
-use Rattle.qg_image.specs.declared.tree.Tree.TheVariants.{Files}
+use Rattle.qg_image.specs.declared.tree.TreeKind.TheVariants.{Files}
 use Rattle.qg_image.specs.Walk.{is_owner}
-use Rattle.qg_blocks.specs.Told.{fresh_at, told}
+use Rattle.qg_blocks.specs.NodesFound.{fresh_at, told}
 use Rattle.qg_space.specs.Holding.{Holding, has_slot, is_free_slot}
 use Rattle.qg_refs.specs.Book.{Book, count_at, full_in, what_in}
 use Rattle.qg_extents.specs.Table.{book_of}
@@ -36,9 +36,9 @@ use Rattle.qg_tree_edits.specs.Tree.{Reaches, Root}
 use Rattle.qg_tree_edits.specs.Counting.{ways}
 use Rattle.qg_tree_edits.specs.Editing.{CanMake, IsEditable}
 use Rattle.qg_tree_edits.specs.Rooting.{IsRooted}
-use Rattle.qg_tree_refs.specs.Exchange.{times}
-use Rattle.qg_tree_refs.specs.Settled.{IsSettled}
-use Rattle.qg_tree_refs.specs.Heavier.{BookGetsHeavier, edit_bytes}
+use Rattle.qg_tree_backrefs.specs.Exchange.{times}
+use Rattle.qg_tree_backrefs.specs.Settled.{IsSettled}
+use Rattle.qg_tree_backrefs.specs.Heavier.{BookGetsHeavier, edit_bytes}
 use Rattle.qg_fs_tree.specs.declared.fs_tree.FsTree.{FsTree}
 
 -- ---- over any disk

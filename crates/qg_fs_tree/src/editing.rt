@@ -5,10 +5,10 @@ ghost use Rattle.qg_device.specs.History.{Event, Recorded};
 ghost use Rattle.qg_num.specs.declared.piece.Piece.{Piece as PieceValue};
 ghost use Rattle.qg_node.specs.declared.item.Item.{Item as ItemValue};
 ghost use Rattle.qg_blocks.specs.Stopping.{StopsForCause};
-ghost use Rattle.qg_blocks.specs.Told.{BreaksNone};
+ghost use Rattle.qg_blocks.specs.NodesFound.{BreaksNone};
 ghost use Rattle.qg_space.specs.Holding.{free_slots};
 ghost use Rattle.qg_tree_edits.specs.Edits.{has_key, with_item, without_key};
-ghost use Rattle.qg_tree_edits.specs.GroundCalls.{LeavesBe};
+ghost use Rattle.qg_tree_edits.specs.NodeAllocCalls.{LeavesBe};
 ghost use Rattle.qg_tree_edits.specs.Rooting.{Grows};
 ghost use Rattle.qg_fs_tree.specs.Standing.{AreNamed, IsEditedTo, IsSubvolume, Stands};
 
@@ -17,8 +17,8 @@ use qg_disk::Disk;
 use qg_image::FilePart;
 use qg_node::Body;
 use qg_num::{BlockFault, Key, Steps};
+use qg_tree_backrefs::TreeRefs;
 use qg_tree_edits::{insert, remove, replace};
-use qg_tree_refs::TreeRefs;
 use std::alloc::Global;
 use std::sync::ledger::Ledger;
 

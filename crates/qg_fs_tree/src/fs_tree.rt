@@ -2,13 +2,13 @@
 ghost use Rattle.std.specs.Prelude.{◌≡◌, ◌+◌, ◌*◌, ◌<◌, ◌≤◌, Err, IsOk, MatchOption, OnOk};
 ghost use Rattle.qg_num.specs.declared.fault.BlockFault.TheVariants.{Image};
 ghost use Rattle.qg_num.specs.declared.rule.Rule.TheVariants.{Refs};
-ghost use Rattle.qg_blocks.specs.Told.{BreaksAt};
+ghost use Rattle.qg_blocks.specs.NodesFound.{BreaksAt};
 ghost use Rattle.qg_space.specs.Holding.{free_slots};
 
 use qg_num::{BlockFault, Rule};
-use qg_tree_edits::descent::Tree;
-use qg_tree_edits::ground::Ground;
-use qg_tree_refs::TreeRefs;
+use qg_tree_backrefs::TreeRefs;
+use qg_tree_edits::node_alloc::Ground;
+use qg_tree_edits::tree_read::Tree;
 
 /// The trees of an image's subvolumes, one of them at hand, with all that edits of it change (on-disk format, "B-tree"
 /// and "backreferences"): the nodes and the space that all lie in, and the references that they owe.

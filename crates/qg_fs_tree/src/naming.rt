@@ -9,11 +9,11 @@ ghost use Rattle.qg_num.specs.declared.rule.Rule.TheVariants.{Refs};
 ghost use Rattle.qg_node.specs.declared.item.Item.{Item as ItemValue};
 ghost use Rattle.qg_super.specs.Places.{sector};
 ghost use Rattle.qg_image.specs.Reach.{extent_of};
-ghost use Rattle.qg_blocks.specs.Told.{BreaksNone};
+ghost use Rattle.qg_blocks.specs.NodesFound.{BreaksNone};
 ghost use Rattle.qg_space.specs.Holding.{free_slots, has_run, is_free_run};
 ghost use Rattle.qg_refs.specs.Book.{full_in};
 ghost use Rattle.qg_extents.specs.Table.{book_of};
-ghost use Rattle.qg_tree_refs.specs.Heavier.{BookGetsHeavier, name_bytes, name_new_bytes};
+ghost use Rattle.qg_tree_backrefs.specs.Heavier.{BookGetsHeavier, name_bytes, name_new_bytes};
 ghost use Rattle.qg_fs_tree.specs.Standing.{IsMisfitAt, IsSubvolume, KeepsTree, Stands, extents_named, name_of};
 ghost use Rattle.qg_fs_tree.specs.Standing.{name_told, names_times};
 

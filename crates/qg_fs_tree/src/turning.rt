@@ -11,7 +11,7 @@ ghost use Rattle.qg_fs_tree.specs.Standing.{name_told, trees_of};
 
 use crate::FsTree;
 use qg_num::RootId;
-use qg_tree_edits::descent::Tree;
+use qg_tree_edits::tree_read::Tree;
 use std::mem;
 
 /// The place of the tree of a number; none exactly where there is none.

@@ -18,7 +18,7 @@ use Rattle.qg_image.specs.Reach.{pieces_of, reach_of_root, reach}
 use Rattle.qg_image.specs.Members.{leads, is_below, members}
 use Rattle.qg_image.specs.Counts.{reach_of_group, is_reached_outside, referenced, exclusive}
 use Rattle.qg_image.specs.declared.failure.Failure.TheVariants.{Broken, Differs}
-use Rattle.qg_image.specs.declared.tree.Tree.TheVariants.{Files}
+use Rattle.qg_image.specs.declared.tree.TreeKind.TheVariants.{Files}
 use Rattle.qg_image.specs.Walk.{root_expected, node_failure, way_failure}
 use Rattle.qg_image.specs.Failure.{unless}
 use Rattle.qg_image.specs.ImageState.{is_full_record, placed}

@@ -15,7 +15,7 @@ use Rattle.qg_image.specs.IsShaped.{is_shaped}
 use Rattle.qg_image.specs.ItemMeaning.{extent_part, is_subvolume_number}
 use Rattle.qg_image.specs.declared.failure.Failure.{Failure}
 use Rattle.qg_image.specs.declared.failure.Failure.TheVariants.{Broken}
-use Rattle.qg_image.specs.declared.tree.Tree.TheVariants.{Extents, Files}
+use Rattle.qg_image.specs.declared.tree.TreeKind.TheVariants.{Extents, Files}
 use Rattle.qg_image.specs.declared.expected.Expected.{Expected}
 use Rattle.qg_image.specs.Walk.{root_expected, way_failure, node_failure, is_item_of, walk_failure, deepest}
 use Rattle.qg_image.specs.ItemsUnder.{is_way, items_under, nodes_under}

@@ -23,8 +23,8 @@ use Rattle.qg_image.specs.declared.part.QuotaPart.TheVariants.{Status, Info, Lim
 use Rattle.qg_image.specs.ItemMeaning.{is_subvolume_number, root_part, extent_part, quota_part}
 use Rattle.qg_image.specs.declared.file.File.{File}
 use Rattle.qg_image.specs.declared.failure.Failure.{Failure}
-use Rattle.qg_image.specs.declared.tree.Tree.{Tree}
-use Rattle.qg_image.specs.declared.tree.Tree.TheVariants.{Roots, Extents, Quotas, Files}
+use Rattle.qg_image.specs.declared.tree.TreeKind.{TreeKind}
+use Rattle.qg_image.specs.declared.tree.TreeKind.TheVariants.{Roots, Extents, Quotas, Files}
 use Rattle.qg_image.specs.declared.expected.Expected.{Expected}
 use Rattle.qg_image.specs.Walk.{root_expected, root_told, node_found}
 use Rattle.qg_image.specs.ItemsUnder.{items_under, nodes_under}
@@ -55,12 +55,12 @@ level_in super image address = level_told (node_found super image address) where
   level_told (Ok node) = (header_of node).level
 
 -- the items of a tree, by what is expected of its root and the root's address
-unfoldable pub tree_items : Tree → Super → List ℕ → Expected → ℕ → List Item
+unfoldable pub tree_items : TreeKind → Super → List ℕ → Expected → ℕ → List Item
 tree_items tree super image expected root =
     unwrap_or (items_under tree super (node_found super image) (level_in super image root) expected root) []
 
 -- the nodes of a tree, by the same
-unfoldable pub tree_nodes : Tree → Super → List ℕ → Expected → ℕ → List Node
+unfoldable pub tree_nodes : TreeKind → Super → List ℕ → Expected → ℕ → List Node
 tree_nodes tree super image expected root =
     unwrap_or (nodes_under tree super (node_found super image) (level_in super image root) expected root) []
 
@@ -81,11 +81,11 @@ abbrev pub subvolume_roots : List (ℕ × RootItem) → List (ℕ × RootItem)
 subvolume_roots roots = filter (λ entry. is_subvolume_number entry.0) roots
 
 -- the items of a tree by its ROOT_ITEM
-abbrev pub items_of_root : Tree → Super → List ℕ → RootItem → List Item
+abbrev pub items_of_root : TreeKind → Super → List ℕ → RootItem → List Item
 items_of_root tree super image root = tree_items tree super image (root_told root) root.bytenr
 
 -- the nodes of a tree by its ROOT_ITEM
-abbrev pub nodes_of_root : Tree → Super → List ℕ → RootItem → List Node
+abbrev pub nodes_of_root : TreeKind → Super → List ℕ → RootItem → List Node
 nodes_of_root tree super image root = tree_nodes tree super image (root_told root) root.bytenr
 
 -- a list of a tree by its number; of a tree that is not there it is empty

@@ -16,8 +16,8 @@ use Rattle.qg_image.specs.ItemMeaning.{root_part, extent_part, quota_part}
 use Rattle.qg_image.specs.State.{State, Subvolume, layout_of, node_at}
 use Rattle.qg_image.specs.Reach.{level_of}
 use Rattle.qg_image.specs.Owed.{Agrees}
-use Rattle.qg_image.specs.declared.tree.Tree.{Tree}
-use Rattle.qg_image.specs.declared.tree.Tree.TheVariants.{Roots, Extents, Quotas}
+use Rattle.qg_image.specs.declared.tree.TreeKind.{TreeKind}
+use Rattle.qg_image.specs.declared.tree.TreeKind.TheVariants.{Roots, Extents, Quotas}
 use Rattle.qg_image.specs.declared.expected.Expected.{Expected}
 use Rattle.qg_image.specs.Walk.{root_expected, root_told, node_failure, walk_failure, deepest}
 use Rattle.qg_image.specs.ItemsUnder.{items_under, nodes_under}
@@ -42,7 +42,7 @@ super_at state root = record {
 
 -- the nodes are those of one tree, each before those below it, which breaks no rule of the walk; and these are its
 -- items
-pub record IsTreeOfNodes (tree : Tree) (super : Super) (expected : Expected) (root : ℕ) (nodes : List Node)
+pub record IsTreeOfNodes (tree : TreeKind) (super : Super) (expected : Expected) (root : ℕ) (nodes : List Node)
     (items : List Item) : Type 0 where
   pub walked : walk_failure (node_failure tree super) (found_among nodes) deepest expected root ≡ None
   pub nodes_are : nodes_under tree super (found_among nodes) (level_of (node_among nodes root)) expected root
@@ -51,7 +51,7 @@ pub record IsTreeOfNodes (tree : Tree) (super : Super) (expected : Expected) (ro
       ≡ Some items
 
 -- so it is of a tree with this ROOT_ITEM; of no tree there are no nodes and no items
-abbrev pub IsTreeOfRoot : Tree → Super → Option RootItem → List Node → List Item → Type 0
+abbrev pub IsTreeOfRoot : TreeKind → Super → Option RootItem → List Node → List Item → Type 0
 IsTreeOfRoot tree super None nodes items = (nodes ≡ []) × (items ≡ [])
 IsTreeOfRoot tree super (Some root) nodes items = IsTreeOfNodes tree super (root_told root) root.bytenr nodes items
 

@@ -30,8 +30,8 @@ use Rattle.qg_image.specs.Owed.{disagreement, homeless}
 use Rattle.qg_image.specs.declared.failure.Failure.{Failure}
 use Rattle.qg_image.specs.declared.failure.Failure.TheVariants.{Broken, Differs}
 use Rattle.qg_image.specs.Failure.{unless, first_failure}
-use Rattle.qg_image.specs.declared.tree.Tree.{Tree}
-use Rattle.qg_image.specs.declared.tree.Tree.TheVariants.{Roots, Extents, Quotas, Files}
+use Rattle.qg_image.specs.declared.tree.TreeKind.{TreeKind}
+use Rattle.qg_image.specs.declared.tree.TreeKind.TheVariants.{Roots, Extents, Quotas, Files}
 use Rattle.qg_image.specs.Walk.{root_expected, root_told, tree_failure}
 use Rattle.qg_image.specs.ImageState.{super_in, super_of, items_of_root, roots_in, subvolume_roots, extent_parts}
 use Rattle.qg_image.specs.ImageState.{quota_parts, info_told, limit_told, max_rfer_told, max_excl_told, state_in}
@@ -83,7 +83,7 @@ roots_failure super image = first_failure
     ∷ [])
 
 -- the first failure of a tree with this ROOT_ITEM; of no tree there is none
-abbrev pub root_failure : Tree → Super → List ℕ → Option RootItem → Option Failure
+abbrev pub root_failure : TreeKind → Super → List ℕ → Option RootItem → Option Failure
 root_failure tree super image None = None
 root_failure tree super image (Some root) = tree_failure tree super image (root_told root) root.bytenr
 

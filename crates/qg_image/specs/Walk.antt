@@ -25,15 +25,16 @@ use Rattle.qg_image.specs.ItemMeaning.{extent_part_stamps, quota_part, quota_par
 use Rattle.qg_image.specs.FilesOf.{is_file_item}
 use Rattle.qg_image.specs.declared.failure.Failure.{Failure}
 use Rattle.qg_image.specs.declared.failure.Failure.TheVariants.{Broken}
-use Rattle.qg_image.specs.declared.tree.Tree.{Tree}
-use Rattle.qg_image.specs.declared.tree.Tree.TheVariants.{Roots, Extents, Quotas, Files}
+use Rattle.qg_image.specs.declared.tree.TreeKind.{TreeKind}
+use Rattle.qg_image.specs.declared.tree.TreeKind.TheVariants.{Roots, Extents, Quotas, Files}
 use Rattle.qg_image.specs.declared.expected.Expected.{Expected}
-use Rattle.qg_image.specs.Failure.{unless, first_failure, rule_of}
+use Rattle.qg_image.specs.Failure.{unless, first_failure}
+use Rattle.qg_node.specs.Rules.{rule_of}
 
 -- ---- what a tree may hold
 
 -- a node of the tree may have this owner
-abbrev pub is_owner : Tree → ℕ → Bool
+abbrev pub is_owner : TreeKind → ℕ → Bool
 is_owner Roots owner = owner == ROOT_TREE
 is_owner Extents owner = owner == EXTENT_TREE
 is_owner Quotas owner = owner == QUOTA_TREE
@@ -51,7 +52,7 @@ tells_generation generation (Limits group limit) = true
 tells_generation generation (Relation group other) = true
 
 -- the tree may hold this item in an image of this generation
-unfoldable pub is_item_of : Tree → ℕ → Item → Bool
+unfoldable pub is_item_of : TreeKind → ℕ → Item → Bool
 is_item_of Roots generation item = some_passes (λ part. are_by generation (root_part_stamps part)) (root_part item)
 is_item_of Extents generation item = some_passes (λ part. are_by generation (extent_part_stamps part))
     (extent_part item)
@@ -83,7 +84,7 @@ abbrev pub is_generation : ℕ → Option ℕ → ℕ → Bool
 is_generation last told generation = is_told told generation && nat_lt 0 generation && nat_le generation last
 
 -- the rules on a node that was read which say that the way to it is right, in their order
-unfoldable pub way_failure : Tree → Super → Expected → ℕ → Node → Option Failure
+unfoldable pub way_failure : TreeKind → Super → Expected → ℕ → Node → Option Failure
 way_failure tree super expected address node = first_failure
     (unless (is_told expected.level (header_of node).level) rule.Depth address
     ∷ unless (is_owner tree (header_of node).owner) rule.Owner address
@@ -96,7 +97,7 @@ abbrev pub shape_failure : ℕ → Expected → ℕ → Node → Option Failure
 shape_failure nodesize expected address node = unless (is_shaped nodesize expected.from node) rule.Shape address
 
 -- all rules on a node that was read, in their order
-unfoldable pub node_failure : Tree → Super → Expected → ℕ → Node → Option Failure
+unfoldable pub node_failure : TreeKind → Super → Expected → ℕ → Node → Option Failure
 node_failure tree super expected address node = first_failure
     (way_failure tree super expected address node
     ∷ shape_failure super.nodesize expected address node
@@ -172,6 +173,6 @@ abbrev pub root_told : RootItem → Expected
 root_told root = root_expected (Some root.level) (Some root.generation)
 
 -- the first failure of a tree whose root lies at an address
-unfoldable pub tree_failure : Tree → Super → List ℕ → Expected → ℕ → Option Failure
+unfoldable pub tree_failure : TreeKind → Super → List ℕ → Expected → ℕ → Option Failure
 tree_failure tree super image expected address =
     walk_failure (node_failure tree super) (node_found super image) deepest expected address

@@ -19,4 +19,4 @@ pub use part::{ExtentPart, FilePart, QuotaPart, RootPart};
 pub use qg_items as items;
 pub use qg_node as node;
 pub use quota::{Group, Quota};
-pub use tree::Tree;
+pub use tree::TreeKind;

@@ -1,6 +1,6 @@
 /// Which of the trees of an image is meant (on-disk format, "B-tree").
 #[derive(Clone, Copy, PartialEq, Eq)]
-pub enum Tree {
+pub enum TreeKind {
     /// The root tree, tree 1.
     Roots,
     /// The extent tree, tree 2.

@@ -11,16 +11,16 @@ use Rattle.qg_items.specs.declared.file.InodeItem.{InodeItem}
 use Rattle.qg_items.specs.ItemReading.{inode_read}
 use Rattle.qg_image.specs.declared.file.File.{File}
 use Rattle.qg_image.specs.Table.{value_at}
-use Rattle.qg_image.specs.declared.tree.Tree.TheVariants.{Files}
-use Rattle.qg_parts.specs.Keys.{key_with}
-use Rattle.qg_contents.specs.Written.{inode_of}
-use Rattle.qg_blocks.specs.Held.{Draft}
-use Rattle.qg_blocks.specs.Told.{BreaksNone}
-use Rattle.qg_descent.specs.Reading.{body_at}
-use Rattle.qg_descent.specs.Tree.{Root, TellsTree}
-use Rattle.qg_descent.specs.Way.{FailsOnWay}
+use Rattle.qg_image.specs.declared.tree.TreeKind.TheVariants.{Files}
+use Rattle.qg_tree_items.specs.Keys.{key_with}
+use Rattle.qg_root_items.specs.Written.{inode_of}
+use Rattle.qg_blocks.specs.NodesInMemory.{Draft}
+use Rattle.qg_blocks.specs.NodesFound.{BreaksNone}
+use Rattle.qg_tree_read.specs.Reading.{body_at}
+use Rattle.qg_tree_read.specs.Tree.{Root, TellsTree}
+use Rattle.qg_tree_read.specs.Way.{FailsOnWay}
 use Rattle.qg_inodes.specs.Items.{has_unread}
-use Rattle.qg_inodes.specs.Told.{FailsOnFile, TellsFiles}
+use Rattle.qg_inodes.specs.TreeFiles.{FailsOnFile, TellsFiles}
 use Rattle.qg_inodes.proofs.Files.{are-told, inode-none, inode-some}
 use Rattle.qg_inodes.proofs.Inodes.{unread-there}
 

@@ -17,15 +17,15 @@ use Rattle.qg_node.specs.Nodes.{is_ascending, own_keys}
 use Rattle.qg_node.specs.Reading.{◌>>=◌, check, count_at, has_checksum, has_empty_fields, header_at, inner_at, items_at}
 use Rattle.qg_node.specs.Reading.{leaf_at, node_read, pointers_at}
 use Rattle.qg_super.specs.declared.sizes.Sizes.{Sizes}
-use Rattle.qg_image.specs.declared.tree.Tree.{Tree}
+use Rattle.qg_image.specs.declared.tree.TreeKind.{TreeKind}
 use Rattle.qg_image.specs.Walk.{root_expected}
-use Rattle.qg_blocks.specs.Held.{Draft}
+use Rattle.qg_blocks.specs.NodesInMemory.{Draft}
 use Rattle.qg_blocks.specs.Standing.{has_slot, ruled, standing}
-use Rattle.qg_blocks.specs.Told.{fresh_at, told, told_or}
+use Rattle.qg_blocks.specs.NodesFound.{fresh_at, told, told_or}
 use Rattle.qg_blocks.specs.Writing.{ArePlaced}
-use Rattle.qg_descent.specs.Tree.{Root, TellsTree, super_of}
-use Rattle.qg_descent.proofs.BranchOrder.{ascends-under}
-use Rattle.qg_file_items.specs.Bodies.{Ascend}
+use Rattle.qg_tree_read.specs.Tree.{Root, TellsTree, super_of}
+use Rattle.qg_tree_read.proofs.BranchOrder.{ascends-under}
+use Rattle.qg_inodes.specs.Bodies.{Ascend}
 
 -- ---- those of a node that is read
 
@@ -136,7 +136,7 @@ told_ascends draft history bytes placed q node is =
 
 -- ---- those of a tree's items
 
-pub tree-ascends : (tree : Tree) (root : Root) (draft : Draft) (history : History) (bytes : ℕ)
+pub tree-ascends : (tree : TreeKind) (root : Root) (draft : Draft) (history : History) (bytes : ℕ)
     (items : List Item) → ArePlaced draft bytes → TellsTree tree root draft history items
     → Ascend items
 tree-ascends tree root draft history bytes items placed tells =

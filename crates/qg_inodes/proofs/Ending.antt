@@ -8,8 +8,8 @@ use Rattle.std.proofs.lemmas.List.{append_assoc}
 use Rattle.qg_num.specs.declared.piece.Piece.{Piece}
 use Rattle.qg_image.specs.FilesOf.{are_pieces, piece_end}
 use Rattle.qg_image.proofs.Pieces.{FirstPiece, FirstPiece-are_pieces, WholePiece-is_piece, are_pieces-FirstPiece}
-use Rattle.qg_parts.proofs.Parts.{and-false}
-use Rattle.qg_file_items.specs.Pieces.{pieces_met}
+use Rattle.qg_tree_items.proofs.Parts.{and-false}
+use Rattle.qg_inodes.specs.PiecesWritten.{pieces_met}
 use Rattle.qg_inodes.specs.Pieces.{BeginsBy, last_begun, piece_met, pieces_begun}
 use Rattle.qg_inodes.proofs.Meeting.{met-parted, last-none}
 

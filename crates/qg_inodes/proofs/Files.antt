@@ -22,9 +22,9 @@ use Rattle.qg_image.specs.FilesOf.{inodes_in, is_file, is_file_item, is_inode, i
 use Rattle.qg_image.specs.FilesOf.{piece_in, pieces_bytes, pieces_in, AreItemsOfFiles}
 use Rattle.qg_image.specs.Table.{has_key, value_at}
 use Rattle.qg_machine.specs.FileChange.{pieces_or_none}
-use Rattle.qg_parts.specs.Keys.{key_with}
-use Rattle.qg_contents.specs.Written.{inode_of}
-use Rattle.qg_descent.specs.Reading.{body_at}
+use Rattle.qg_tree_items.specs.Keys.{key_with}
+use Rattle.qg_root_items.specs.Written.{inode_of}
+use Rattle.qg_tree_read.specs.Reading.{body_at}
 use Rattle.qg_inodes.specs.Items.{has_unread, is_unread}
 use Rattle.qg_inodes.specs.Pieces.{pieces_at}
 use Rattle.qg_inodes.proofs.Inodes.{Tells, inode-told}

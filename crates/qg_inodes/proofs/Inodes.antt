@@ -13,9 +13,9 @@ use Rattle.qg_image.specs.ItemMeaning.{file_part}
 use Rattle.qg_image.specs.FilesOf.{file_parts, inodes_in, is_file_item}
 use Rattle.qg_image.specs.IsShaped.{same_key}
 use Rattle.qg_image.specs.Table.{value_at}
-use Rattle.qg_parts.specs.Keys.{key_with}
-use Rattle.qg_descent.specs.Reading.{body_at}
-use Rattle.qg_file_items.proofs.Told.{body-first, body-later}
+use Rattle.qg_tree_items.specs.Keys.{key_with}
+use Rattle.qg_tree_read.specs.Reading.{body_at}
+use Rattle.qg_inodes.proofs.BodiesByKey.{body-first, body-later}
 use Rattle.qg_inodes.specs.Items.{has_unread, is_unread}
 use Rattle.qg_inodes.proofs.Says.{SaysInode, SaysPiece, no-inode, says}
 

@@ -4,7 +4,7 @@ use Rattle.qg_num.specs.declared.piece.Piece.{Piece}
 use Rattle.qg_image.specs.FilesOf.{are_pieces, largest_size, piece_end}
 use Rattle.qg_image.proofs.Pieces.{FirstPiece-are_pieces, WholePiece-is_piece}
 use Rattle.qg_files.specs.Apart.{AreApartFrom, IsWithinSizes}
-use Rattle.qg_file_items.proofs.Pieces.{range-order}
+use Rattle.qg_inodes.proofs.PiecesByPosition.{range-order}
 
 pub apart-none : (end : ℕ) (pieces : List Piece) → pieces ≡ [] → AreApartFrom end pieces
 unfolding AreApartFrom

@@ -9,9 +9,9 @@ use Rattle.std.proofs.lemmas.Bool.{and_from, and_parts, cases_Bool, cases_eq, ca
 use Rattle.std.proofs.lemmas.Cmp.{ranked}
 use Rattle.qg_num.specs.Key.{key_cmp}
 use Rattle.qg_num.specs.declared.key.Key.{Key}
-use Rattle.qg_parts.specs.Keys.{key_with}
+use Rattle.qg_tree_items.specs.Keys.{key_with}
 use Rattle.qg_walk.proofs.KeyRanges.{not_less_behind}
-use Rattle.qg_descent.specs.Reading.{is_upto, is_within}
+use Rattle.qg_tree_read.specs.Reading.{is_upto, is_within}
 
 -- ---- where one key is not less than another
 

@@ -14,10 +14,10 @@ use Rattle.qg_image.specs.declared.part.FilePart.{FilePart}
 use Rattle.qg_image.specs.declared.part.FilePart.TheVariants.{Inode, PieceOf}
 use Rattle.qg_image.specs.ItemMeaning.{file_part}
 use Rattle.qg_image.specs.FilesOf.{file_parts, is_file_item, pieces_in}
-use Rattle.qg_parts.specs.Keys.{key_with}
-use Rattle.qg_descent.specs.Reading.{is_upto, last_or, last_upto}
-use Rattle.qg_file_items.specs.Bodies.{Ascend}
-use Rattle.qg_file_items.proofs.Told.{AreGreater, first_least, greater-first, greater-later, later_ascend}
+use Rattle.qg_tree_items.specs.Keys.{key_with}
+use Rattle.qg_tree_read.specs.Reading.{is_upto, last_or, last_upto}
+use Rattle.qg_inodes.specs.Bodies.{Ascend}
+use Rattle.qg_inodes.proofs.BodiesByKey.{AreGreater, first_least, greater-first, greater-later, later_ascend}
 use Rattle.qg_inodes.specs.Items.{has_unread, is_unread, piece_of}
 use Rattle.qg_inodes.specs.Pieces.{is_piece_of, last_begun, own_piece}
 use Rattle.qg_inodes.proofs.Keys.{IsOwn, between-own, own-upto}

@@ -1,3 +1,19 @@
+pub mod BodiesByKey
+pub mod EditedItems
+pub mod FileBodies
+pub mod Numbers
+pub mod Said
+pub mod Read
+pub mod Spelled
+pub mod Tables
+pub mod OneFile
+pub mod PiecesByPosition
+pub mod RangeBodies
+pub mod Sequences
+pub mod Exchanged
+pub mod MetPieces
+pub mod RangeEdits
+pub mod PiecesMet
 pub mod Ascending
 pub mod Says
 pub mod Inodes
@@ -10,5 +26,5 @@ pub mod Ending
 pub mod Judging
 pub mod Answered
 pub mod PiecesRead
-pub mod Whole
+pub mod WholeFile
 pub mod Stopped

@@ -8,9 +8,9 @@ use Rattle.std.proofs.lemmas.List.Elements.{filter-append}
 use Rattle.qg_num.specs.declared.piece.Piece.{Piece}
 use Rattle.qg_image.specs.FilesOf.{are_pieces, piece_end}
 use Rattle.qg_image.proofs.Pieces.{FirstPiece, FirstPiece-are_pieces, WholePiece-is_piece, are_pieces-FirstPiece}
-use Rattle.qg_parts.proofs.Parts.{and-false}
-use Rattle.qg_file_items.specs.Pieces.{pieces_met}
-use Rattle.qg_file_items.proofs.Pieces.{range-order}
+use Rattle.qg_tree_items.proofs.Parts.{and-false}
+use Rattle.qg_inodes.specs.PiecesWritten.{pieces_met}
+use Rattle.qg_inodes.proofs.PiecesByPosition.{range-order}
 use Rattle.qg_inodes.specs.Pieces.{last_begun, piece_met, pieces_begun}
 
 some_byte : (from size : ℕ) (piece : Piece) (pieces : List Piece) → FirstPiece from size piece pieces → 0 < piece.len

@@ -14,21 +14,21 @@ use Rattle.qg_num.specs.declared.rule.Rule.TheVariants as rule
 use Rattle.qg_node.specs.declared.item.Item.{Item}
 use Rattle.qg_image.specs.declared.file.File.{File}
 use Rattle.qg_image.specs.FilesOf.{are_pieces, file_parts, files_of, largest_size, piece_end, pieces_in}
-use Rattle.qg_image.specs.declared.tree.Tree.TheVariants.{Files}
-use Rattle.qg_parts.specs.Keys.{key_with}
+use Rattle.qg_image.specs.declared.tree.TreeKind.TheVariants.{Files}
+use Rattle.qg_tree_items.specs.Keys.{key_with}
 pub use Rattle.qg_blocks.proofs.Broken.{handed}
-use Rattle.qg_blocks.specs.Held.{Draft, Held}
-use Rattle.qg_blocks.specs.Told.{BreaksNone}
+use Rattle.qg_blocks.specs.NodesInMemory.{Draft, Held}
+use Rattle.qg_blocks.specs.NodesFound.{BreaksNone}
 use Rattle.qg_blocks.specs.Writing.{ArePlaced}
-use Rattle.qg_descent.specs.Reading.{items_within, last_upto}
-use Rattle.qg_descent.specs.Tree.{Root, TellsTree}
-use Rattle.qg_descent.specs.Way.{HasRead}
-use Rattle.qg_descent.proofs.Reached.{tells-read}
-use Rattle.qg_file_items.specs.Pieces.{pieces_met}
+use Rattle.qg_tree_read.specs.Reading.{items_within, last_upto}
+use Rattle.qg_tree_read.specs.Tree.{Root, TellsTree}
+use Rattle.qg_tree_read.specs.Way.{HasRead}
+use Rattle.qg_tree_read.proofs.Reached.{tells-read}
+use Rattle.qg_inodes.specs.PiecesWritten.{pieces_met}
 use Rattle.qg_inodes.specs.Items.{has_unread, piece_of}
 use Rattle.qg_inodes.specs.Judged.{AreAdded, IsJudged, IsUnreadPiece}
 use Rattle.qg_inodes.specs.Pieces.{BeginsBy, last_begun, own_piece, piece_met, pieces_at, pieces_begun}
-use Rattle.qg_inodes.specs.Told.{FailsOnPieces, IsUnfit, TellsFiles}
+use Rattle.qg_inodes.specs.TreeFiles.{FailsOnPieces, IsUnfit, TellsFiles}
 use Rattle.qg_inodes.proofs.Ascending.{tree-ascends}
 use Rattle.qg_inodes.proofs.Ending.{last-alone, last-more}
 use Rattle.qg_inodes.proofs.Files.{AreTold, HasPieces, are-told, has-pieces, none-unread}

@@ -14,7 +14,7 @@ use Rattle.qg_image.specs.declared.part.FilePart.{FilePart}
 use Rattle.qg_image.specs.declared.part.FilePart.TheVariants.{Inode, PieceOf}
 use Rattle.qg_image.specs.ItemMeaning.{file_part, file_part_stamps, is_keyed, piece_told, some_passes, when, ◌orelse◌}
 use Rattle.qg_image.specs.FilesOf.{is_file_item}
-use Rattle.qg_parts.proofs.Parts.{and-false}
+use Rattle.qg_tree_items.proofs.Parts.{and-false}
 use Rattle.qg_inodes.specs.Items.{piece_of}
 
 -- it is the INODE_ITEM of a file

@@ -7,16 +7,16 @@ use Rattle.qg_num.specs.declared.piece.Piece.{Piece}
 use Rattle.qg_num.specs.declared.rule.Rule.{Rule}
 use Rattle.qg_num.specs.declared.rule.Rule.TheVariants as rule
 use Rattle.qg_node.specs.declared.item.Item.{Item}
-use Rattle.qg_image.specs.declared.tree.Tree.TheVariants.{Files}
-use Rattle.qg_blocks.specs.Held.{Draft}
+use Rattle.qg_image.specs.declared.tree.TreeKind.TheVariants.{Files}
+use Rattle.qg_blocks.specs.NodesInMemory.{Draft}
 use Rattle.qg_blocks.specs.Stopping.{IsMisfit, StopsForCause}
 use Rattle.qg_blocks.proofs.Broken.{handed}
 use Rattle.qg_blocks.proofs.Stopping.{misfit-file, misfit-item}
-use Rattle.qg_descent.specs.Stopping.{StopsOnWay}
-use Rattle.qg_descent.specs.Tree.{Root}
-use Rattle.qg_descent.proofs.Stopping.{stops-way}
+use Rattle.qg_tree_read.specs.Stopping.{StopsOnWay}
+use Rattle.qg_tree_read.specs.Tree.{Root}
+use Rattle.qg_tree_read.proofs.Stopping.{stops-way}
 use Rattle.qg_inodes.specs.Judged.{AreAdded, IsJudged}
-use Rattle.qg_inodes.specs.Told.{StopsOnPieces}
+use Rattle.qg_inodes.specs.TreeFiles.{StopsOnPieces}
 
 -- ---- one call
 

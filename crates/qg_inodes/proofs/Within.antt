@@ -15,8 +15,8 @@ use Rattle.qg_image.specs.declared.part.FilePart.{FilePart}
 use Rattle.qg_image.specs.declared.part.FilePart.TheVariants.{Inode, PieceOf}
 use Rattle.qg_image.specs.ItemMeaning.{file_part}
 use Rattle.qg_image.specs.FilesOf.{file_parts, is_file_item, pieces_in}
-use Rattle.qg_parts.specs.Keys.{key_with}
-use Rattle.qg_descent.specs.Reading.{is_within, items_within}
+use Rattle.qg_tree_items.specs.Keys.{key_with}
+use Rattle.qg_tree_read.specs.Reading.{is_within, items_within}
 use Rattle.qg_inodes.specs.Items.{has_unread, is_unread, piece_of}
 use Rattle.qg_inodes.specs.Pieces.{pieces_begun}
 use Rattle.qg_inodes.proofs.Keys.{IsOwn, outside, own-within, within-own}

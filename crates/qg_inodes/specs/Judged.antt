@@ -8,7 +8,7 @@ use Rattle.qg_num.specs.declared.piece.Piece.{Piece}
 use Rattle.qg_node.specs.declared.item.Item.{Item}
 use Rattle.qg_image.specs.FilesOf.{are_pieces, largest_size}
 use Rattle.qg_files.specs.Apart.{AreApart}
-use Rattle.qg_descent.specs.Tree.{Root}
+use Rattle.qg_tree_read.specs.Tree.{Root}
 use Rattle.qg_inodes.specs.Items.{piece_of}
 use Rattle.qg_inodes.specs.Pieces.{is_piece_of, own_piece}
 

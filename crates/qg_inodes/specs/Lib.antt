@@ -1,4 +1,9 @@
+pub mod Bodies
+pub mod PiecesWritten
+pub mod FileEdits
+pub mod FileItemsLaws
+pub mod Examples
 pub mod Items
 pub mod Pieces
-pub mod Told
+pub mod TreeFiles
 pub mod Judged

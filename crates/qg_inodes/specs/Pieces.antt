@@ -10,7 +10,7 @@ use Rattle.qg_items.specs.declared.kind.TheConstants.{EXTENT_DATA}
 use Rattle.qg_image.specs.declared.file.File.{File}
 use Rattle.qg_image.specs.Table.{value_at}
 use Rattle.qg_machine.specs.FileChange.{pieces_or_none}
-use Rattle.qg_file_items.specs.Pieces.{pieces_met}
+use Rattle.qg_inodes.specs.PiecesWritten.{pieces_met}
 use Rattle.qg_inodes.specs.Items.{piece_of}
 
 -- the pieces of the file of a number; none where there is no such file

@@ -5,9 +5,9 @@ ghost use Rattle.qg_files.specs.Apart.{AreApart, IsWithinSizes};
 ghost use Rattle.qg_inodes.specs.Judged.{IsJudged};
 
 use crate::item::unfit;
-use qg_descent::Tree;
 use qg_num::{BlockFault, Piece, Pieces};
-use qg_rules::LARGEST_SIZE;
+use qg_tree_items::LARGEST_SIZE;
+use qg_tree_read::Tree;
 
 /// The pieces that were read, where they may be edited. Those of a file may.
 pub(crate) fn judged(tree: &Tree, pieces: Pieces) -> Result<Pieces, BlockFault>

@@ -4,20 +4,20 @@ ghost use Rattle.qg_device.specs.Cause.{HasCause};
 ghost use Rattle.qg_device.specs.History.{Event, Recorded};
 ghost use Rattle.qg_image.specs.declared.file.File.{File as FileValue};
 ghost use Rattle.qg_image.specs.Table.{value_at};
-ghost use Rattle.qg_blocks.specs.Told.{BreaksNone};
-ghost use Rattle.qg_descent.specs.Way.{HasRead, IsReadable};
+ghost use Rattle.qg_blocks.specs.NodesFound.{BreaksNone};
+ghost use Rattle.qg_tree_read.specs.Way.{HasRead, IsReadable};
 ghost use Rattle.qg_files.specs.Apart.{AreApart};
 ghost use Rattle.qg_inodes.specs.Pieces.{pieces_at};
-ghost use Rattle.qg_inodes.specs.Told.{FailsOnPieces, StopsOnPieces, TellsFiles};
+ghost use Rattle.qg_inodes.specs.TreeFiles.{FailsOnPieces, StopsOnPieces, TellsFiles};
 
 use crate::inode::inode_of;
 use crate::pieces::pieces_meeting;
 use qg_blocks::Blocks;
-use qg_descent::Tree;
 use qg_disk::Disk;
 use qg_image::File;
 use qg_num::{BlockFault, Ino, Steps};
-use qg_rules::LARGEST_SIZE;
+use qg_tree_items::LARGEST_SIZE;
+use qg_tree_read::Tree;
 use std::alloc::Global;
 use std::sync::ledger::Ledger;
 

@@ -5,18 +5,18 @@ ghost use Rattle.qg_device.specs.Cause.{HasCause};
 ghost use Rattle.qg_device.specs.History.{Event, Recorded};
 ghost use Rattle.qg_image.specs.declared.file.File.{File as FileValue};
 ghost use Rattle.qg_image.specs.Table.{value_at};
-ghost use Rattle.qg_contents.specs.Written.{inode_of};
-ghost use Rattle.qg_blocks.specs.Told.{BreaksNone};
-ghost use Rattle.qg_descent.specs.Way.{HasRead, IsReadable};
-ghost use Rattle.qg_inodes.specs.Told.{FailsOnFile, StopsOnPieces, TellsFiles};
+ghost use Rattle.qg_root_items.specs.Written.{inode_of};
+ghost use Rattle.qg_blocks.specs.NodesFound.{BreaksNone};
+ghost use Rattle.qg_tree_read.specs.Way.{HasRead, IsReadable};
+ghost use Rattle.qg_inodes.specs.TreeFiles.{FailsOnFile, StopsOnPieces, TellsFiles};
 
 use crate::item::{inode_key, unread};
 use qg_blocks::Blocks;
-use qg_descent::Tree;
 use qg_disk::Disk;
 use qg_image::FilePart;
 use qg_items::{InodeItem, read_inode};
 use qg_num::{BlockFault, Ino, Steps};
+use qg_tree_read::Tree;
 use std::alloc::Global;
 use std::sync::ledger::Ledger;
 

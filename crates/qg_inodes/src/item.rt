@@ -3,18 +3,17 @@ ghost use Rattle.std.specs.Prelude.{◌≡◌};
 ghost use Rattle.qg_items.specs.declared.kind.TheConstants.{EXTENT_DATA, INODE_ITEM};
 ghost use Rattle.qg_num.specs.declared.fault.BlockFault.TheVariants.{Image};
 ghost use Rattle.qg_num.specs.declared.rule.Rule.TheVariants as rule;
-ghost use Rattle.qg_parts.specs.Keys.{key_with};
-ghost use Rattle.qg_inodes.specs.Items.{piece_of};
+ghost use Rattle.qg_tree_items.specs.Keys.{key_with};
 ghost use Rattle.qg_inodes.specs.Judged.{AreAdded, IsOwnPiece};
 
-use qg_descent::Tree;
 use qg_items::kind::{EXTENT_DATA, INODE_ITEM};
-use qg_items::read_extent_data;
 use qg_node::Item;
 use qg_num::{BlockFault, Ino, Key, Piece, Pieces, Rule};
+use qg_tree_items::piece_of;
+use qg_tree_read::Tree;
 
-/// The key of a file's INODE_ITEM.
-pub(crate) fn inode_key(ino: Ino) -> Key
+/// The key of a file's INODE_ITEM (on-disk format, INODE_ITEM).
+pub fn inode_key(ino: Ino) -> Key
     ensures { result ≡ key_with ino INODE_ITEM 0 }
 {
     Key {
@@ -24,8 +23,8 @@ pub(crate) fn inode_key(ino: Ino) -> Key
     }
 }
 
-/// The key of the EXTENT_DATA of the piece at a position, in bytes.
-pub(crate) fn piece_key(ino: Ino, position: u64) -> Key
+/// The key of the EXTENT_DATA of the piece at a position, in bytes (on-disk format, EXTENT_DATA).
+pub fn piece_key(ino: Ino, position: u64) -> Key
     ensures { result ≡ key_with ino EXTENT_DATA position }
 {
     Key {
@@ -33,24 +32,6 @@ pub(crate) fn piece_key(ino: Ino, position: u64) -> Key
         kind: EXTENT_DATA,
         offset: position,
     }
-}
-
-/// The piece that an EXTENT_DATA tells, if its body is one. The extent's length stands in it twice.
-pub(crate) fn piece_of(item: &Item) -> Option<Piece>
-    ensures { result ≡ piece_of item.now }
-{
-    let told = read_extent_data(item.body.as_slice())?;
-    if told.ram_bytes != told.disk_num_bytes {
-        return None;
-    }
-    Some(Piece {
-        position: item.key.offset,
-        len: told.num_bytes,
-        extent: told.disk_bytenr,
-        offset: told.offset,
-        stamp: told.generation,
-        extent_bytes: told.disk_num_bytes,
-    })
 }
 
 /// The piece of a file that an item tells; none where it is no piece of it. An item that says nothing is answered as

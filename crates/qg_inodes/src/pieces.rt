@@ -4,20 +4,20 @@ ghost use Rattle.qg_device.specs.Cause.{HasCause};
 ghost use Rattle.qg_device.specs.History.{Event, Recorded};
 ghost use Rattle.qg_image.specs.declared.file.File.{File as FileValue};
 ghost use Rattle.qg_image.specs.FilesOf.{piece_end};
-ghost use Rattle.qg_blocks.specs.Told.{BreaksNone};
-ghost use Rattle.qg_descent.specs.Way.{HasRead, IsReadable};
+ghost use Rattle.qg_blocks.specs.NodesFound.{BreaksNone};
+ghost use Rattle.qg_tree_read.specs.Way.{HasRead, IsReadable};
 ghost use Rattle.qg_files.specs.Apart.{AreApart};
-ghost use Rattle.qg_file_items.specs.Pieces.{pieces_met};
+ghost use Rattle.qg_inodes.specs.PiecesWritten.{pieces_met};
 ghost use Rattle.qg_inodes.specs.Pieces.{BeginsBy, piece_met, pieces_at};
-ghost use Rattle.qg_inodes.specs.Told.{FailsOnPieces, StopsOnPieces, TellsFiles};
+ghost use Rattle.qg_inodes.specs.TreeFiles.{FailsOnPieces, StopsOnPieces, TellsFiles};
 
 use crate::apart::judged;
 use crate::item::{add_pieces, own_piece, piece_key};
 use qg_blocks::Blocks;
-use qg_descent::Tree;
 use qg_disk::Disk;
 use qg_image::FilePart;
 use qg_num::{BlockFault, Ino, NoMemory, Piece, Pieces, Steps};
+use qg_tree_read::Tree;
 use std::alloc::Global;
 use std::sync::ledger::Ledger;
 

@@ -17,7 +17,7 @@ use Rattle.qg_image.specs.State.{State, Subvolume, Placed, layout_of, node_at, n
 use Rattle.qg_image.specs.Reach.{level_of, reaches, is_reached, owners}
 use Rattle.qg_image.specs.Space.{is_free_slot}
 use Rattle.qg_image.specs.declared.failure.Failure.{Failure}
-use Rattle.qg_image.specs.declared.tree.Tree.TheVariants.{Files}
+use Rattle.qg_image.specs.declared.tree.TreeKind.TheVariants.{Files}
 use Rattle.qg_image.specs.Walk.{root_expected, node_failure, walk_failure, deepest}
 use Rattle.qg_image.specs.ItemsUnder.{items_under}
 use Rattle.qg_image.specs.Among.{found_there}

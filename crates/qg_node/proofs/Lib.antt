@@ -5,3 +5,4 @@ pub mod Filling
 pub mod TextBytes
 pub mod Found
 pub mod Again
+pub mod ItemUnder

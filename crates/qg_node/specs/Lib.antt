@@ -1,5 +1,6 @@
 pub mod Nodes
 pub mod NodeText
 pub mod Reading
+pub mod Rules
 pub mod Fits
 pub mod Laws

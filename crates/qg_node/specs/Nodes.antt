@@ -10,6 +10,13 @@ use Rattle.qg_node.specs.declared.node.Header.{Header}
 use Rattle.qg_node.specs.declared.node.Node.{Node}
 use Rattle.qg_node.specs.declared.node.Node.TheVariants.{Leaf, Inner}
 
+-- the item under a key
+abbrev pub item_under : ℕ → ℕ → ℕ → List ℕ → Item
+item_under objectid kind offset body = record {
+  key = record { objectid = objectid; kind = kind; offset = offset };
+  body = body;
+}
+
 -- a node's header
 abbrev pub header_of : Node → Header
 header_of (Leaf header items) = header

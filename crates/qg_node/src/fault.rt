@@ -2,6 +2,7 @@
 ghost use Rattle.std.specs.Prelude.{◌≡◌};
 ghost use Rattle.qg_node.specs.declared.fault.ReadFault.TheVariants.{NoMemory};
 
+use qg_num::Rule;
 use std::alloc::{AllocError, AllocFailed};
 
 /// The first rule that bytes break as a node, in the order in which the rules are looked at (this project's own).
@@ -21,6 +22,25 @@ pub enum NodeFault {
     Order,
     /// A byte that should be 0 is not.
     Slack,
+}
+
+impl NodeFault {
+    ghost use Rattle.qg_node.specs.Rules.{rule_of};
+
+    /// The rule of a sound image that is broken by such bytes.
+    pub fn rule(self) -> Rule
+        ensures { result ≡ rule_of self }
+    {
+        match self {
+            NodeFault::Csum => Rule::Csum,
+            NodeFault::Place => Rule::Place,
+            NodeFault::Level => Rule::Level,
+            NodeFault::Empty => Rule::Empty,
+            NodeFault::Bounds => Rule::Bounds,
+            NodeFault::Order => Rule::Order,
+            NodeFault::Slack => Rule::Slack,
+        }
+    }
 }
 
 /// Why no node was read.

@@ -66,6 +66,29 @@ pub struct Item {
 }
 
 impl Item {
+    ghost use Rattle.qg_node.specs.Nodes.{item_under};
+
+    /// The item under a key, its offset in the unit of its kind.
+    pub fn new(
+        alloc: Global,
+        objectid: u64,
+        kind: u8,
+        offset: u64,
+        bytes: &[u8],
+    ) -> Result<Item, AllocError>
+        ensures { IfOk result (λ item. item ≡ item_under objectid kind offset bytes.now) }
+    {
+        let key = Key {
+            objectid,
+            kind,
+            offset,
+        };
+        Ok(Item {
+            key,
+            body: Body::from_slice(alloc, bytes)?,
+        })
+    }
+
     /// The same item once more.
     pub fn copy(&self, alloc: Global) -> Result<Item, AllocError>
         ensures copy { IfOk result (λ copy. copy ≡ self.now) }

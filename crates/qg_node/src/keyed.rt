@@ -1,5 +1,5 @@
 // What stands in the order of its keys.
-ghost use Rattle.std.specs.Prelude.{◌≡◌, map};
+ghost use Rattle.std.specs.Prelude.{◌≡◌, map, slice_get};
 ghost use Rattle.qg_node.specs.Nodes.{ascends_from, is_ascending};
 
 use crate::{Item, Pointer};
@@ -58,4 +58,14 @@ fn ascends_from<T: Keyed>(first: Key, others: &[T]) -> bool
         before = key;
     }
     true
+}
+
+/// The key of the first, if there is one.
+pub(crate) fn first_of<T: Keyed>(list: &[T]) -> Option<Key>
+    ensures { result ≡ slice_get (map T.key_of list.now) 0 }
+{
+    match list {
+        [] => None,
+        [first, ..] => Some(first.key()),
+    }
 }

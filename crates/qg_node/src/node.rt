@@ -1,11 +1,11 @@
 // Nodes.
-ghost use Rattle.std.specs.Prelude.{◌≡◌, ◌↔◌, ◌+◌, ◌≤◌, ◌<◌, ◌^◌, IsTrue};
+ghost use Rattle.std.specs.Prelude.{◌≡◌, ◌↔◌, ◌+◌, ◌≤◌, ◌<◌, ◌^◌, slice_get, IsTrue};
 ghost use Rattle.qg_node.specs.Nodes.{header_of, items_bytes, own_keys, used_bytes, is_ascending};
 ghost use Rattle.qg_node.specs.NodeText.{IsLevelled, IsNode};
 
-use crate::keyed::is_ascending;
+use crate::keyed::{first_of, is_ascending};
 use crate::{Item, Items, Pointers};
-use qg_num::{Address, Generation, RootId};
+use qg_num::{Address, Generation, Key, RootId};
 
 /// How many bytes a node's header takes (on-disk format, "header").
 pub const HEADER_BYTES: usize = 101;
@@ -54,6 +54,16 @@ impl Node {
         ensures { result ≡ (header_of self.now).level }
     {
         self.header().level
+    }
+
+    /// Its first key; none exactly where it is empty.
+    pub fn first_key(&self) -> Option<Key>
+        ensures { result ≡ slice_get (own_keys self.now) 0 }
+    {
+        match self {
+            Node::Leaf { items, .. } => first_of(items.as_slice()),
+            Node::Inner { pointers, .. } => first_of(pointers.as_slice()),
+        }
     }
 
     /// How many bytes behind its header the items or pointers take.

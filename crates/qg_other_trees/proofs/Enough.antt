@@ -11,7 +11,7 @@ use Rattle.qg_super.specs.declared.sizes.Sizes.{Sizes}
 use Rattle.qg_super.specs.Places.{capacity, is_served}
 use Rattle.qg_super.specs.SuperText.{is_super}
 use Rattle.qg_image.specs.Need.{nodes_filled}
-use Rattle.qg_tree.specs.Build.{IsBuilt}
+use Rattle.qg_tree_layout.specs.Build.{IsBuilt}
 use Rattle.qg_other_trees.specs.Trees.{most_nodes, superblock_laid}
 
 -- ---- small trees

@@ -13,7 +13,7 @@ use Rattle.qg_machine.specs.Layout.{IsTreeOf, IsWhole}
 use Rattle.qg_other_trees.specs.Holds.{AreRuns, AreThoseOf, HoldsLayout, IsToCome, IsWalkedIn, nodes_of_roots}
 use Rattle.qg_other_trees.proofs.MetNodes.{all_nodes, finds, met, those}
 use Rattle.qg_other_trees.proofs.Walked.{in_slots, nodes_found}
-use Rattle.qg_other_trees.proofs.Whole.{root_node, root_there}
+use Rattle.qg_other_trees.proofs.SubvolumeTree.{root_node, root_there}
 
 module _ (state : State) (whole : IsWhole state) where
   -- a subvolume's ROOT_ITEM, of its root node

@@ -19,15 +19,15 @@ use Rattle.qg_image.specs.State.{Layout, Placed, State, layout_of, node_at}
 use Rattle.qg_image.specs.ImageState.{is_full_record, placed}
 use Rattle.qg_machine.specs.Layout.{IsReached, IsWhole}
 use Rattle.qg_reach.proofs.Layouts.{AgreeByAddress, layout_by, node_at-layout, node_at-layout_other}
-use Rattle.qg_extents.specs.Told.{parts_at, told_in, told_sum}
-use Rattle.qg_tree.specs.Row.{address_of}
+use Rattle.qg_extents.specs.BookRecords.{parts_at, told_in, told_sum}
+use Rattle.qg_tree_layout.specs.Row.{address_of}
 use Rattle.qg_other_trees.specs.Holds.{AreRuns}
 use Rattle.qg_other_trees.proofs.MetNodes.{finds, met, those}
 use Rattle.qg_reach.proofs.Members.{each_contained}
 use Rattle.qg_other_trees.proofs.Slots.{value_contained}
 use Rattle.qg_reach.proofs.Ascending.{tables_same}
 use Rattle.qg_other_trees.proofs.Tables.{all_laid, layout-ascends}
-use Rattle.qg_other_trees.proofs.Whole.{node_placed}
+use Rattle.qg_other_trees.proofs.SubvolumeTree.{node_placed}
 
 -- ---- the full mark that a record tells
 

@@ -9,7 +9,7 @@ pub mod Recorded
 pub mod Telling
 pub mod Weight
 pub mod Bound
-pub mod Whole
+pub mod SubvolumeTree
 pub mod Walked
 pub mod MetNodes
 pub mod Found

@@ -12,7 +12,7 @@ use Rattle.qg_image.specs.declared.part.QuotaPart.{QuotaPart}
 use Rattle.qg_image.specs.declared.quota.Quota.{Quota}
 use Rattle.qg_image.specs.ImageState.{quota_told, subvolume_roots}
 use Rattle.qg_image.specs.Verdict.{are_few, are_roots, is_quota}
-use Rattle.qg_contents.specs.Written.{roots_named, with_quotas}
+use Rattle.qg_root_items.specs.Written.{roots_named, with_quotas}
 use Rattle.qg_quota.specs.Laws.{IsServedFor}
 use Rattle.qg_quota.specs.Written.{parts_of_quota}
 use Rattle.qg_quota.proofs.ReadBack.{quota-back}

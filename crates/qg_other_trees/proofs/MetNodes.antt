@@ -23,10 +23,10 @@ use Rattle.qg_reach.proofs.Members.{contains_flat_map, each_contained, one_flat_
 use Rattle.qg_reach.proofs.Reached.{FindsEach, elements_of, extents_named}
 use Rattle.qg_reach.proofs.SlotRule.{slot_below}
 use Rattle.qg_check.proofs.Found.{FindsEach-below}
-use Rattle.qg_tree.specs.Row.{address_of}
+use Rattle.qg_tree_layout.specs.Row.{address_of}
 use Rattle.qg_other_trees.specs.Holds.{AreRuns}
 use Rattle.qg_other_trees.proofs.Slots.{value_contained}
-use Rattle.qg_other_trees.proofs.Whole.{level, lie, node_placed, nodes, nodes_there}
+use Rattle.qg_other_trees.proofs.SubvolumeTree.{level, lie, node_placed, nodes, nodes_there}
 
 -- ---- what is among elements
 

@@ -16,8 +16,8 @@ use Rattle.qg_image.specs.declared.quota.Group.{Group}
 use Rattle.qg_image.specs.State.{State, Subvolume, node_at}
 use Rattle.qg_image.specs.OtherTrees.{root_item_of, subvolume_items}
 use Rattle.qg_image.specs.Verdict.{is_group_number}
-use Rattle.qg_hier.specs.Groups.{IsSound}
-use Rattle.qg_contents.specs.Writable.{IsRootBy}
+use Rattle.qg_qgroups.specs.Groups.{IsSound}
+use Rattle.qg_root_items.specs.Writable.{IsRootBy}
 use Rattle.qg_other_trees.specs.Telling.{HasRoot, one_group}
 use Rattle.qg_check.specs.Editable.{AreGroups, AreSubvolumes}
 

@@ -9,19 +9,19 @@ use Rattle.qg_node.specs.declared.node.Node.{Node}
 use Rattle.qg_super.specs.declared.superblock.Super.{Super}
 use Rattle.qg_image.specs.Reach.{level_of}
 use Rattle.qg_image.specs.declared.expected.Expected.{Expected}
-use Rattle.qg_image.specs.declared.tree.Tree.{Tree}
+use Rattle.qg_image.specs.declared.tree.TreeKind.{TreeKind}
 use Rattle.qg_image.specs.Among.{found_among, found_there, node_among}
 use Rattle.qg_image.specs.ItemsUnder.{items_under, nodes_under}
 use Rattle.qg_image.specs.OtherTrees.{IsOfFormat, IsTreeOfNodes}
 use Rattle.qg_image.specs.Walk.{root_expected}
-use Rattle.qg_tree.specs.Build.{IsMadeFor}
-use Rattle.qg_tree.specs.Row.{address_of}
-use Rattle.qg_tree.proofs.Frame.{all_found}
+use Rattle.qg_tree_layout.specs.Build.{IsMadeFor}
+use Rattle.qg_tree_layout.specs.Row.{address_of}
+use Rattle.qg_tree_layout.proofs.Frame.{all_found}
 use Rattle.qg_reach.proofs.Members.{each_contained}
 use Rattle.qg_other_trees.proofs.Slots.{all_contained, flips}
 use Rattle.qg_other_trees.proofs.TreesIn.{among, root_stands, stands_open, stands_told, AreThere, IsBuiltFor, Stands}
 
-module _ (tree : Tree) (super : Super) (nodesize owner generation : ℕ) (items : List Item) (slots : List ℕ)
+module _ (tree : TreeKind) (super : Super) (nodesize owner generation : ℕ) (items : List Item) (slots : List ℕ)
     (nodes : List Node) (root level : ℕ)
     (is : IsBuiltFor tree super nodesize owner generation items slots nodes root level)
     (apart : IsDistinct (λ a b. a == b) (map address_of nodes)) where

@@ -31,13 +31,13 @@ use Rattle.qg_image.proofs.Contained.{contains_cases, contains_here, contains_la
 use Rattle.qg_machine.specs.Layout.{IsTreeOf, IsWhole}
 use Rattle.qg_reach.proofs.Members.{contains_flat_map, contains_map, each_contained, one_flat_mapped, one_mapped}
 use Rattle.qg_check.proofs.Found.{first_below}
-use Rattle.qg_tree.proofs.Frame.{both}
+use Rattle.qg_tree_layout.proofs.Frame.{both}
 use Rattle.qg_other_trees.specs.Holds.{AreRuns}
 use Rattle.qg_other_trees.proofs.Bound.{owing_of, some_counted}
 use Rattle.qg_other_trees.proofs.MetNodes.{has_nodes, met_under}
 use Rattle.qg_other_trees.proofs.Slots.{value_contained}
 use Rattle.qg_reach.proofs.Ascending.{contained_value}
-use Rattle.qg_other_trees.proofs.Whole.{level, nodes, root_node, root_there}
+use Rattle.qg_other_trees.proofs.SubvolumeTree.{level, nodes, root_node, root_there}
 
 -- ---- what begins
 

@@ -13,14 +13,14 @@ use Rattle.qg_image.specs.ItemMeaning.{quota_part}
 use Rattle.qg_image.specs.declared.part.QuotaPart.{QuotaPart}
 use Rattle.qg_image.specs.Need.{nodes_filled}
 use Rattle.qg_image.specs.declared.quota.Quota.{Quota}
-use Rattle.qg_image.specs.declared.tree.Tree.TheVariants.{Quotas}
-use Rattle.qg_contents.specs.Written.{quota_roots}
+use Rattle.qg_image.specs.declared.tree.TreeKind.TheVariants.{Quotas}
+use Rattle.qg_root_items.specs.Written.{quota_roots}
 use Rattle.qg_quota.specs.Writable.{AreWritableQuota}
 use Rattle.qg_quota.specs.Written.{items_of_quota, parts_of_quota, status_at}
 use Rattle.qg_check.specs.Editable.{AreGroupsOf}
-use Rattle.qg_tree.specs.Build.{IsMadeFor}
-use Rattle.qg_tree.specs.Row.{address_of}
-use Rattle.qg_tree.specs.declared.building.Built.{Built}
+use Rattle.qg_tree_layout.specs.Build.{IsMadeFor}
+use Rattle.qg_tree_layout.specs.Row.{address_of}
+use Rattle.qg_tree_layout.specs.declared.building.Built.{Built}
 use Rattle.qg_other_trees.specs.Trees.{IsQuotaTreeOf, IsTreeOfItems, QuotaTells, most_nodes, quota_nodes_laid}
 use Rattle.qg_other_trees.specs.Trees.{quota_tree_bytes, quota_trees, root_item_laid}
 use Rattle.qg_other_trees.proofs.Enough.{most_filled}

@@ -32,7 +32,7 @@ use Rattle.qg_refs.specs.Order.{precedes}
 use Rattle.qg_refs.proofs.Counting.{count-cons, count-found, count-nil}
 use Rattle.qg_refs.proofs.RankOrder.{precedes_differs, same_itself}
 use Rattle.qg_extents.specs.Table.{IsTable, book_of}
-use Rattle.qg_extents.specs.Told.{parts_at, told_in, told_sum}
+use Rattle.qg_extents.specs.BookRecords.{parts_at, told_in, told_sum}
 use Rattle.qg_extents.specs.Written.{extent_of, part_of, parts_of_book, parts_of_extent, record_flags, record_of}
 use Rattle.qg_extents.specs.Written.{record_part, refs_of}
 use Rattle.qg_extents.proofs.Back.{parts_at-book}

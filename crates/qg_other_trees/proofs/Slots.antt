@@ -12,8 +12,8 @@ use Rattle.qg_node.specs.declared.item.Item.{Item}
 use Rattle.qg_node.specs.declared.node.Node.{Node}
 use Rattle.qg_image.specs.Table.{value_at}
 use Rattle.qg_image.proofs.Contained.{contains_here, contains_later}
-use Rattle.qg_tree.specs.Row.{address_of}
-use Rattle.qg_tree.proofs.Frame.{IsDistinct-front}
+use Rattle.qg_tree_layout.specs.Row.{address_of}
+use Rattle.qg_tree_layout.proofs.Frame.{IsDistinct-front}
 use Rattle.qg_other_trees.specs.Trees.{AreEnough}
 
 -- ---- what holds of each element

@@ -32,7 +32,7 @@ use Rattle.qg_image.specs.Owed.{Agrees, agrees_at, disagreement, homeless}
 use Rattle.qg_image.specs.Space.{present_extents}
 use Rattle.qg_image.specs.State.{Layout, Placed, State, Subvolume, layout_of, next_generation, blank_state}
 use Rattle.qg_image.specs.declared.failure.Failure.{Failure}
-use Rattle.qg_image.specs.declared.tree.Tree.TheVariants.{Extents, Files, Quotas, Roots}
+use Rattle.qg_image.specs.declared.tree.TreeKind.TheVariants.{Extents, Files, Quotas, Roots}
 use Rattle.qg_image.specs.Failure.{first_failure, unless}
 use Rattle.qg_image.specs.ImageState.{as_committed, extent_parts, items_of_root, layout_in, nodes_of_root, of_tree}
 use Rattle.qg_image.specs.ImageState.{other_nodes, quota_in, quota_parts, quota_told, roots_in, state_in, subvolume_in}
@@ -46,8 +46,8 @@ use Rattle.qg_machine.specs.Layout.{IsTreeOf, IsWhole}
 use Rattle.qg_reach.proofs.Layouts.{layout_by, layout_in-nodes}
 use Rattle.qg_check.proofs.Verdicts.{image_failure_parts, rest_failure, verdict_some}
 use Rattle.qg_check.specs.Editable.{AreGroupsOf}
-use Rattle.qg_contents.specs.Written.{roots_named}
-use Rattle.qg_tree.specs.declared.building.Built.{Built}
+use Rattle.qg_root_items.specs.Written.{roots_named}
+use Rattle.qg_tree_layout.specs.declared.building.Built.{Built}
 use Rattle.qg_refs.specs.declared.kept.Kept.{Kept}
 use Rattle.qg_extents.specs.Written.{parts_of_book}
 use Rattle.qg_other_trees.specs.declared.laying.OtherTrees.{OtherTrees}
@@ -66,7 +66,7 @@ use Rattle.qg_other_trees.proofs.Telling.{are_those, behind_extents, behind_quot
 use Rattle.qg_other_trees.proofs.Telling.{for_extents, for_roots, others, quotas_root}
 use Rattle.qg_other_trees.proofs.TreesIn.{IsTreeIn-open, IsTreeIn-told, those_open, those_told}
 use Rattle.qg_other_trees.proofs.Walked.{in_slots, tree_in}
-use Rattle.qg_other_trees.proofs.Whole.{nodes}
+use Rattle.qg_other_trees.proofs.SubvolumeTree.{nodes}
 
 -- ---- parts of a list
 

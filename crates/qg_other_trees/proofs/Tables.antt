@@ -12,7 +12,7 @@ use Rattle.qg_image.specs.State.{Placed}
 use Rattle.qg_image.proofs.Contained.{contains_here, contains_later}
 use Rattle.qg_image.specs.ImageState.{placed}
 use Rattle.qg_reach.proofs.Layouts.{layout_by, with_nodes}
-use Rattle.qg_tree.specs.Row.{address_of}
+use Rattle.qg_tree_layout.specs.Row.{address_of}
 
 -- ---- a table that ascends with one value more
 

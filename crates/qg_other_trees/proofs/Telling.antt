@@ -23,16 +23,16 @@ use Rattle.qg_image.specs.declared.part.QuotaPart.{QuotaPart}
 use Rattle.qg_image.specs.declared.quota.Quota.{Quota}
 use Rattle.qg_image.specs.State.{State, layout_of}
 use Rattle.qg_image.specs.Owed.{Agrees}
-use Rattle.qg_image.specs.declared.tree.Tree.{Tree}
-use Rattle.qg_image.specs.declared.tree.Tree.TheVariants.{Extents, Quotas, Roots}
+use Rattle.qg_image.specs.declared.tree.TreeKind.{TreeKind}
+use Rattle.qg_image.specs.declared.tree.TreeKind.TheVariants.{Extents, Quotas, Roots}
 use Rattle.qg_image.specs.ImageState.{addresses_of, quota_told, subvolume_roots}
 use Rattle.qg_image.specs.OtherTrees.{AreOtherTrees, IsOfFormat, IsTreeOfNodes, IsTreeOfRoot, subvolume_items, super_at}
 use Rattle.qg_image.specs.Walk.{is_generation, is_item_of, is_owner, root_expected, root_told}
-use Rattle.qg_contents.specs.Written.{roots_named}
+use Rattle.qg_root_items.specs.Written.{roots_named}
 use Rattle.qg_refs.specs.declared.kept.Kept.{Kept}
-use Rattle.qg_tree.specs.declared.building.Built.{Built}
-use Rattle.qg_tree.specs.Row.{address_of}
-use Rattle.qg_tree.proofs.Frame.{AllByRecursion-append, IsDistinct-front}
+use Rattle.qg_tree_layout.specs.declared.building.Built.{Built}
+use Rattle.qg_tree_layout.specs.Row.{address_of}
+use Rattle.qg_tree_layout.proofs.Frame.{AllByRecursion-append, IsDistinct-front}
 use Rattle.qg_other_trees.specs.declared.laying.OtherTrees.{OtherTrees}
 use Rattle.qg_other_trees.specs.Telling.{AreToldBy, IsStateOf}
 use Rattle.qg_check.specs.Editable.{AreGroupsOf}
@@ -73,7 +73,7 @@ module _ (sizes : Sizes) (generation : ℕ) (roots : List (ℕ × RootItem)) (bo
   abbrev pub leads : Super
   leads = super_at state trees.roots.root
 
-  abbrev pub built_for : (tree : Tree) (owner : ℕ) (Tell : List Item → Type 0) (here : List ℕ) (built : Built)
+  abbrev pub built_for : (tree : TreeKind) (owner : ℕ) (Tell : List Item → Type 0) (here : List ℕ) (built : Built)
       → is_owner tree owner ≡ true → (laid : IsTreeOfItems tree owner sizes.nodesize generation Tell here built)
       → IsBuiltFor tree leads sizes.nodesize owner generation laid.items here built.nodes built.root built.level
   built_for tree owner Tell here built owned laid = record {

@@ -16,7 +16,7 @@ use Rattle.qg_super.specs.declared.superblock.Super.{Super}
 use Rattle.qg_image.specs.Below.{items_below, nodes_below}
 use Rattle.qg_image.specs.ItemMeaning.{when}
 use Rattle.qg_image.specs.declared.failure.Failure.{Failure}
-use Rattle.qg_image.specs.declared.tree.Tree.{Tree}
+use Rattle.qg_image.specs.declared.tree.TreeKind.{TreeKind}
 use Rattle.qg_image.specs.declared.expected.Expected.{Expected}
 use Rattle.qg_image.specs.Failure.{first_failure, unless}
 use Rattle.qg_image.specs.Walk.{is_generation, is_item_of, is_owner, is_told, way_failure, shape_failure, node_failure}
@@ -24,11 +24,11 @@ use Rattle.qg_image.specs.Walk.{node_found, pointers_failure, found_failure, wal
 use Rattle.qg_image.specs.Walk.{tree_failure}
 use Rattle.qg_image.specs.ItemsUnder.{is_way, items_under, nodes_under, nodes_of}
 use Rattle.qg_image.specs.ImageState.{level_in, tree_items, tree_nodes}
-use Rattle.qg_tree.specs.Build.{Allows, IsBuilt}
+use Rattle.qg_tree_layout.specs.Build.{Allows, IsBuilt}
 use Rattle.qg_image.specs.Among.{node_among, found_among, found_there}
-use Rattle.qg_tree.specs.Row.{address_of}
-use Rattle.qg_tree.proofs.Frame.{Judge, Keeps, neither, none_of_two, under_kept, walk_kept}
-use Rattle.qg_tree.proofs.Reached.{nodes_kept}
+use Rattle.qg_tree_layout.specs.Row.{address_of}
+use Rattle.qg_tree_layout.proofs.Frame.{Judge, Keeps, neither, none_of_two, under_kept, walk_kept}
+use Rattle.qg_tree_layout.proofs.Reached.{nodes_kept}
 use Rattle.qg_other_trees.specs.Holds.{IsTreeIn}
 
 -- ---- what is among the nodes is found
@@ -100,7 +100,7 @@ pub none_of_three : (a b c : Option Failure) → a ≡ None → b ≡ None → c
 none_of_three a b c ha hb hc = rw (ha, hb, hc) refl
 
 -- the rules that the way to a root keeps
-record KeepsWay (tree : Tree) (super : Super) (level generation : ℕ) (node : Node) : Type 0 where
+record KeepsWay (tree : TreeKind) (super : Super) (level generation : ℕ) (node : Node) : Type 0 where
   stands : level ≡ (header_of node).level
   owned : is_owner tree (header_of node).owner ≡ true
   made : is_generation super.generation None (header_of node).generation ≡ true
@@ -112,7 +112,7 @@ made_opened last told generation h =
     let first = and_parts (is_told (Some told) generation) (nat_lt 0 generation) split.0 in
     and_from (nat_lt 0 generation) (nat_le generation last) first.1 split.1
 
-way_kept : (tree : Tree) (super : Super) (level generation address : ℕ) (node : Node)
+way_kept : (tree : TreeKind) (super : Super) (level generation address : ℕ) (node : Node)
     → way_failure tree super (root_expected (Some level) (Some generation)) address node ≡ None
     → KeepsWay tree super level generation node
 unfolding way_failure
@@ -127,7 +127,7 @@ way_kept tree super level generation address node none =
       made = made_opened super.generation generation (header_of node).generation parts.2;
     }
 
-way_opened : (tree : Tree) (super : Super) (level generation address : ℕ) (node : Node)
+way_opened : (tree : TreeKind) (super : Super) (level generation address : ℕ) (node : Node)
     → way_failure tree super (root_expected (Some level) (Some generation)) address node ≡ None
     → way_failure tree super (root_expected None None) address node ≡ None
 unfolding way_failure
@@ -136,7 +136,7 @@ way_opened tree super level generation address node none =
     three_kept (is_owner tree (header_of node).owner) (is_generation super.generation None (header_of node).generation)
     rule.Depth rule.Owner rule.Gen rule.Range address keeps.owned keeps.made
 
-node_way : (tree : Tree) (super : Super) (expected : Expected) (address : ℕ) (node : Node)
+node_way : (tree : TreeKind) (super : Super) (expected : Expected) (address : ℕ) (node : Node)
     → node_failure tree super expected address node ≡ None → way_failure tree super expected address node ≡ None
 unfolding node_failure
 node_way tree super expected address node none =
@@ -145,7 +145,7 @@ node_way tree super expected address node none =
     items
     none).0
 
-node_opened : (tree : Tree) (super : Super) (level generation address : ℕ) (node : Node)
+node_opened : (tree : TreeKind) (super : Super) (level generation address : ℕ) (node : Node)
     → node_failure tree super (root_expected (Some level) (Some generation)) address node ≡ None
     → node_failure tree super (root_expected None None) address node ≡ None
 unfolding node_failure
@@ -185,14 +185,14 @@ walk_opened judge found zero level generation root opens none =
 walk_opened judge found (suc depth) level generation root opens none =
     found_opened judge (walk_failure judge found depth) level generation root opens (found root) none
 
-pub node_walk_opened : (tree : Tree) (super : Super) (found : ℕ → Result Node Failure) (level generation root : ℕ)
+pub node_walk_opened : (tree : TreeKind) (super : Super) (found : ℕ → Result Node Failure) (level generation root : ℕ)
     → walk_failure (node_failure tree super) found deepest (root_expected (Some level) (Some generation)) root ≡ None
     → walk_failure (node_failure tree super) found deepest (root_expected None None) root ≡ None
 node_walk_opened tree super found level generation root none =
     walk_opened (node_failure tree super) found deepest level generation root (node_opened tree super level generation)
     none
 
-pub way_walk_opened : (tree : Tree) (super : Super) (found : ℕ → Result Node Failure) (level generation root : ℕ)
+pub way_walk_opened : (tree : TreeKind) (super : Super) (found : ℕ → Result Node Failure) (level generation root : ℕ)
     → walk_failure (way_failure tree super) found deepest (root_expected (Some level) (Some generation)) root ≡ None
     → walk_failure (way_failure tree super) found deepest (root_expected None None) root ≡ None
 way_walk_opened tree super found level generation root none =
@@ -207,7 +207,7 @@ pub record IsRootAt (found : ℕ → Result Node Failure) (level root : ℕ) : T
   pub is : found root ≡ Ok node
   pub stands : (header_of node).level ≡ level
 
-root_found : (tree : Tree) (super : Super) (below : Expected → ℕ → Option Failure) (found : ℕ → Result Node Failure)
+root_found : (tree : TreeKind) (super : Super) (below : Expected → ℕ → Option Failure) (found : ℕ → Result Node Failure)
     (level generation root : ℕ) (here : Result Node Failure)
     → found root ≡ here
     → found_failure (node_failure tree super) below (root_expected (Some level) (Some generation)) root here ≡ None
@@ -221,7 +221,7 @@ root_found tree super below found level generation root (Ok node) is none =
     let keeps = way_kept tree super level generation root node (node_way tree super told root node parts.0) in
     record { node = node; is = is; stands = sym keeps.stands }
 
-root_there : (tree : Tree) (super : Super) (found : ℕ → Result Node Failure) (depth level generation root : ℕ)
+root_there : (tree : TreeKind) (super : Super) (found : ℕ → Result Node Failure) (depth level generation root : ℕ)
     → walk_failure (node_failure tree super) found depth (root_expected (Some level) (Some generation)) root ≡ None
     → IsRootAt found level root
 unfolding walk_failure
@@ -245,14 +245,14 @@ pub given_so : {A : Type 0} (test : Bool) (given : Option A) (x : A) → test �
     → when test given ≡ Some x
 given_so test given x h k = rw (h, k) refl
 
-pub way_walked : (tree : Tree) (super : Super) (found : ℕ → Result Node Failure) (expected : Expected) (root : ℕ)
+pub way_walked : (tree : TreeKind) (super : Super) (found : ℕ → Result Node Failure) (expected : Expected) (root : ℕ)
     → is_way tree super found expected root ≡ true
     → walk_failure (way_failure tree super) found deepest expected root ≡ None
 unfolding is_way
 way_walked tree super found expected root way =
     is_nothing (walk_failure (way_failure tree super) found deepest expected root) way
 
-walked_way : (tree : Tree) (super : Super) (found : ℕ → Result Node Failure) (expected : Expected) (root : ℕ)
+walked_way : (tree : TreeKind) (super : Super) (found : ℕ → Result Node Failure) (expected : Expected) (root : ℕ)
     → walk_failure (way_failure tree super) found deepest expected root ≡ None
     → is_way tree super found expected root ≡ true
 unfolding is_way
@@ -261,20 +261,22 @@ walked_way tree super found expected root none = ap (λ (failure : Option Failur
 -- ---- a tree that was built
 
 -- the walk of a tree meets no failure where its nodes are found, and its items and nodes are these
-pub record Stands (tree : Tree) (super : Super) (found : ℕ → Result Node Failure) (expected : Expected) (level root : ℕ)
+pub record Stands (tree : TreeKind) (super : Super) (found : ℕ → Result Node Failure) (expected : Expected)
+    (level root : ℕ)
     (items : List Item) (those : List Node) : Type 0 where
   pub walked : walk_failure (node_failure tree super) found deepest expected root ≡ None
   pub items_are : items_under tree super found level expected root ≡ Some items
   pub nodes_are : nodes_under tree super found level expected root ≡ Some those
 
 -- a tree was built of items that it may hold, in nodes that the superblock allows
-pub record IsBuiltFor (tree : Tree) (super : Super) (nodesize owner generation : ℕ) (items : List Item) (slots : List ℕ)
+pub record IsBuiltFor (tree : TreeKind) (super : Super) (nodesize owner generation : ℕ) (items : List Item)
+    (slots : List ℕ)
     (nodes : List Node) (root level : ℕ) : Type 0 where
   pub built : IsBuilt nodesize owner generation items slots nodes root level
   pub allows : Allows tree super nodesize owner generation
   pub hold : IsTrue (list_all (is_item_of tree super.generation) items)
 
-module _ (tree : Tree) (super : Super) (nodesize owner generation : ℕ) (items : List Item) (slots : List ℕ)
+module _ (tree : TreeKind) (super : Super) (nodesize owner generation : ℕ) (items : List Item) (slots : List ℕ)
     (nodes : List Node) (root level : ℕ)
     (is : IsBuiltFor tree super nodesize owner generation items slots nodes root level)
     (found : ℕ → Result Node Failure) (there : AreThere found nodes) where
@@ -326,7 +328,7 @@ module _ (tree : Tree) (super : Super) (nodesize owner generation : ℕ) (items 
 
 -- ---- in an image
 
-module _ (tree : Tree) (super : Super) (nodesize owner generation : ℕ) (items : List Item) (slots : List ℕ)
+module _ (tree : TreeKind) (super : Super) (nodesize owner generation : ℕ) (items : List Item) (slots : List ℕ)
     (nodes : List Node) (root level : ℕ)
     (is : IsBuiltFor tree super nodesize owner generation items slots nodes root level) (image : List ℕ)
     (there : All (λ node. node_found super image (header_of node).address ≡ Ok node) nodes) where

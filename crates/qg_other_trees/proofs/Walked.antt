@@ -19,8 +19,8 @@ use Rattle.qg_image.specs.FilesOf.{AreItemsOfFiles}
 use Rattle.qg_image.specs.Table.{value_at}
 use Rattle.qg_image.specs.State.{Placed, State, Subvolume, node_at}
 use Rattle.qg_image.specs.declared.failure.Failure.{Failure}
-use Rattle.qg_image.specs.declared.tree.Tree.{Tree}
-use Rattle.qg_image.specs.declared.tree.Tree.TheVariants.{Files}
+use Rattle.qg_image.specs.declared.tree.TreeKind.{TreeKind}
+use Rattle.qg_image.specs.declared.tree.TreeKind.TheVariants.{Files}
 use Rattle.qg_image.specs.declared.expected.Expected.{Expected}
 use Rattle.qg_image.specs.Failure.{unless}
 use Rattle.qg_image.specs.ImageState.{level_in, tree_items, tree_nodes}
@@ -29,23 +29,27 @@ use Rattle.qg_image.specs.Walk.{deepest, found_failure, in_slot, is_generation, 
 use Rattle.qg_image.specs.Walk.{node_found, pointers_failure, root_expected, shape_failure, tree_failure, walk_failure}
 use Rattle.qg_image.specs.Walk.{way_failure}
 use Rattle.qg_machine.specs.Layout.{IsTreeOf, IsWhole, found_in, super_to_come}
-use Rattle.qg_tree.proofs.Frame.{AllByRecursion-weaker, Judge, Keeps, neither, none_of_two, under_kept, walk_kept}
-use Rattle.qg_tree.proofs.Reached.{nodes_kept}
+use Rattle.qg_tree_layout.proofs.Frame.{AllByRecursion-weaker, Judge, Keeps, neither, none_of_two, under_kept}
+use Rattle.qg_tree_layout.proofs.Frame.{walk_kept}
+use Rattle.qg_tree_layout.proofs.Reached.{nodes_kept}
 use Rattle.qg_other_trees.specs.Holds.{HoldsLayout, IsToCome, IsTreeIn, IsWalkedIn}
 use Rattle.qg_reach.proofs.Members.{each_contained}
 use Rattle.qg_other_trees.proofs.Slots.{value_contained}
 use Rattle.qg_other_trees.proofs.TreesIn.{four_kept, given_so, none_of_three, three_none, way_walked}
-use Rattle.qg_other_trees.proofs.Whole.{items_there, level, node_placed, nodes, nodes_there, root_node, root_there}
-use Rattle.qg_other_trees.proofs.Whole.{there_is, way_passes}
+use Rattle.qg_other_trees.proofs.SubvolumeTree.{items_there, level, node_placed, nodes, nodes_there, root_node}
+use Rattle.qg_other_trees.proofs.SubvolumeTree.{root_there}
+use Rattle.qg_other_trees.proofs.SubvolumeTree.{there_is, way_passes}
 
 -- ---- what a judge sees of a superblock: the generation and the bytes of a node
 
-same_way : (tree : Tree) (a b : Super) (expected : Expected) (address : ℕ) (node : Node) → a.generation ≡ b.generation
+same_way : (tree : TreeKind) (a b : Super) (expected : Expected) (address : ℕ) (node : Node)
+    → a.generation ≡ b.generation
     → way_failure tree a expected address node ≡ way_failure tree b expected address node
 unfolding way_failure
 same_way tree a b expected address node made = rw made refl
 
-same_node : (tree : Tree) (a b : Super) (expected : Expected) (address : ℕ) (node : Node) → a.generation ≡ b.generation
+same_node : (tree : TreeKind) (a b : Super) (expected : Expected) (address : ℕ) (node : Node)
+    → a.generation ≡ b.generation
     → a.nodesize ≡ b.nodesize → node_failure tree a expected address node ≡ node_failure tree b expected address node
 unfolding node_failure
 same_node tree a b expected address node made sized =
@@ -70,7 +74,7 @@ made_told last generation h =
 abbrev told_of : Node → Expected
 told_of node = root_expected (Some (header_of node).level) (Some (header_of node).generation)
 
-way_closed : (tree : Tree) (super : Super) (address : ℕ) (node : Node)
+way_closed : (tree : TreeKind) (super : Super) (address : ℕ) (node : Node)
     → way_failure tree super (root_expected None None) address node ≡ None
     → way_failure tree super (told_of node) address node ≡ None
 unfolding way_failure
@@ -80,7 +84,7 @@ way_closed tree super address node none =
     rule.Depth rule.Owner rule.Gen rule.Range address none in
     rw (eq-eqb header.level header.level refl, parts.1, made_told super.generation header.generation parts.2) refl
 
-node_closed : (tree : Tree) (super : Super) (address : ℕ) (node : Node)
+node_closed : (tree : TreeKind) (super : Super) (address : ℕ) (node : Node)
     → node_failure tree super (root_expected None None) address node ≡ None
     → node_failure tree super (told_of node) address node ≡ None
 unfolding node_failure

@@ -16,8 +16,8 @@ use Rattle.qg_image.specs.declared.element.Element.{Element}
 use Rattle.qg_image.specs.Owed.{layout_extents}
 use Rattle.qg_image.specs.State.{Placed, State, Subvolume, layout_of, next_generation, node_at}
 use Rattle.qg_image.specs.Reach.{level_of}
-use Rattle.qg_image.specs.declared.tree.Tree.{Tree}
-use Rattle.qg_image.specs.declared.tree.Tree.TheVariants.{Files}
+use Rattle.qg_image.specs.declared.tree.TreeKind.{TreeKind}
+use Rattle.qg_image.specs.declared.tree.TreeKind.TheVariants.{Files}
 use Rattle.qg_image.specs.declared.expected.Expected.{Expected}
 use Rattle.qg_image.specs.Walk.{node_found, root_told, tree_failure}
 use Rattle.qg_image.specs.OtherTrees.{root_item_of}
@@ -32,7 +32,8 @@ pub record HasCommit (super : Super) (nodes : List Node) (image : List ℕ) : Ty
   pub found : All (λ node. node_found super image (header_of node).address ≡ Ok node) nodes
 
 -- in the image a tree breaks no rule, and these are its items and, in some order, its nodes
-pub record IsTreeIn (tree : Tree) (super : Super) (image : List ℕ) (expected : Expected) (root : ℕ) (items : List Item)
+pub record IsTreeIn (tree : TreeKind) (super : Super) (image : List ℕ) (expected : Expected) (root : ℕ)
+    (items : List Item)
     (nodes : List Node) : Type 0 where
   pub walked : tree_failure tree super image expected root ≡ None
   pub items_are : tree_items tree super image expected root ≡ items

@@ -9,7 +9,7 @@ use Rattle.qg_image.specs.Table.{value_at}
 use Rattle.qg_image.specs.declared.quota.Quota.{Quota}
 use Rattle.qg_image.specs.Space.{present_extents}
 use Rattle.qg_image.specs.State.{State, layout_of, next_generation}
-use Rattle.qg_image.specs.declared.tree.Tree.TheVariants.{Extents}
+use Rattle.qg_image.specs.declared.tree.TreeKind.TheVariants.{Extents}
 use Rattle.qg_image.specs.Failure.{first_failure}
 use Rattle.qg_image.specs.ImageState.{as_committed, roots_in, state_in, subvolume_roots, super_in}
 use Rattle.qg_image.specs.StateOf.{StateOf}

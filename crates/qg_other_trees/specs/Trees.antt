@@ -17,18 +17,18 @@ use Rattle.qg_image.specs.ItemMeaning.{extent_part, quota_part, root_part}
 use Rattle.qg_image.specs.Table.{keys_of}
 use Rattle.qg_image.specs.declared.quota.Quota.{Quota}
 use Rattle.qg_image.specs.Need.{nodes_filled}
-use Rattle.qg_image.specs.declared.tree.Tree.{Tree}
-use Rattle.qg_image.specs.declared.tree.Tree.TheVariants.{Extents, Quotas, Roots}
+use Rattle.qg_image.specs.declared.tree.TreeKind.{TreeKind}
+use Rattle.qg_image.specs.declared.tree.TreeKind.TheVariants.{Extents, Quotas, Roots}
 use Rattle.qg_image.specs.Walk.{is_item_of}
 use Rattle.qg_check.specs.Editable.{AreGroupsOf, AreSubvolumes}
-use Rattle.qg_tree.specs.declared.building.Built.{Built}
-use Rattle.qg_tree.specs.Build.{IsBuilt}
-use Rattle.qg_contents.specs.Written.{items_of_roots, roots_named}
+use Rattle.qg_tree_layout.specs.declared.building.Built.{Built}
+use Rattle.qg_tree_layout.specs.Build.{IsBuilt}
+use Rattle.qg_root_items.specs.Written.{items_of_roots, roots_named}
 use Rattle.qg_quota.specs.Written.{items_of_quota, parts_of_quota, status_at}
 use Rattle.qg_refs.specs.declared.kept.Kept.{Kept}
 use Rattle.qg_extents.specs.Written.{items_of_book, parts_of_book}
 use Rattle.qg_other_trees.specs.declared.laying.OtherTrees.{OtherTrees}
-use Rattle.qg_other_trees.specs.declared.laying.Told.{Told}
+use Rattle.qg_other_trees.specs.declared.laying.TreeContents.{TreeContents}
 
 -- ---- what is asked
 
@@ -73,7 +73,7 @@ most_nodes_of_trees nodesize book roots quota =
     + quota_trees quota * most_nodes nodesize (quota_tree_bytes quota)
 
 -- three trees of this generation that tell this can be laid out in these slots, in an image of these sizes
-pub record CanBeLaid (sizes : Sizes) (generation : ℕ) (told : Told) (slots : List ℕ) : Type 0 where
+pub record CanBeLaid (sizes : Sizes) (generation : ℕ) (told : TreeContents) (slots : List ℕ) : Type 0 where
   pub served : IsTrue (is_served sizes)
   -- there is a generation behind it, and it is one
   pub some : 1 ≤ generation
@@ -88,7 +88,7 @@ pub record CanBeLaid (sizes : Sizes) (generation : ℕ) (told : Told) (slots : L
 -- ---- what the trees tell
 
 -- in the first of the slots stands a tree of one generation, of items that it may hold and that tell this
-pub record IsTreeOfItems (tree : Tree) (owner nodesize generation : ℕ) (Tell : List Item → Type 0) (slots : List ℕ)
+pub record IsTreeOfItems (tree : TreeKind) (owner nodesize generation : ℕ) (Tell : List Item → Type 0) (slots : List ℕ)
     (built : Built) : Type 0 where
   pub items : List Item
   pub stands : IsBuilt nodesize owner generation items slots built.nodes built.root built.level
@@ -162,7 +162,7 @@ pub record AreTrees (sizes : Sizes) (generation : ℕ) (roots : List (ℕ × Roo
   pub leads : trees.superblock ≡ superblock_laid sizes generation trees.roots.root
 
 -- the trees that tell this
-abbrev pub AreTreesOf : Sizes → ℕ → Told → List ℕ → OtherTrees → Type 0
+abbrev pub AreTreesOf : Sizes → ℕ → TreeContents → List ℕ → OtherTrees → Type 0
 AreTreesOf sizes generation told slots trees =
     AreTrees sizes generation told.roots.now told.book.now told.quota.now slots trees
 

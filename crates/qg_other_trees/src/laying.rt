@@ -15,7 +15,7 @@ use qg_items::RootItem;
 use qg_node::Node;
 use qg_num::{Address, Counters, Generation, NoMemory, RootId};
 use qg_super::{Sizes, Super};
-use qg_tree::Built;
+use qg_tree_layout::Built;
 use std::alloc::Global;
 
 /// The root, extent and quota trees of a commit, laid out in free slots, and the superblock that leads to them.
@@ -50,7 +50,7 @@ impl OtherTrees {
 
 /// What these trees tell (this project's own).
 #[derive(Clone, Copy)]
-pub struct Told<'a> {
+pub struct TreeContents<'a> {
     /// The subvolumes' ROOT_ITEMs, ascending by number: generation, address and level of each root node, as it is now.
     pub roots: &'a [(RootId, RootItem)],
     /// The references to their nodes and data extents.
@@ -69,7 +69,7 @@ pub fn lay_other_trees(
     alloc: Global,
     sizes: Sizes,
     next: Generation,
-    told: &Told<'_>,
+    told: &TreeContents<'_>,
     slots: &[Address],
 ) -> Result<OtherTrees, NoMemory>
     requires { CanBeLaid sizes next told.now slots.now }

@@ -5,9 +5,9 @@ ghost use Rattle.qg_node.specs.NodeText.{IsNodeSize};
 ghost use Rattle.qg_node.specs.Nodes.{items_bytes};
 ghost use Rattle.qg_items.specs.declared.tree.TheConstants.{EXTENT_TREE, QUOTA_TREE, ROOT_TREE};
 ghost use Rattle.qg_image.specs.Need.{nodes_filled};
-ghost use Rattle.qg_image.specs.declared.tree.Tree.TheVariants.{Extents as ExtentTree, Quotas, Roots};
-ghost use Rattle.qg_contents.specs.Writable.{IsRootBy, IsWritableRoot};
-ghost use Rattle.qg_contents.specs.Written.{quota_roots};
+ghost use Rattle.qg_image.specs.declared.tree.TreeKind.TheVariants.{Extents as ExtentTree, Quotas, Roots};
+ghost use Rattle.qg_root_items.specs.Writable.{IsRootBy, IsWritableRoot};
+ghost use Rattle.qg_root_items.specs.Written.{quota_roots};
 ghost use Rattle.qg_quota.specs.Writable.{AreWritableQuota};
 ghost use Rattle.qg_extents.specs.Written.{items_of_book};
 ghost use Rattle.qg_other_trees.specs.Trees.{
@@ -25,7 +25,6 @@ ghost use Rattle.qg_other_trees.specs.Trees.{
 };
 ghost use Rattle.qg_check.specs.Editable.{AreSubvolumes};
 
-use qg_contents::root_items;
 use qg_extents::Extents;
 use qg_image::Quota;
 use qg_items::RootItem;
@@ -33,7 +32,8 @@ use qg_items::tree::{EXTENT_TREE, QUOTA_TREE, ROOT_TREE};
 use qg_node::Node;
 use qg_num::{Address, Generation, NoMemory, RootId};
 use qg_quota::quota_items;
-use qg_tree::{Built, build};
+use qg_root_items::root_items;
+use qg_tree_layout::{Built, build};
 use std::alloc::Global;
 
 // The extent tree, with the items of a book.

@@ -1,14 +1,10 @@
 -- The texts of bodies are bytes.
-use Rattle.std.proofs.Common.{ℕ, ◌<◌, ◌^◌, List, [], lit<}
+use Rattle.std.proofs.Common.{[], lit<}
 use Rattle.qg_num.proofs.AreBytes.{AreBytes, append, of_zeros, of_u64}
-use Rattle.qg_node.specs.Fits.{ItemFits}
 use Rattle.qg_items.specs.declared.quota.QgroupStatus.{QgroupStatus}
 use Rattle.qg_items.specs.declared.quota.QgroupInfo.{QgroupInfo}
 use Rattle.qg_items.specs.declared.quota.QgroupLimit.{QgroupLimit}
 use Rattle.qg_items.specs.ItemText.{status_text, info_text, limit_text}
-use Rattle.qg_quota.specs.Written.{item_under}
-
--- ---- each body
 
 pub status_text-AreBytes : (status : QgroupStatus) → AreBytes (status_text status)
 unfolding status_text
@@ -28,12 +24,3 @@ limit_text-AreBytes limit =
 
 pub nothing-AreBytes : AreBytes []
 nothing-AreBytes = record { are = λ i. lit< tt }
-
--- ---- an item
-
--- an item with such a body fits
-pub item-fits : (objectid kind offset : ℕ) (body : List ℕ) → objectid < 2 ^ 64 → kind < 256 → offset < 2 ^ 64
-    → AreBytes body
-    → ItemFits (item_under objectid kind offset body)
-item-fits objectid kind offset body object_fits kind_fits offset_fits are =
-    record { key = record { objectid = object_fits; kind = kind_fits; offset = offset_fits }; body = are.are }

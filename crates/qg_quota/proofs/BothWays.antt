@@ -13,10 +13,10 @@ use Rattle.std.proofs.lemmas.List.Sums.{fold_more}
 use Rattle.std.proofs.lemmas.Map.Keys.{sorted_head, sorted_tail}
 use Rattle.qg_image.specs.Members.{level_of_group}
 use Rattle.qg_machine.specs.GroupChange.{has_pair, same_pair, with_pair}
-use Rattle.qg_hier.specs.Groups.{pair_cmp}
-use Rattle.qg_hier.proofs.Lists.{any_same, or_false}
-use Rattle.qg_hier.proofs.Sets.{pair_order}
-use Rattle.qg_groups.proofs.Pairs.{pair-put, pair-there}
+use Rattle.qg_qgroups.specs.Groups.{pair_cmp}
+use Rattle.qg_qgroups.proofs.Lists.{any_same, or_false}
+use Rattle.qg_qgroups.proofs.Sets.{pair_order}
+use Rattle.qg_qgroups.proofs.RelatedPairs.{pair-put, pair-there}
 use Rattle.qg_quota.specs.Written.{both_ways}
 
 -- ---- one pair

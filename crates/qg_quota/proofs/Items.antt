@@ -21,19 +21,20 @@ use Rattle.qg_items.proofs.QuotaBodies.{length-status_text, length-info_text, le
 use Rattle.qg_items.proofs.QuotaBodies.{status_read-status_text, info_read-info_text, limit_read-limit_text}
 use Rattle.qg_image.specs.declared.part.QuotaPart.TheVariants.{Status}
 use Rattle.qg_image.specs.ItemMeaning.{quota_part}
-use Rattle.qg_parts.specs.Keys.{key_with}
-use Rattle.qg_parts.proofs.Parts.{and-false}
+use Rattle.qg_tree_items.specs.Keys.{key_with}
+use Rattle.qg_tree_items.proofs.Parts.{and-false}
 use Rattle.qg_image.specs.declared.quota.Group.{Group}
 use Rattle.qg_image.specs.declared.quota.Quota.{Quota}
 use Rattle.qg_image.specs.Members.{hierarchy_of}
-use Rattle.qg_hier.specs.Groups.{IsSound}
-use Rattle.qg_image.specs.declared.tree.Tree.TheVariants.{Quotas}
+use Rattle.qg_qgroups.specs.Groups.{IsSound}
+use Rattle.qg_image.specs.declared.tree.TreeKind.TheVariants.{Quotas}
 use Rattle.qg_image.specs.Walk.{is_item_of}
 use Rattle.qg_quota.specs.Writable.{GroupFits, PairFits}
 use Rattle.qg_quota.specs.Written.{both_ways, info_of, info_part, item_of_info, item_of_limit, item_of_relation}
 use Rattle.qg_quota.specs.Written.{item_of_status, items_of_groups, items_of_quota, limit_of, flag_of, limit_part}
 use Rattle.qg_quota.specs.Written.{parts_of_quota, relation_part, status_at}
-use Rattle.qg_quota.proofs.Bodies.{item-fits, status_text-AreBytes, info_text-AreBytes, limit_text-AreBytes}
+use Rattle.qg_node.proofs.ItemUnder.{item-fits}
+use Rattle.qg_quota.proofs.Bodies.{status_text-AreBytes, info_text-AreBytes, limit_text-AreBytes}
 use Rattle.qg_quota.proofs.Bodies.{nothing-AreBytes}
 use Rattle.qg_quota.proofs.BothWays.{both-length, both-sorted}
 use Rattle.qg_quota.proofs.Rising.{Above, Rises, Rises-sorted, before_info, before_limit, both, relations-behind}

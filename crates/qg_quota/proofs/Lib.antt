@@ -7,7 +7,7 @@ pub mod ToldBack
 pub mod Lists
 pub mod Said
 pub mod Same
-pub mod Whole
+pub mod KindsInOrder
 pub mod ReadBack
 pub mod WrittenBack
 pub mod Taken

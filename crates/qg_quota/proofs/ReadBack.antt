@@ -16,12 +16,12 @@ use Rattle.qg_image.specs.declared.quota.Group.{Group}
 use Rattle.qg_image.specs.declared.quota.Quota.{Quota}
 use Rattle.qg_image.specs.Members.{hierarchy_of, level_of_group}
 use Rattle.qg_machine.specs.GroupChange.{has_pair, same_pair}
-use Rattle.qg_hier.specs.Groups.{IsSound, pair_cmp}
-use Rattle.qg_hier.proofs.Lists.{same_tests}
-use Rattle.qg_hier.proofs.Sets.{pair_is}
+use Rattle.qg_qgroups.specs.Groups.{IsSound, pair_cmp}
+use Rattle.qg_qgroups.proofs.Lists.{same_tests}
+use Rattle.qg_qgroups.proofs.Sets.{pair_is}
 use Rattle.qg_image.specs.ImageState.{group_told, info_told, limit_told, max_excl_told, max_rfer_told, pair_told}
 use Rattle.qg_image.specs.ImageState.{quota_told}
-use Rattle.qg_quota.specs.Told.{relation_told, rises}
+use Rattle.qg_quota.specs.QuotaKinds.{relation_told, rises}
 use Rattle.qg_quota.specs.Written.{both_ways, info_of, info_part, limit_of, limit_part, parts_of_quota, relation_part}
 use Rattle.qg_quota.proofs.BothWays.{both-has, both-sorted}
 use Rattle.qg_quota.proofs.Rising.{Above, Rises, Rises-sorted}

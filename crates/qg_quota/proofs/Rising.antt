@@ -13,8 +13,8 @@ use Rattle.qg_num.specs.Key.{key_cmp}
 use Rattle.qg_node.specs.declared.item.Item.{Item}
 use Rattle.qg_node.specs.Nodes.{ascends_from}
 use Rattle.qg_image.specs.Table.{keys_of}
-use Rattle.qg_parts.specs.Keys.{key_with}
-use Rattle.qg_hier.specs.Groups.{pair_cmp}
+use Rattle.qg_tree_items.specs.Keys.{key_with}
+use Rattle.qg_qgroups.specs.Groups.{pair_cmp}
 use Rattle.qg_quota.specs.Written.{item_of_relation}
 
 -- entries ascend by number, and all are above one

@@ -13,8 +13,8 @@ use Rattle.qg_node.specs.Nodes.{is_ascending}
 use Rattle.qg_items.proofs.Trips.{then_some_parts}
 use Rattle.qg_image.specs.declared.part.QuotaPart.{QuotaPart}
 use Rattle.qg_image.specs.ItemMeaning.{quota_part, when}
-use Rattle.qg_parts.specs.Keys.{quota_key}
-use Rattle.qg_image.specs.declared.tree.Tree.TheVariants.{Quotas}
+use Rattle.qg_tree_items.specs.Keys.{quota_key}
+use Rattle.qg_image.specs.declared.tree.TreeKind.TheVariants.{Quotas}
 use Rattle.qg_image.specs.Walk.{is_item_of}
 use Rattle.qg_quota.specs.Quota.{items_rule, quota_rule}
 use Rattle.qg_quota.proofs.Lists.{all-more, filter_map-more}

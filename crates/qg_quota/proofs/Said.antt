@@ -23,9 +23,9 @@ use Rattle.qg_items.proofs.Trips.{then_some_parts}
 use Rattle.qg_image.specs.declared.part.QuotaPart.{QuotaPart}
 use Rattle.qg_image.specs.declared.part.QuotaPart.TheVariants.{Status, Info, Limits, Relation}
 use Rattle.qg_image.specs.ItemMeaning.{when, ◌orelse◌, is_keyed, is_status, quota_part, quota_part_stamps, some_passes}
-use Rattle.qg_parts.specs.Keys.{quota_key}
-use Rattle.qg_parts.proofs.Keys.{quota_keyed, quotas_ascending}
-use Rattle.qg_image.specs.declared.tree.Tree.TheVariants.{Quotas}
+use Rattle.qg_tree_items.specs.Keys.{quota_key}
+use Rattle.qg_tree_items.proofs.KeysOfParts.{quota_keyed, quotas_ascending}
+use Rattle.qg_image.specs.declared.tree.TreeKind.TheVariants.{Quotas}
 use Rattle.qg_image.specs.Walk.{are_by, is_item_of, tells_generation}
 
 -- ---- one item

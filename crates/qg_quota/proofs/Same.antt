@@ -9,9 +9,9 @@ use Rattle.std.proofs.lemmas.Bool.Decides.{nat_tests}
 use Rattle.std.proofs.lemmas.Cmp.{tied_itself}
 use Rattle.std.proofs.lemmas.Map.Keys.{sorted_head, sorted_tail}
 use Rattle.qg_machine.specs.GroupChange.{has_pair, same_pair}
-use Rattle.qg_hier.specs.Groups.{pair_cmp}
-use Rattle.qg_hier.proofs.Lists.{same_tests}
-use Rattle.qg_hier.proofs.Sets.{pair_is, pair_order}
+use Rattle.qg_qgroups.specs.Groups.{pair_cmp}
+use Rattle.qg_qgroups.proofs.Lists.{same_tests}
+use Rattle.qg_qgroups.proofs.Sets.{pair_is, pair_order}
 
 own : (a b : ℕ) → same_pair (a, b) (a, b) ≡ true
 own a b = grind (arith, nat_tests)

@@ -16,10 +16,10 @@ use Rattle.std.proofs.lemmas.List.Sorted.{IsPartitionedBy-ltb, IsPartitionPoint-
 use Rattle.std.proofs.lemmas.Map.Keys.{Less-from_sorted}
 use Rattle.qg_image.specs.Table.{keys_of}
 use Rattle.qg_machine.specs.GroupChange.{has_pair, same_pair}
-use Rattle.qg_hier.specs.Groups.{pair_cmp}
-use Rattle.qg_hier.proofs.Sets.{pair_is, pair_order}
-use Rattle.qg_groups.proofs.Pairs.{pair-there}
-use Rattle.qg_groups.proofs.Tables.{numbers-rise}
+use Rattle.qg_qgroups.specs.Groups.{pair_cmp}
+use Rattle.qg_qgroups.proofs.Sets.{pair_is, pair_order}
+use Rattle.qg_qgroups.proofs.RelatedPairs.{pair-there}
+use Rattle.qg_qgroups.proofs.Tables.{numbers-rise}
 
 -- ---- two pairs
 

@@ -16,9 +16,9 @@ use Rattle.qg_image.specs.declared.quota.Group.{Group}
 use Rattle.qg_image.specs.declared.quota.Quota.{Quota}
 use Rattle.qg_image.specs.Members.{hierarchy_of, level_of_group}
 use Rattle.qg_machine.specs.GroupChange.{has_pair}
-use Rattle.qg_hier.specs.Groups.{IsSound, is_kept}
-use Rattle.qg_groups.proofs.Pairs.{pair-there}
-use Rattle.qg_groups.proofs.Tables.{each-found, key-found}
+use Rattle.qg_qgroups.specs.Groups.{IsSound, is_kept}
+use Rattle.qg_qgroups.proofs.RelatedPairs.{pair-there}
+use Rattle.qg_qgroups.proofs.Tables.{each-found, key-found}
 use Rattle.qg_image.specs.ImageState.{info_told, limit_told}
 use Rattle.qg_image.specs.Verdict.{are_few, fits_quota, has_twin, is_group_number, is_limit, is_plain, is_quota}
 use Rattle.qg_image.specs.Verdict.{is_relation_part, most_groups, most_relations}

@@ -22,19 +22,19 @@ use Rattle.qg_items.specs.declared.quota.QgroupLimit.{QgroupLimit}
 use Rattle.qg_image.specs.Table.{has_key, keys_of, value_at}
 use Rattle.qg_image.specs.declared.part.QuotaPart.{QuotaPart}
 use Rattle.qg_image.specs.declared.part.QuotaPart.TheVariants.{Status, Info, Limits, Relation}
-use Rattle.qg_parts.specs.Keys.{key_with, quota_key}
+use Rattle.qg_tree_items.specs.Keys.{key_with, quota_key}
 use Rattle.qg_image.specs.Members.{hierarchy_of, level_of_group}
 use Rattle.qg_image.specs.declared.quota.Group.{Group}
 use Rattle.qg_image.specs.declared.quota.Quota.{Quota}
 use Rattle.qg_machine.specs.GroupChange.{has_pair, same_pair}
-use Rattle.qg_hier.specs.Groups.{IsSound, has_number, is_kept, pair_cmp}
-use Rattle.qg_hier.proofs.Sets.{pair_flipped, pair_is}
-use Rattle.qg_groups.proofs.Tables.{key-found}
+use Rattle.qg_qgroups.specs.Groups.{IsSound, has_number, is_kept, pair_cmp}
+use Rattle.qg_qgroups.proofs.Sets.{pair_flipped, pair_is}
+use Rattle.qg_qgroups.proofs.Tables.{key-found}
 use Rattle.qg_image.specs.ImageState.{group_told, info_told, limit_told, pair_told, quota_told}
 use Rattle.qg_image.specs.Verdict.{are_few, fits_quota, has_twin, is_group_number, is_limit, is_plain, is_quota}
 use Rattle.qg_image.specs.Verdict.{is_relation_part, is_status_part, most_groups, most_relations}
-use Rattle.qg_quota.specs.declared.told.Told.{Told}
-use Rattle.qg_quota.specs.Told.{are_told, fits_told, group_by, relation_told, rises, Ascends, AreTold}
+use Rattle.qg_quota.specs.declared.told.QuotaItems.{QuotaItems}
+use Rattle.qg_quota.specs.QuotaKinds.{are_told, fits_told, group_by, relation_told, rises, Ascends, AreTold}
 
 -- ---- one item
 
@@ -85,7 +85,7 @@ pub relations-counted : (parts : List QuotaPart)
 relations-counted parts =
     sym (is_count_by (λ list. length (filter_map relation_told list)) is_relation_part refl one_relation parts)
 
-module _ (parts : List QuotaPart) (told : Told) (are : AreTold parts told) where
+module _ (parts : List QuotaPart) (told : QuotaItems) (are : AreTold parts told) where
   pub fits-one : (part : QuotaPart) → fits_quota parts part ≡ fits_told told part
   fits-one (Status status) = refl
   fits-one (Info group info) = ap (λ (limits : List (ℕ × QgroupLimit)). has_key group limits && is_group_number group
@@ -235,7 +235,7 @@ relations-ascend (Relation group other ∷ parts) up = (
 )
 
 -- each kind ascends where the items' keys do
-pub told-ascends : (parts : List QuotaPart) (told : Told) → AreTold parts told
+pub told-ascends : (parts : List QuotaPart) (told : QuotaItems) → AreTold parts told
     → is_ascending (map quota_key parts) ≡ true → Ascends told
 told-ascends parts told are up =
     let keys = keys-sorted (map quota_key parts) up in
@@ -269,7 +269,7 @@ abbrev pub group_with : List (ℕ × QgroupLimit) → ℕ × QgroupInfo → ℕ 
 group_with limits entry = (entry.0, group_told entry.1 (value_at entry.0 limits))
 
 -- groups by their counters, each with its limits, and those relations, are the quota that is told
-pub quota-is : (parts : List QuotaPart) (told : Told) (quota : Quota) → AreTold parts told
+pub quota-is : (parts : List QuotaPart) (told : QuotaItems) (quota : Quota) → AreTold parts told
     → quota.groups ≡ map (group_by told) told.infos
     → quota.pairs ≡ filter rises told.relations.items → quota ≡ quota_told parts
 unfolding quota_told
@@ -304,11 +304,12 @@ relation_passes test (Relation group other ∷ parts) a b all has =
       | inr later ↦ relation_passes test parts a b both.1 later
     ]
 
-keys_by : (told : Told) (infos : List (ℕ × QgroupInfo)) → keys_of (map (group_by told) infos) ≡ keys_of infos
+keys_by : (told : QuotaItems) (infos : List (ℕ × QgroupInfo)) → keys_of (map (group_by told) infos) ≡ keys_of infos
 keys_by told [] = refl
 keys_by told (info ∷ infos) = ap (λ (keys : List ℕ). info.0 ∷ keys) (keys_by told infos)
 
-module _ (parts : List QuotaPart) (told : Told) (are : AreTold parts told) (ascends : Ascends told) (live : List ℕ)
+module _ (parts : List QuotaPart) (told : QuotaItems) (are : AreTold parts told) (ascends : Ascends told)
+    (live : List ℕ)
     (sound : is_quota live parts ≡ true) where
   all_fit : list_all (fits_told told) parts ≡ true
   all_fit =

@@ -21,22 +21,22 @@ use Rattle.qg_image.specs.ItemMeaning.{quota_part}
 use Rattle.qg_image.specs.Table.{has_key, keys_of, value_at}
 use Rattle.qg_image.specs.declared.part.QuotaPart.{QuotaPart}
 use Rattle.qg_image.specs.declared.part.QuotaPart.TheVariants.{Status, Info, Limits, Relation}
-use Rattle.qg_parts.specs.Keys.{quota_key}
+use Rattle.qg_tree_items.specs.Keys.{quota_key}
 use Rattle.qg_image.specs.declared.quota.Group.{Group}
 use Rattle.qg_image.specs.Members.{level_of_group}
 use Rattle.qg_machine.specs.GroupChange.{has_pair, same_pair}
-use Rattle.qg_hier.specs.Groups.{has_number}
-use Rattle.qg_hier.proofs.Lists.{same_tests}
-use Rattle.qg_hier.proofs.Order.{same_numbers}
-use Rattle.qg_hier.proofs.Sets.{pair_is}
-use Rattle.qg_groups.proofs.Tables.{each-found, key-found}
-use Rattle.qg_image.specs.declared.tree.Tree.TheVariants.{Quotas}
+use Rattle.qg_qgroups.specs.Groups.{has_number}
+use Rattle.qg_qgroups.proofs.Lists.{same_tests}
+use Rattle.qg_qgroups.proofs.Order.{same_numbers}
+use Rattle.qg_qgroups.proofs.Sets.{pair_is}
+use Rattle.qg_qgroups.proofs.Tables.{each-found, key-found}
+use Rattle.qg_image.specs.declared.tree.TreeKind.TheVariants.{Quotas}
 use Rattle.qg_image.specs.ImageState.{info_told, limit_told, max_excl_told, max_rfer_told, pair_told, quota_told}
 use Rattle.qg_image.specs.Verdict.{are_few, fits_quota, has_twin, is_group_number, is_limit, is_plain, is_quota}
 use Rattle.qg_image.specs.Verdict.{is_status_part}
 use Rattle.qg_image.specs.Walk.{are_by, is_item_of}
 use Rattle.qg_quota.specs.Quota.{items_rule}
-use Rattle.qg_quota.specs.Told.{relation_told, rises}
+use Rattle.qg_quota.specs.QuotaKinds.{relation_told, rises}
 use Rattle.qg_quota.specs.Written.{both_ways, info_of, item_of_info, item_of_limit, item_of_relation, item_of_status}
 use Rattle.qg_quota.specs.Written.{items_of_quota, limit_of, relation_part, status_at}
 use Rattle.qg_quota.proofs.BothWays.{both-has, both-sorted}
@@ -45,7 +45,7 @@ use Rattle.qg_quota.proofs.Said.{is_known, item_of_part, items-said, passes, sai
 use Rattle.qg_quota.proofs.Same.{same-pairs}
 use Rattle.qg_quota.proofs.ToldBack.{IsSorted, group_with, infos-ascend, keys-sorted, limit-is, limits-ascend}
 use Rattle.qg_quota.proofs.ToldBack.{pairs-told, relation_passes, relations-ascend, twin_is, twins}
-use Rattle.qg_quota.proofs.Whole.{laid, one-status, status_told, whole}
+use Rattle.qg_quota.proofs.KindsInOrder.{laid, one-status, status_told, whole}
 
 -- ---- what holds of all parts holds of those of each kind
 

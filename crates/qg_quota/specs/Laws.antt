@@ -8,7 +8,7 @@ use Rattle.qg_image.specs.ItemMeaning.{quota_part}
 use Rattle.qg_image.specs.Table.{has_key}
 use Rattle.qg_image.specs.declared.quota.Quota.{Quota}
 use Rattle.qg_image.specs.Members.{hierarchy_of}
-use Rattle.qg_hier.specs.Groups.{IsSound}
+use Rattle.qg_qgroups.specs.Groups.{IsSound}
 use Rattle.qg_image.specs.ImageState.{quota_told}
 use Rattle.qg_image.specs.Verdict.{is_group_number, most_groups, most_relations}
 use Rattle.qg_quota.specs.Quota.{items_rule, quota_rule}

@@ -1,5 +1,5 @@
 pub mod Written
 pub mod Writable
-pub mod Told
+pub mod QuotaKinds
 pub mod Quota
 pub mod Laws

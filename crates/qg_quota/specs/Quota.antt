@@ -6,7 +6,7 @@ use Rattle.qg_num.specs.declared.rule.Rule.TheVariants as rule
 use Rattle.qg_node.specs.declared.item.Item.{Item}
 use Rattle.qg_image.specs.declared.part.QuotaPart.{QuotaPart}
 use Rattle.qg_image.specs.ItemMeaning.{quota_part}
-use Rattle.qg_image.specs.declared.tree.Tree.TheVariants.{Quotas}
+use Rattle.qg_image.specs.declared.tree.TreeKind.TheVariants.{Quotas}
 use Rattle.qg_image.specs.Walk.{is_item_of}
 use Rattle.qg_image.specs.Verdict.{is_quota, are_few}
 use Rattle.qg_quota.specs.declared.fault.QuotaFault.{QuotaFault}

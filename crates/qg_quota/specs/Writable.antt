@@ -4,7 +4,7 @@ use Rattle.std.specs.List.{All}
 use Rattle.qg_image.specs.declared.quota.Group.{Group}
 use Rattle.qg_image.specs.declared.quota.Quota.{Quota}
 use Rattle.qg_image.specs.Members.{hierarchy_of}
-use Rattle.qg_hier.specs.Groups.{IsSound}
+use Rattle.qg_qgroups.specs.Groups.{IsSound}
 
 -- groups and relations are sound, so groups ascend by number; and no commit past this generation changed a group's
 -- counters

@@ -2,6 +2,7 @@
 use Rattle.std.specs.Prelude.{ℕ, ◌+◌, List, [], ◌∷◌, ◌++◌, map, Option, Some, None, unwrap_or}
 use Rattle.std.specs.List.{fold}
 use Rattle.qg_num.specs.declared.counters.Counters.{Counters}
+use Rattle.qg_node.specs.Nodes.{item_under}
 use Rattle.qg_node.specs.declared.item.Item.{Item}
 use Rattle.qg_items.specs.declared.kind.TheConstants.{QGROUP_STATUS, QGROUP_INFO, QGROUP_LIMIT, QGROUP_RELATION}
 use Rattle.qg_items.specs.declared.quota.QgroupStatus.{QgroupStatus}
@@ -71,13 +72,6 @@ parts_of_quota generation quota =
     ++ map relation_part (both_ways quota.pairs)
 
 -- ---- the items
-
--- the item under a key
-abbrev pub item_under : ℕ → ℕ → ℕ → List ℕ → Item
-item_under objectid kind offset body = record {
-  key = record { objectid = objectid; kind = kind; offset = offset };
-  body = body;
-}
 
 -- the item of the state of quota
 abbrev pub item_of_status : QgroupStatus → Item

@@ -8,7 +8,6 @@ ghost use Rattle.qg_quota.specs.Written.{
   item_of_limit,
   item_of_relation,
   item_of_status,
-  item_under,
   limit_of,
 };
 
@@ -18,30 +17,9 @@ use qg_items::{
     QGROUP_INFO_BYTES, QGROUP_LIMIT_BYTES, QGROUP_STATUS_BYTES, QgroupInfo, QgroupLimit,
     QgroupStatus, write_info, write_limit, write_status,
 };
-use qg_node::{Body, Item};
-use qg_num::{Counters, Generation, GroupId, Key};
+use qg_node::Item;
+use qg_num::{Counters, Generation, GroupId};
 use std::alloc::{AllocError, Global};
-
-// The item under a key, its offset in the unit of its kind.
-fn item_under(
-    alloc: Global,
-    objectid: u64,
-    kind: u8,
-    offset: u64,
-    bytes: &[u8],
-) -> Result<Item, AllocError>
-    ensures { IfOk result (λ item. item ≡ item_under objectid kind offset bytes.now) }
-{
-    let key = Key {
-        objectid,
-        kind,
-        offset,
-    };
-    Ok(Item {
-        key,
-        body: Body::from_slice(alloc, bytes)?,
-    })
-}
 
 /// The state of quota.
 pub(crate) fn status_item(alloc: Global, status: &QgroupStatus) -> Result<Item, AllocError>
@@ -49,7 +27,7 @@ pub(crate) fn status_item(alloc: Global, status: &QgroupStatus) -> Result<Item, 
 {
     let mut bytes = [0; QGROUP_STATUS_BYTES];
     write_status(status, &mut bytes);
-    item_under(alloc, 0, QGROUP_STATUS, 0, &bytes)
+    Item::new(alloc, 0, QGROUP_STATUS, 0, &bytes)
 }
 
 /// A group's counters.
@@ -61,7 +39,7 @@ pub(crate) fn info_item(alloc: Global, entry: &(GroupId, Group)) -> Result<Item,
     let info = info_of(entry.1.stamp, &entry.1.counters);
     let mut bytes = [0; QGROUP_INFO_BYTES];
     write_info(&info, &mut bytes);
-    item_under(alloc, 0, QGROUP_INFO, number, &bytes)
+    Item::new(alloc, 0, QGROUP_INFO, number, &bytes)
 }
 
 // The counters, which the commit `stamp` changed last.
@@ -100,7 +78,7 @@ pub(crate) fn limit_item(alloc: Global, entry: &(GroupId, Group)) -> Result<Item
     let limit = limit_of(entry.1.max_rfer, entry.1.max_excl);
     let mut bytes = [0; QGROUP_LIMIT_BYTES];
     write_limit(&limit, &mut bytes);
-    item_under(alloc, 0, QGROUP_LIMIT, entry.0.number(), &bytes)
+    Item::new(alloc, 0, QGROUP_LIMIT, entry.0.number(), &bytes)
 }
 
 // The limits, with the flags of those that are set.
@@ -131,5 +109,5 @@ fn flag_of(flag: u64, most: Option<u64>) -> u64
 pub(crate) fn relation_item(alloc: Global, group: u64, other: u64) -> Result<Item, AllocError>
     ensures { IfOk result (λ item. item ≡ item_of_relation (group, other)) }
 {
-    item_under(alloc, group, QGROUP_RELATION, other, &[])
+    Item::new(alloc, group, QGROUP_RELATION, other, &[])
 }

@@ -1,7 +1,7 @@
 // Relations, from the member to the parent and from the parent to the member.
 ghost use Rattle.std.specs.Prelude.{◌≡◌, IfOk, OnOk};
 ghost use Rattle.qg_machine.specs.GroupChange.{with_pair};
-ghost use Rattle.qg_hier.specs.Kept.{PairsFit};
+ghost use Rattle.qg_qgroups.specs.Kept.{PairsFit};
 ghost use Rattle.qg_quota.specs.Written.{both_ways};
 
 use qg_num::GroupId;

@@ -3,16 +3,16 @@ ghost use Rattle.std.specs.Prelude.{◌≡◌, ◌++◌, ◌∷◌, [], map, Non
 ghost use Rattle.std.specs.List.{filter};
 ghost use Rattle.qg_node.specs.Nodes.{is_ascending};
 ghost use Rattle.qg_image.specs.Table.{keys_of};
-ghost use Rattle.qg_parts.specs.Keys.{quota_key};
+ghost use Rattle.qg_tree_items.specs.Keys.{quota_key};
 ghost use Rattle.qg_image.specs.Members.{hierarchy_of};
-ghost use Rattle.qg_hier.specs.Groups.{IsSound};
+ghost use Rattle.qg_qgroups.specs.Groups.{IsSound};
 ghost use Rattle.qg_image.specs.ImageState.{group_told, max_excl_told, max_rfer_told, quota_told};
-ghost use Rattle.qg_quota.specs.Told.{group_by, rises, Ascends};
+ghost use Rattle.qg_quota.specs.QuotaKinds.{group_by, rises, Ascends};
 ghost use Rattle.qg_quota.specs.Quota.{quota_rule, IfRule};
 
 use crate::fault::QuotaFault;
 use crate::rules::{are_few, is_quota, value_of};
-use crate::told::{Told, told_by};
+use crate::told::{QuotaItems, told_by};
 use qg_image::{Group, Quota, QuotaPart, RootPart};
 use qg_items::{QgroupInfo, QgroupLimit};
 use qg_num::{Counters, GroupId, RootId, Rule, Sequence};
@@ -74,7 +74,7 @@ pub(crate) fn read_live(
 }
 
 // The groups that counters tell, with their limits.
-fn groups_of(alloc: Global, told: &Told) -> Result<Sequence<(GroupId, Group)>, AllocError>
+fn groups_of(alloc: Global, told: &QuotaItems) -> Result<Sequence<(GroupId, Group)>, AllocError>
     requires { Ascends told.now }
     ensures { IfOk result (λ groups. groups ≡ map (group_by told.now) told.now.infos) }
 {

@@ -5,16 +5,16 @@ ghost use Rattle.std.specs.List.Sorted.{IsStrictlySortedBy};
 ghost use Rattle.std.specs.Ordering.{nat_cmp};
 ghost use Rattle.qg_image.specs.Table.{has_key, keys_of, value_at};
 ghost use Rattle.qg_machine.specs.GroupChange.{has_pair};
-ghost use Rattle.qg_hier.specs.Groups.{pair_cmp};
+ghost use Rattle.qg_qgroups.specs.Groups.{pair_cmp};
 ghost use Rattle.qg_image.specs.Verdict.{are_few, is_group_number, is_limit, is_plain, is_quota, is_status_part};
 ghost use Rattle.qg_image.specs.Verdict.{most_groups, most_relations};
-ghost use Rattle.qg_quota.specs.Told.{are_told, fits_told, Ascends, AreTold};
+ghost use Rattle.qg_quota.specs.QuotaKinds.{are_told, fits_told, Ascends, AreTold};
 
-use crate::told::Told;
+use crate::told::QuotaItems;
 use qg_image::QuotaPart;
 use qg_items::{QgroupInfo, QgroupLimit};
 use qg_num::{GroupId, RootId};
-use qg_parts::is_subvolume_number;
+use qg_tree_items::is_subvolume_number;
 
 // The most groups that are served.
 const MOST_GROUPS: usize = 4096;
@@ -23,7 +23,7 @@ const MOST_GROUPS: usize = 4096;
 const MOST_RELATIONS: usize = 16384;
 
 /// Whether the quota items, which tell this, fit each other and the live subvolumes.
-pub(crate) fn is_quota(told: &Told, live: &[RootId], parts: &[QuotaPart]) -> bool
+pub(crate) fn is_quota(told: &QuotaItems, live: &[RootId], parts: &[QuotaPart]) -> bool
     requires told { AreTold parts.now told.now }
     requires ascends { Ascends told.now }
     ensures { result ≡ is_quota live.now parts.now }
@@ -32,7 +32,7 @@ pub(crate) fn is_quota(told: &Told, live: &[RootId], parts: &[QuotaPart]) -> boo
 }
 
 // The same, by what each kind tells.
-fn are_told(told: &Told, live: &[RootId], parts: &[QuotaPart]) -> bool
+fn are_told(told: &QuotaItems, live: &[RootId], parts: &[QuotaPart]) -> bool
     requires { Ascends told.now }
     ensures { result ≡ are_told told.now live.now parts.now }
 {
@@ -47,7 +47,7 @@ fn has_status(parts: &[QuotaPart]) -> bool
         .any(|part| matches!(part, QuotaPart::Status { .. }))
 }
 
-fn are_fitting(told: &Told, parts: &[QuotaPart]) -> bool
+fn are_fitting(told: &QuotaItems, parts: &[QuotaPart]) -> bool
     requires { Ascends told.now }
     ensures { result ≡ list_all (fits_told told.now) parts.now }
 {
@@ -60,7 +60,7 @@ fn are_fitting(told: &Told, parts: &[QuotaPart]) -> bool
 }
 
 // Whether an item fits the others.
-fn fits_told(told: &Told, part: &QuotaPart) -> bool
+fn fits_told(told: &QuotaItems, part: &QuotaPart) -> bool
     requires { Ascends told.now }
     ensures { result ≡ fits_told told.now part.now }
 {
@@ -135,7 +135,7 @@ fn is_limit(limit: &QgroupLimit) -> bool
 }
 
 // Whether each live subvolume's group has counters.
-fn are_counted(told: &Told, live: &[RootId]) -> bool
+fn are_counted(told: &QuotaItems, live: &[RootId]) -> bool
     requires { Ascends told.now }
     ensures { result ≡ list_all (λ sub. has_key sub told.now.infos) live.now }
 {
@@ -148,7 +148,7 @@ fn are_counted(told: &Told, live: &[RootId]) -> bool
 }
 
 /// Whether there are no more groups and relations than are served.
-pub(crate) fn are_few(told: &Told, parts: &[QuotaPart]) -> bool
+pub(crate) fn are_few(told: &QuotaItems, parts: &[QuotaPart]) -> bool
     requires { AreTold parts.now told.now }
     ensures { result ≡ are_few parts.now }
 {
@@ -156,7 +156,7 @@ pub(crate) fn are_few(told: &Told, parts: &[QuotaPart]) -> bool
 }
 
 // The same, by what each kind tells.
-fn are_few_told(told: &Told) -> bool
+fn are_few_told(told: &QuotaItems) -> bool
     ensures { result ≡ (nat_le (length told.now.infos) most_groups && nat_le (length told.now.relations.items)
         (2 * most_relations)) }
 {

@@ -5,23 +5,23 @@ ghost use Rattle.std.specs.List.{filter_map, list_all};
 ghost use Rattle.qg_node.specs.Fits.{ItemFits};
 ghost use Rattle.qg_node.specs.Nodes.{is_ascending};
 ghost use Rattle.qg_image.specs.ItemMeaning.{quota_part};
-ghost use Rattle.qg_parts.specs.Keys.{quota_key};
+ghost use Rattle.qg_tree_items.specs.Keys.{quota_key};
 ghost use Rattle.qg_image.specs.ImageState.{quota_told};
 ghost use Rattle.qg_image.specs.Walk.{is_item_of};
-ghost use Rattle.qg_image.specs.declared.tree.Tree.TheVariants.{Quotas};
-ghost use Rattle.qg_groups.specs.Tracked.{HoldsAll, IsTracked};
+ghost use Rattle.qg_image.specs.declared.tree.TreeKind.TheVariants.{Quotas};
+ghost use Rattle.qg_qgroups.specs.Tracked.{HoldsAll, IsTracked};
 ghost use Rattle.qg_quota.specs.Quota.{items_rule, quota_rule, IfRule};
 ghost use Rattle.qg_quota.specs.Written.{items_of_quota, parts_of_quota, status_at};
 
 use crate::fault::QuotaFault;
 use crate::reading::read_live;
 use crate::writing::items_of_quota;
-use qg_groups::QuotaState;
 use qg_image::QuotaPart;
 use qg_items::QgroupStatus;
 use qg_node::{Item, Items};
 use qg_num::{Generation, NoMemory, RootId, Rule, Sequence};
-use qg_parts::TreePart;
+use qg_qgroups::QuotaState;
+use qg_tree_items::TreePart;
 use std::alloc::{AllocError, Global};
 
 /// The items of the quota tree of an image of this generation, ascending by key, as `quota_items` has them.

@@ -2,7 +2,7 @@
 ghost use Rattle.std.specs.Prelude.{◌≡◌, ◌++◌, ◌∷◌, [], IfOk, OnOk};
 ghost use Rattle.std.specs.List.{filter_map};
 ghost use Rattle.qg_image.specs.ImageState.{info_told, limit_told};
-ghost use Rattle.qg_quota.specs.Told.{relation_told, AreTold};
+ghost use Rattle.qg_quota.specs.QuotaKinds.{relation_told, AreTold};
 
 use qg_image::QuotaPart;
 use qg_items::{QgroupInfo, QgroupLimit};
@@ -11,7 +11,7 @@ use std::alloc::{AllocError, Global};
 
 /// What quota items tell, each kind in the items' order.
 #[derive(Drop)]
-pub(crate) struct Told {
+pub(crate) struct QuotaItems {
     /// Groups with their counters.
     pub(crate) infos: Sequence<(GroupId, QgroupInfo)>,
     /// Groups with their limits.
@@ -21,10 +21,10 @@ pub(crate) struct Told {
 }
 
 /// What these items tell.
-pub(crate) fn told_by(alloc: Global, parts: &[QuotaPart]) -> Result<Told, AllocError>
+pub(crate) fn told_by(alloc: Global, parts: &[QuotaPart]) -> Result<QuotaItems, AllocError>
     ensures { IfOk result (AreTold parts.now) }
 {
-    let mut told = Told {
+    let mut told = QuotaItems {
         infos: Sequence::new(alloc),
         limits: Sequence::new(alloc),
         relations: Vec::new(alloc),
@@ -36,7 +36,7 @@ pub(crate) fn told_by(alloc: Global, parts: &[QuotaPart]) -> Result<Told, AllocE
 }
 
 // Puts what one item more tells at the end.
-fn put_part(part: &QuotaPart, told: &mut Told) -> Result<(), AllocError>
+fn put_part(part: &QuotaPart, told: &mut QuotaItems) -> Result<(), AllocError>
     ensures infos { OnOk result (told.new.infos ≡ told.old.infos ++ filter_map info_told (part.now ∷ [])) }
     ensures limits { OnOk result (told.new.limits ≡ told.old.limits ++ filter_map limit_told (part.now ∷ [])) }
     ensures relations { OnOk result (told.new.relations.items ≡ told.old.relations.items ++ filter_map relation_told

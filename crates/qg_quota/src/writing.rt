@@ -5,7 +5,7 @@ ghost use Rattle.qg_node.specs.Fits.{ItemFits};
 ghost use Rattle.qg_node.specs.Nodes.{is_ascending, items_bytes};
 ghost use Rattle.qg_image.specs.ItemMeaning.{quota_part};
 ghost use Rattle.qg_image.specs.Walk.{is_item_of};
-ghost use Rattle.qg_image.specs.declared.tree.Tree.TheVariants.{Quotas};
+ghost use Rattle.qg_image.specs.declared.tree.TreeKind.TheVariants.{Quotas};
 ghost use Rattle.qg_quota.specs.Writable.{AreWritableQuota, GroupFits, PairFits};
 ghost use Rattle.qg_quota.specs.Written.{
   both_ways,

@@ -11,7 +11,7 @@ use Rattle.qg_image.specs.Table.{value_at, with_value}
 use Rattle.qg_image.specs.declared.part.ExtentPart.{ExtentPart}
 use Rattle.qg_image.specs.State.{Placed, node_at}
 use Rattle.qg_image.proofs.Contained.{none_contained, contains_here, contains_later, contains_cases}
-use Rattle.qg_image.specs.declared.tree.Tree.TheVariants.{Files}
+use Rattle.qg_image.specs.declared.tree.TreeKind.TheVariants.{Files}
 use Rattle.qg_image.specs.ImageState.{placed, layout_in, extent_parts, nodes_of_root, subvolume_roots, roots_in}
 use Rattle.qg_reach.proofs.Reached.{address_of, LieWhereFound}
 

@@ -1,3 +1,7 @@
+// A reference with its count.
+ghost use Rattle.std.specs.Prelude.{◌≡◌};
+ghost use Rattle.qg_refs.specs.Counts.{greatest_count};
+
 use qg_items::Reference;
 use qg_num::RootId;
 
@@ -19,5 +23,17 @@ impl Default for Counted {
             },
             count: 0,
         }
+    }
+}
+
+/// How often a reference may be there: one to a node is there or not.
+pub fn greatest_count(reference: &Reference) -> u32
+    ensures { result ≡ greatest_count reference.now }
+{
+    match reference {
+        Reference::KeyedBlock { .. } => 1,
+        Reference::SharedBlock { .. } => 1,
+        Reference::KeyedData { .. } => u32::MAX,
+        Reference::SharedData { .. } => u32::MAX,
     }
 }

@@ -9,7 +9,7 @@ mod order;
 mod place;
 
 pub use book::RefBook;
-pub use counted::Counted;
+pub use counted::{Counted, greatest_count};
 pub use kept::{Kept, What};
 pub use list::RefList;
 pub use order::{is_before, is_same};

@@ -16,6 +16,6 @@ pub use editing::{
 pub use filling::{is_overfull, is_thin};
 pub use joining::{Joined, join};
 pub use part::Weighed;
-pub use pointing::{first_key, pointer_to};
+pub use pointing::pointer_to;
 pub use searching::{child_for, find_item};
 pub use splitting::split;

@@ -12,7 +12,7 @@ use Rattle.qg_node.specs.Nodes.{header_of, is_ascending, own_keys, used_bytes}
 use Rattle.qg_super.specs.declared.superblock.Super.{Super}
 use Rattle.qg_super.specs.Places.{capacity}
 use Rattle.qg_image.specs.IsShaped.{is_first, is_shaped, same_key}
-use Rattle.qg_image.specs.declared.tree.Tree.TheVariants.{Files}
+use Rattle.qg_image.specs.declared.tree.TreeKind.TheVariants.{Files}
 use Rattle.qg_image.specs.declared.expected.Expected.{Expected}
 use Rattle.qg_image.specs.Failure.{first_failure, unless}
 use Rattle.qg_image.specs.Walk.{begins_at, ends_before, is_generation, is_owner, is_told, shape_failure, way_failure}

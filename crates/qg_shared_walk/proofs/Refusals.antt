@@ -19,14 +19,14 @@ use Rattle.qg_super.specs.declared.superblock.Super.{Super}
 use Rattle.qg_super.specs.Places.{is_slot}
 use Rattle.qg_super.specs.SuperText.{sizes_of}
 use Rattle.qg_image.specs.declared.failure.Failure.{Failure}
-use Rattle.qg_image.specs.declared.tree.Tree.TheVariants.{Files}
+use Rattle.qg_image.specs.declared.tree.TreeKind.TheVariants.{Files}
 use Rattle.qg_image.specs.declared.expected.Expected.{Expected}
 use Rattle.qg_image.specs.Failure.{unless}
 use Rattle.qg_image.specs.Walk.{is_item_of, node_found, pointers_failure}
 use Rattle.qg_walk.specs.declared.fault.OpenFault.{OpenFault}
 use Rattle.qg_walk.specs.Fault.{FailsAs, TellsFailure, failure_of}
 use Rattle.qg_walk.specs.Standing.{IsJudged, StandsAt, expected_below, form_failure, levels_below}
-use Rattle.qg_walk.specs.Held.{AreInSlots}
+use Rattle.qg_walk.specs.WalkKeeps.{AreInSlots}
 use Rattle.qg_walk.proofs.KeyRanges.{list_all-both}
 use Rattle.qg_walk.proofs.Failures.{IsFormed-form, level_within, neither, walk-leaf}
 use Rattle.qg_shared_walk.specs.declared.digest.Below.{Below}

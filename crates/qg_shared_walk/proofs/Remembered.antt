@@ -20,10 +20,10 @@ use Rattle.qg_node.specs.Nodes.{header_of, own_keys, used_bytes}
 use Rattle.qg_super.specs.Places.{capacity}
 use Rattle.qg_image.specs.IsShaped.{is_shaped}
 use Rattle.qg_super.specs.declared.superblock.Super.{Super}
-use Rattle.qg_file_parts.specs.Rows.{Tells}
+use Rattle.qg_tree_items.specs.Rows.{Tells}
 use Rattle.qg_image.proofs.Contained.{contains_cases, contains_here, contains_later, none_contained}
-use Rattle.qg_gathered.proofs.Distinct.{distinct_both, distinct_none, distinct_with}
-use Rattle.qg_image.specs.declared.tree.Tree.TheVariants.{Files}
+use Rattle.qg_shared_walk.proofs.Distinct.{distinct_both, distinct_none, distinct_with}
+use Rattle.qg_image.specs.declared.tree.TreeKind.TheVariants.{Files}
 use Rattle.qg_image.specs.declared.expected.Expected.{Expected}
 use Rattle.qg_image.specs.Walk.{next_key, node_found}
 use Rattle.qg_walk.specs.Added.{AreSpaced}

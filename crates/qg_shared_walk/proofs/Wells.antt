@@ -18,11 +18,11 @@ use Rattle.qg_node.specs.Nodes.{is_ascending}
 use Rattle.qg_super.specs.declared.superblock.Super.{Super}
 use Rattle.qg_image.specs.declared.part.FilePart.{FilePart}
 use Rattle.qg_image.specs.ItemMeaning.{file_part}
-use Rattle.qg_parts.specs.Keys.{file_key}
-use Rattle.qg_parts.proofs.Keys.{files_ascending}
-use Rattle.qg_file_parts.specs.Rows.{Tells}
+use Rattle.qg_tree_items.specs.Keys.{file_key}
+use Rattle.qg_tree_items.proofs.KeysOfParts.{files_ascending}
+use Rattle.qg_tree_items.specs.Rows.{Tells}
 use Rattle.qg_image.proofs.Contained.{contains_cases, none_contained}
-use Rattle.qg_image.specs.declared.tree.Tree.TheVariants.{Files}
+use Rattle.qg_image.specs.declared.tree.TreeKind.TheVariants.{Files}
 use Rattle.qg_image.specs.declared.expected.Expected.{Expected}
 use Rattle.qg_image.specs.ImageState.{level_in}
 use Rattle.qg_image.specs.Walk.{ends_before, is_told, next_key, node_failure, node_found, walk_failure}

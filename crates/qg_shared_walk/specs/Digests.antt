@@ -7,8 +7,8 @@ use Rattle.qg_node.specs.Nodes.{header_of, is_ascending, own_keys, used_bytes}
 use Rattle.qg_super.specs.Places.{capacity}
 use Rattle.qg_image.specs.declared.part.FilePart.{FilePart}
 use Rattle.qg_image.specs.IsShaped.{is_shaped, same_key}
-use Rattle.qg_parts.specs.Keys.{file_key}
-use Rattle.qg_file_parts.specs.Rows.{Tells}
+use Rattle.qg_tree_items.specs.Keys.{file_key}
+use Rattle.qg_tree_items.specs.Rows.{Tells}
 use Rattle.qg_image.specs.declared.expected.Expected.{Expected}
 use Rattle.qg_image.specs.Walk.{is_told}
 use Rattle.qg_walk.specs.Added.{is_to}

@@ -7,7 +7,7 @@ use Rattle.qg_num.specs.Fields.{IsBytes}
 use Rattle.qg_node.specs.declared.node.Node.{Node}
 use Rattle.qg_items.specs.declared.root.RootItem.{RootItem}
 use Rattle.qg_super.specs.declared.superblock.Super.{Super}
-use Rattle.qg_image.specs.declared.tree.Tree.TheVariants.{Files}
+use Rattle.qg_image.specs.declared.tree.TreeKind.TheVariants.{Files}
 use Rattle.qg_image.specs.ImageState.{items_of_root, nodes_of_root}
 use Rattle.qg_shared_walk.specs.declared.digest.Digest.{Digest}
 use Rattle.qg_shared_walk.specs.Memo.{Remembers}

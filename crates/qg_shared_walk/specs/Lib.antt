@@ -1,10 +1,10 @@
-pub use Rattle.qg_gathered.specs.Found as GatheredFound
-pub use Rattle.qg_gathered.specs.Gathered
-pub use Rattle.qg_gathered.specs.Judged
-pub use Rattle.qg_gathered.specs.Told
+pub mod NodeFacts
+pub mod Marked
+pub mod ReadOfTrees
+pub mod Gathered
+pub mod Judged
 pub mod Digests
 pub mod Reading
 pub mod Wells
 pub mod Memo
 pub mod Found
-pub mod Types

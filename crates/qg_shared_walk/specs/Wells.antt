@@ -11,9 +11,9 @@ use Rattle.qg_node.specs.declared.node.Node.{Node}
 use Rattle.qg_super.specs.declared.superblock.Super.{Super}
 use Rattle.qg_image.specs.declared.part.FilePart.{FilePart}
 use Rattle.qg_image.specs.ItemMeaning.{file_part}
-use Rattle.qg_file_parts.specs.Rows.{Tells}
+use Rattle.qg_tree_items.specs.Rows.{Tells}
 use Rattle.qg_image.specs.declared.failure.Failure.{Failure}
-use Rattle.qg_image.specs.declared.tree.Tree.TheVariants.{Files}
+use Rattle.qg_image.specs.declared.tree.TreeKind.TheVariants.{Files}
 use Rattle.qg_image.specs.declared.expected.Expected.{Expected}
 use Rattle.qg_image.specs.Walk.{is_item_of, node_failure, node_found, pointers_failure, walk_failure}
 use Rattle.qg_walk.specs.Added.{AreSpaced, Below as BelowAddress, Found, HasAdded, below_node, below_pointers}

@@ -1,13 +1,12 @@
 // What is kept of a node below which all is well.
 ghost use Rattle.std.specs.Prelude.{◌≡◌, ◌-◌, length, map, slice_get};
-ghost use Rattle.qg_node.specs.Nodes.{own_keys};
 ghost use Rattle.qg_image.specs.Walk.{is_told};
 ghost use Rattle.qg_shared_walk.specs.Digests.{HasBehind, IsDigestOf, begins_by, ends_by, fits, has_shape};
 
-use qg_file_parts::FileRow;
 use qg_image::Expected;
 use qg_node::{Keyed, Node};
 use qg_num::{Generation, Key};
+use qg_tree_items::FileRow;
 use qg_walk::{is_root_shaped, takes_a_quarter};
 
 /// What is kept of the items below a node (this project's own).
@@ -55,7 +54,7 @@ impl Digest {
         Digest {
             level: header.level,
             generation: header.generation,
-            first: first_key(node),
+            first: node.first_key(),
             is_root_shaped: is_root_shaped(node),
             is_quarter_full: takes_a_quarter(nodesize as usize, node),
             below,
@@ -120,24 +119,6 @@ fn ends_by(to: Option<Key>, last: Option<Key>) -> bool
     match (to, last) {
         (Some(to), Some(last)) => last.is_before(to),
         _ => true,
-    }
-}
-
-fn first_key(node: &Node) -> Option<Key>
-    ensures { result ≡ slice_get (own_keys node.now) 0 }
-{
-    match node {
-        Node::Leaf { items, .. } => first_of(items.as_slice()),
-        Node::Inner { pointers, .. } => first_of(pointers.as_slice()),
-    }
-}
-
-fn first_of<T: Keyed>(list: &[T]) -> Option<Key>
-    ensures { result ≡ slice_get (map T.key_of list.now) 0 }
-{
-    match list.first() {
-        None => None,
-        Some(first) => Some(first.key()),
     }
 }
 

@@ -4,19 +4,19 @@ ghost use Rattle.std.specs.List.{list_all};
 ghost use Rattle.qg_num.specs.Fields.{IsBytes};
 ghost use Rattle.qg_num.specs.declared.rule.Rule.TheVariants as rule;
 ghost use Rattle.qg_node.specs.Nodes.{is_ascending};
-ghost use Rattle.qg_parts.specs.Keys.{file_key};
-ghost use Rattle.qg_file_parts.specs.Rows.{Tells};
-ghost use Rattle.qg_image.specs.declared.tree.Tree.TheVariants.{Files};
+ghost use Rattle.qg_tree_items.specs.Keys.{file_key};
+ghost use Rattle.qg_tree_items.specs.Rows.{Tells};
+ghost use Rattle.qg_image.specs.declared.tree.TreeKind.TheVariants.{Files};
 ghost use Rattle.qg_image.specs.Failure.{unless};
 ghost use Rattle.qg_image.specs.Walk.{is_item_of};
 ghost use Rattle.qg_walk.specs.Fault.{FailsAs};
 ghost use Rattle.qg_shared_walk.specs.Wells.{IsLeafRead};
 
 use crate::digest::{Below, last_of};
-use qg_file_parts::FileRow;
 use qg_image::FilePart;
 use qg_node::Item;
 use qg_num::{Address, Generation, Sequence};
+use qg_tree_items::FileRow;
 use qg_walk::{OpenFault, add_said};
 use std::alloc::Global;
 

@@ -7,8 +7,8 @@ ghost use Rattle.qg_super.specs.SuperText.{sizes_of};
 ghost use Rattle.qg_image.specs.Failure.{first_failure};
 ghost use Rattle.qg_image.specs.Verdict.{subvolume_failure};
 ghost use Rattle.qg_walk.specs.Fault.{FailsAs};
-ghost use Rattle.qg_walk.specs.Held.{AreInSlots};
-ghost use Rattle.qg_gathered.specs.Found.{AreFound};
+ghost use Rattle.qg_walk.specs.WalkKeeps.{AreInSlots};
+ghost use Rattle.qg_shared_walk.specs.ReadOfTrees.{AreFound};
 
 use crate::memo::Memo;
 use crate::tree::read_tree;

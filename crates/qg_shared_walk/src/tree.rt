@@ -5,11 +5,11 @@ ghost use Rattle.qg_device.specs.History.{Event, Recorded, content};
 ghost use Rattle.qg_node.specs.declared.node.Node.{Node as NodeValue};
 ghost use Rattle.qg_super.specs.Places.{is_served, total_bytes};
 ghost use Rattle.qg_super.specs.SuperText.{sizes_of};
-ghost use Rattle.qg_image.specs.declared.tree.Tree.TheVariants.{Files};
+ghost use Rattle.qg_image.specs.declared.tree.TreeKind.TheVariants.{Files};
 ghost use Rattle.qg_image.specs.Verdict.{subvolume_failure};
 ghost use Rattle.qg_image.specs.Walk.{root_told, tree_failure};
 ghost use Rattle.qg_walk.specs.Fault.{FailsAs, TellsFailure};
-ghost use Rattle.qg_walk.specs.Held.{AreInSlots};
+ghost use Rattle.qg_walk.specs.WalkKeeps.{AreInSlots};
 ghost use Rattle.qg_shared_walk.specs.Reading.{Denies};
 ghost use Rattle.qg_shared_walk.specs.Memo.{Remembers};
 ghost use Rattle.qg_shared_walk.specs.Found.{HasTree};
@@ -22,7 +22,7 @@ use qg_image::{Expected, FilePart};
 use qg_items::RootItem;
 use qg_num::{Address, Rule, Sequence};
 use qg_super::Super;
-use qg_walk::{NodeList, OpenFault, walk_tree};
+use qg_walk::{NodeList, OpenFault, root_told, walk_tree};
 use std::alloc::Global;
 
 /// Reads what isn't remembered yet of the tree of a subvolume, and judges all of it.
@@ -72,18 +72,6 @@ pub(crate) fn read_tree<N: NodeList, D: Disk>(
         Err(OpenFault::Disk) => Err(OpenFault::Disk),
         Err(OpenFault::NoMemory) => Err(OpenFault::NoMemory),
         Err(fault) => Err(first_fault::<D>(alloc, disk, superblock, &expected, root.bytenr, fault)),
-    }
-}
-
-// What is expected of a root by its ROOT_ITEM.
-fn root_told(root: &RootItem) -> Expected
-    ensures { result ≡ root_told root.now }
-{
-    Expected {
-        level: Some(root.level),
-        generation: Some(root.generation),
-        from: None,
-        to: None,
     }
 }
 

@@ -11,8 +11,9 @@ pub mod Agreements
 pub mod Fronts
 pub mod Packed
 pub mod Firsts
-pub mod Counted
+pub mod FreeSlotCount
 pub mod Listed
 pub mod Both
 pub mod Given
 pub mod Taken
+pub mod ManySlots

@@ -3,3 +3,4 @@ pub mod Fields
 pub mod Holding
 pub mod Lying
 pub mod Agreement
+pub mod ManySlots

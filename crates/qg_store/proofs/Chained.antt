@@ -24,11 +24,11 @@ use Rattle.qg_crashes.proofs.Outcomes.{chain_survives}
 use Rattle.qg_crashes.proofs.SameStates.{sound_places}
 use Rattle.qg_crashes.proofs.Slots.{with_events-append}
 use Rattle.qg_crashes.proofs.States.{mirrors_the_new_state}
-use Rattle.qg_kept_commit.specs.Calls.{IsFrontOfCalls, commit_calls, with_commit}
-use Rattle.qg_kept_commit.proofs.CallEvents.{calls_are_whole, calls_write}
+use Rattle.qg_image_commits.specs.Calls.{IsFrontOfCalls, commit_calls, with_commit}
+use Rattle.qg_image_commits.proofs.CallEvents.{calls_are_whole, calls_write}
 use Rattle.qg_store.specs.Crashes.{LeavesOneOf, last_commit}
-use Rattle.qg_kept_commit.specs.Making.{BringsTo, Makes}
-use Rattle.qg_kept_commit.proofs.Commits.{all-made}
+use Rattle.qg_image_commits.specs.Making.{BringsTo, Makes}
+use Rattle.qg_image_commits.proofs.Commits.{all-made}
 use Rattle.qg_store.proofs.LastCommits.{AreLater}
 use Rattle.qg_store.proofs.Synced.{held_after}
 

@@ -21,28 +21,28 @@ use Rattle.qg_machine.specs.Refusals.{is_pending, last_generation, no_generation
 use Rattle.qg_machine.specs.Step.{Commits, CommitsPending}
 use Rattle.qg_machine.specs.Step as machine
 use Rattle.qg_refs.specs.declared.kept.Kept.{Kept as Reference}
-use Rattle.qg_kept_commit.specs.Calls.{Call, with_commit}
+use Rattle.qg_image_commits.specs.Calls.{Call, with_commit}
 use Rattle.qg_weighed.specs.Laws.{is_among}
 use Rattle.qg_weighed.specs.Weight.{records_in, weight_of}
 use Rattle.qg_weighed.proofs.Distinct.{bytes-alike}
 use Rattle.qg_weighed.proofs.Law.{no-less}
 use Rattle.qg_space.specs.Holding.{free_slots}
-use Rattle.qg_descent.specs.Tree.{Root}
-use Rattle.qg_groups.specs.Tracked.{quota_of}
-use Rattle.qg_groups.proofs.Recounted.{recounted-self}
-use Rattle.qg_kept_commit.specs.Types.{Kept}
-use Rattle.qg_kept_commit.specs.Keeping.{IsFitted, IsKeptOf, book_weight, commit_need, filled_by, quota_weight}
-use Rattle.qg_kept_commit.specs.Keeping.{root_weight, structural_need_of}
-use Rattle.qg_kept_commit.specs.Planning.{CommitsOfSoFar, CommitsOn, LeavesRoom}
-use Rattle.qg_kept_commit.specs.Making.{CommitsSoFar}
-use Rattle.qg_kept_commit.specs.Stored.{StaysLast, StopsPending}
+use Rattle.qg_tree_read.specs.Tree.{Root}
+use Rattle.qg_qgroups.specs.Tracked.{quota_of}
+use Rattle.qg_qgroups.proofs.Recounted.{recounted-self}
+use Rattle.qg_image_commits.specs.Types.{OpenImage}
+use Rattle.qg_image_commits.specs.Keeping.{IsFitted, IsKeptOf, book_weight, commit_need, filled_by, quota_weight}
+use Rattle.qg_image_commits.specs.Keeping.{root_weight, structural_need_of}
+use Rattle.qg_image_commits.specs.Planning.{CommitsOfSoFar, CommitsOn, LeavesRoom}
+use Rattle.qg_image_commits.specs.Making.{CommitsSoFar}
+use Rattle.qg_image_commits.specs.Stored.{StaysLast, StopsPending}
 use Rattle.qg_store.specs.Structural.{HasCommitted, IsSettledFrom}
-use Rattle.qg_kept_changes.specs.Changing.{HasRoom}
-use Rattle.qg_kept_commit.proofs.OnOff.{bytes-recounted, roots-recounted}
-use Rattle.qg_kept_changes.proofs.HowMany.{generation-told}
-use Rattle.qg_kept_commit.proofs.Room.{fills-more, left-first, left-none}
-use Rattle.qg_kept_commit.specs.Types.{KeptSubvolume}
-use Rattle.qg_kept_commit.proofs.Reserve.{large, need-few}
+use Rattle.qg_image_changes.specs.Changing.{HasRoom}
+use Rattle.qg_image_commits.proofs.OnOff.{bytes-recounted, roots-recounted}
+use Rattle.qg_image_changes.proofs.HowMany.{generation-told}
+use Rattle.qg_image_commits.proofs.Room.{fills-more, left-first, left-none}
+use Rattle.qg_image_commits.specs.Types.{KeptSubvolume}
+use Rattle.qg_image_commits.proofs.Reserve.{large, need-few}
 
 -- ---- what is weighed
 
@@ -62,7 +62,7 @@ weight-alone held refs =
     no-less held refs in
     omega (arith, once, less)
 
-module _ (old new : Kept) (leaves : LeavesRoom old new)
+module _ (old new : OpenImage) (leaves : LeavesRoom old new)
     (sizes : sizes_of new.superblock ≡ sizes_of old.superblock) where
   book_less : book_weight new ≤ book_weight old
   book_less =
@@ -103,7 +103,7 @@ module _ (old new : Kept) (leaves : LeavesRoom old new)
 
 -- ---- room
 
-pub room-committed : (old new : Kept) (copies : ℕ) → IsFitted old → LeavesRoom old new
+pub room-committed : (old new : OpenImage) (copies : ℕ) → IsFitted old → LeavesRoom old new
     → sizes_of new.superblock ≡ sizes_of old.superblock
     → structural_need_of old copies ≤ free_slots old.fs.land.space → HasRoom new copies
 room-committed old new copies fits leaves sizes enough = record {
@@ -112,14 +112,14 @@ room-committed old new copies fits leaves sizes enough = record {
       (filled-less old new leaves sizes (large old fits));
 }
 
-pub room-same : (kept : Kept) (copies : ℕ) → structural_need_of kept copies ≤ free_slots kept.fs.land.space
+pub room-same : (kept : OpenImage) (copies : ℕ) → structural_need_of kept copies ≤ free_slots kept.fs.land.space
     → HasRoom kept copies
 room-same kept copies enough =
     record { free = left-none copies (filled_by kept) (free_slots kept.fs.land.space) enough }
 
 -- ---- what is the same
 
-pub settled-same : (kept : Kept) → kept.pending ≡ 0 → IsSettledFrom kept kept
+pub settled-same : (kept : OpenImage) → kept.pending ≡ 0 → IsSettledFrom kept kept
 settled-same kept none = record {
   pending = none;
   snapshots = refl;
@@ -128,7 +128,7 @@ settled-same kept none = record {
   last = inl (none, refl);
 }
 
-pub settled-committed : (old new : Kept) → 0 < old.pending → LeavesRoom old new → IsSettledFrom old new
+pub settled-committed : (old new : OpenImage) → 0 < old.pending → LeavesRoom old new → IsSettledFrom old new
 settled-committed old new some leaves = record {
   pending = leaves.pending;
   snapshots = leaves.snapshots;
@@ -139,7 +139,7 @@ settled-committed old new some leaves = record {
 
 -- ---- where it is kept of a state
 
-module _ (kept : Kept) (state : State) (events : List Event) (history : History) (fits : IsFitted kept)
+module _ (kept : OpenImage) (state : State) (events : List Event) (history : History) (fits : IsFitted kept)
     (keeps : IsKeptOf kept state history) where
   -- nothing was pending
   none_pending : kept.pending ≡ 0 → is_pending state ≡ false
@@ -197,7 +197,7 @@ module _ (kept : Kept) (state : State) (events : List Event) (history : History)
     })
   ]
 
-  pub committed-some : (new : Kept) (after : History) → 0 < kept.pending
+  pub committed-some : (new : OpenImage) (after : History) → 0 < kept.pending
       → CommitsOn state new events after → HasCommitted state new events after
   committed-some new after some done = record {
     before = done.new;
@@ -216,7 +216,7 @@ on-err-then P Q (Ok value) then said = tt
 on-err-then P Q (Err fault) then said = then said
 
 -- what was pending was not committed whole
-pub stays-last : (old new : Kept) (before after : History) (result : Result Unit BlockFault)
+pub stays-last : (old new : OpenImage) (before after : History) (result : Result Unit BlockFault)
     → IfErr result (λ fault. new.superblock ≡ old.superblock)
     → ((state : State) (events : List Event) → IsKeptOf old state before → before ≡ Recorded events
     → OnErr result (StopsPending state events after))

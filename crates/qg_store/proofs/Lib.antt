@@ -1,5 +1,5 @@
-pub use Rattle.qg_kept_commit.proofs.OpeningCalls
-pub use Rattle.qg_kept_commit.proofs.Verdicts
+pub use Rattle.qg_image_commits.proofs.OpeningCalls
+pub use Rattle.qg_image_commits.proofs.Verdicts
 pub mod Committed
 pub mod Structured
 pub mod Reasoned
@@ -11,5 +11,5 @@ pub mod Repaired
 pub mod LastCommits
 pub mod Chained
 pub mod Outlived
-pub mod Counted
+pub mod StepsOfCommand
 pub mod Stopped

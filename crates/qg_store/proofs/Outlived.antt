@@ -14,10 +14,10 @@ use Rattle.qg_machine.specs.Refusals.{refusal}
 use Rattle.qg_machine.specs.Step.{CommitsPending, Does, DoesStructural, Stays, Step}
 use Rattle.qg_crashes.specs.Committing.{begin_of}
 use Rattle.qg_crashes.specs.Outcomes.{Rests}
-use Rattle.qg_kept_commit.specs.Types.{Kept}
-use Rattle.qg_kept_commit.specs.Answering.{AnswersOn, IsDoneSoFar, comes_to_disk}
+use Rattle.qg_image_commits.specs.Types.{OpenImage}
+use Rattle.qg_image_commits.specs.Answering.{AnswersOn, IsDoneSoFar, comes_to_disk}
 use Rattle.qg_store.specs.Crashes.{AreCommitsOf, CommitsBy, IsLastCommit, LeavesOneOf, OutlivesCommand, StillRests}
-use Rattle.qg_kept_commit.specs.Making.{BringsTo, Makes, StartsCommit, StartsSecond}
+use Rattle.qg_image_commits.specs.Making.{BringsTo, Makes, StartsCommit, StartsSecond}
 use Rattle.qg_store.proofs.Chained.{MakesSoFar, chain-leaves, chained, makes-all, makes-then, rests-behind}
 use Rattle.qg_store.proofs.LastCommits.{AreLater, changes-last, does-changes, step-leads, structural-leads}
 use Rattle.qg_store.proofs.Structured.{held-first}
@@ -147,7 +147,7 @@ module _ (old : State) (command : Command) (committed : State) (events : List Ev
           leaves = leaves-begun begun.commits begun.after begun.later begun.made;
         }
 
-    still-rests : (reply : Answer) (kept : Kept) → AnswersOn old command reply kept events history
+    still-rests : (reply : Answer) (kept : OpenImage) → AnswersOn old command reply kept events history
         → StillRests old command reply committed kept events history
     still-rests reply kept answers =
         let commits = answers.0 in
@@ -164,7 +164,7 @@ module _ (old : State) (command : Command) (committed : State) (events : List Ev
           last = lead.last;
         }
 
-    pub outlives : (result : Result Answer Stop) (kept : Kept) → IsDoneSoFar old command events history
+    pub outlives : (result : Result Answer Stop) (kept : OpenImage) → IsDoneSoFar old command events history
         → IfOk result (λ reply. AnswersOn old command reply kept events history)
         → OutlivesCommand old command committed events history result kept
     outlives (Ok reply) kept done answers =

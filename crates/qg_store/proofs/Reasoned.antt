@@ -21,24 +21,24 @@ use Rattle.qg_image.specs.State.{State, is_quota_on}
 use Rattle.qg_image.specs.Verdict.{most_groups, most_relations, most_subvolumes}
 use Rattle.qg_machine.specs.Refusals.{last_generation, no_commit, no_nodes, no_parents, no_sub, refusal, refuse}
 use Rattle.qg_machine.specs.Refusals.{structural_copies, too_many_subvolumes}
-use Rattle.qg_hier.specs.Groups.{has_number}
-use Rattle.qg_groups.specs.Changing.{change_refusal, change_refusals, groups_in, is_group_command, pairs_in}
-use Rattle.qg_groups.specs.OnOrOff.{parents_refusal, snap_refusal}
-use Rattle.qg_groups.specs.Tracked.{SameButCounts, quota_of}
-use Rattle.qg_groups.proofs.Recounted.{groups-recounted, pairs-recounted, refusal-recounted}
-use Rattle.qg_groups.proofs.Refused.{refusal-is}
-use Rattle.qg_groups.proofs.Snapped.{snap-told}
+use Rattle.qg_qgroups.specs.Groups.{has_number}
+use Rattle.qg_qgroups.specs.Changing.{change_refusal, change_refusals, groups_in, is_group_command, pairs_in}
+use Rattle.qg_qgroups.specs.OnOrOff.{parents_refusal, snap_refusal}
+use Rattle.qg_qgroups.specs.Tracked.{SameButCounts, quota_of}
+use Rattle.qg_qgroups.proofs.Recounted.{groups-recounted, pairs-recounted, refusal-recounted}
+use Rattle.qg_qgroups.proofs.Refused.{refusal-is}
+use Rattle.qg_qgroups.proofs.Snapped.{snap-told}
 use Rattle.qg_extents.specs.Table.{IsTable}
-use Rattle.qg_kept_commit.specs.FsLawsKeeping.{other_names}
-use Rattle.qg_kept_commit.specs.Types.{Kept}
-use Rattle.qg_kept_commit.specs.Keeping.{IsFitted, IsKept, IsKeptOf, structural_need_of}
+use Rattle.qg_image_commits.specs.FsLawsKeeping.{other_names}
+use Rattle.qg_image_commits.specs.Types.{OpenImage}
+use Rattle.qg_image_commits.specs.Keeping.{IsFitted, IsKept, IsKeptOf, structural_need_of}
 use Rattle.qg_store.specs.Structural.{IsSettledFrom, commit_refusal}
-use Rattle.qg_kept_changes.specs.Changing.{group_copies, number_next, too_many_refusal}
-use Rattle.qg_kept_commit.proofs.Known.{no-other, sub-there}
+use Rattle.qg_image_changes.specs.Changing.{group_copies, number_next, too_many_refusal}
+use Rattle.qg_image_commits.proofs.Known.{no-other, sub-there}
 use Rattle.qg_file_commands.proofs.Refused.{first_one}
-use Rattle.qg_kept_commit.proofs.Stepped.{free-told, keys-kept, many-kept, nodesize-kept, weight-kept}
-use Rattle.qg_kept_changes.proofs.HowMany.{generation-told, too-many-told}
-use Rattle.qg_kept_commit.specs.Types.{KeptSubvolume}
+use Rattle.qg_image_commits.proofs.Stepped.{free-told, keys-kept, many-kept, nodesize-kept, weight-kept}
+use Rattle.qg_image_changes.proofs.HowMany.{generation-told, too-many-told}
+use Rattle.qg_image_commits.specs.Types.{KeptSubvolume}
 
 -- ---- the first of some
 
@@ -63,7 +63,7 @@ found-last (Some x ∷ first) last none = absurd (none-some x (sym none))
 
 -- ---- what is refused of lists alone
 
-module _ (kept : Kept) (state : State) (history : History) (fits : IsFitted kept)
+module _ (kept : OpenImage) (state : State) (history : History) (fits : IsFitted kept)
     (keeps : IsKeptOf kept state history) where
   pub create-early : too_many_refusal kept 0 ≡ Some why.TooMany → refusal state SubCreate ≡ Some why.TooMany
   unfolding refusal
@@ -177,7 +177,7 @@ module _ (kept : Kept) (state : State) (history : History) (fits : IsFitted kept
 
 -- ---- the last two
 
-module _ (kept : Kept) (state : State) (history : History) (bytes : ℕ) (fits : IsKept kept history bytes)
+module _ (kept : OpenImage) (state : State) (history : History) (bytes : ℕ) (fits : IsKept kept history bytes)
     (keeps : IsKeptOf kept state history) (table : IsTable kept.fs.refs.refs) where
   need_told : (copies : ℕ) → structural_need state copies ≡ structural_need_of kept copies
   need_told copies =
@@ -228,7 +228,7 @@ module _ (kept : Kept) (state : State) (history : History) (bytes : ℕ) (fits :
 -- ---- over any disk
 
 -- whether one more would pass a limit
-pub too-many-by : (kept : Kept) (relations number : ℕ) (found is : Bool) → number ≡ number_next kept
+pub too-many-by : (kept : OpenImage) (relations number : ℕ) (found is : Bool) → number ≡ number_next kept
     → found ≡ (nat_le most_subvolumes (length kept.snapshots)
     || (is_some (quota_of kept.quota) && nat_le most_groups (length (groups_in (quota_of kept.quota))))
     || nat_lt most_relations (length (pairs_in (quota_of kept.quota)) + relations) || nat_le (2 ^ 48) number)
@@ -255,7 +255,7 @@ parents-same one other earlier (group ∷ parents) same =
     ∷ refuse (list_any (λ before. before == group) earlier) why.Related
     ∷ parents-same one other (group ∷ earlier) parents same i ∷ [])
 
-module _ (old new : Kept) (settled : IsSettledFrom old new) where
+module _ (old new : OpenImage) (settled : IsSettledFrom old new) where
   groups_same : groups_in (quota_of new.quota) ≡ groups_in (quota_of old.quota)
   groups_same = groups-recounted (quota_of old.quota) (quota_of new.quota) settled.groups
 

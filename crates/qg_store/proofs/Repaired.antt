@@ -12,19 +12,19 @@ use Rattle.qg_super.proofs.Served.{SuperFits-is_super}
 use Rattle.qg_image.specs.declared.file.File.{File}
 use Rattle.qg_image.specs.State.{State, Subvolume}
 use Rattle.qg_image.proofs.Contained.{contains_later}
-use Rattle.qg_contents.specs.Written.{items_of_file}
+use Rattle.qg_root_items.specs.Written.{items_of_file}
 use Rattle.qg_blocks.specs.Writing.{Keeps}
 use Rattle.qg_blocks.proofs.Written.{Keeps-then}
-use Rattle.qg_kept_commit.specs.Stale.{stale_place}
-use Rattle.qg_kept_commit.specs.CommitOpening.{with_repair}
-use Rattle.qg_kept_commit.specs.Types.{FsTree}
-use Rattle.qg_kept_commit.specs.Standing.{nodes_of}
-use Rattle.qg_kept_commit.specs.StandingCommitting.{StandsStill}
-use Rattle.qg_kept_commit.proofs.Alike.{stands-alike, superblocks-keep, syncs-keep, told-alike}
-use Rattle.qg_kept_commit.specs.Named.{named}
-use Rattle.qg_kept_commit.specs.FsLawsKeeping.{KeepsState}
-use Rattle.qg_kept_commit.specs.Types.{Kept}
-use Rattle.qg_kept_commit.specs.Keeping.{IsFitted, IsKeptOf}
+use Rattle.qg_image_commits.specs.Stale.{stale_place}
+use Rattle.qg_image_commits.specs.CommitOpening.{with_repair}
+use Rattle.qg_image_commits.specs.Types.{FsTree}
+use Rattle.qg_image_commits.specs.Standing.{nodes_of}
+use Rattle.qg_image_commits.specs.CommitTreesCommitting.{StandsStill}
+use Rattle.qg_image_commits.proofs.Alike.{stands-alike, superblocks-keep, syncs-keep, told-alike}
+use Rattle.qg_image_commits.specs.Named.{named}
+use Rattle.qg_image_commits.specs.FsLawsKeeping.{KeepsState}
+use Rattle.qg_image_commits.specs.Types.{OpenImage}
+use Rattle.qg_image_commits.specs.Keeping.{IsFitted, IsKeptOf}
 
 -- ---- where the same is told
 
@@ -56,7 +56,7 @@ module _ (fs : FsTree) (before after : History) (state : State) (mine : Subvolum
   }
 
 -- what is kept is kept of its state over a disk that tells the same
-pub kept-told : (kept : Kept) (before after : History) (state : State)
+pub kept-told : (kept : OpenImage) (before after : History) (state : State)
     → ((q : ℕ) → nodes_of kept.fs after q ≡ nodes_of kept.fs before q)
     → IsKeptOf kept state before → IsKeptOf kept state after
 kept-told kept before after state alike keeps = record {
@@ -108,7 +108,8 @@ module _ (sizes whole : Sizes) (super : Super) (events : List Event) (served : I
       (stale-is first second place (sym is)))
 
 -- so what is kept is kept of its state once the place was written
-pub kept-repaired : (kept : Kept) (whole : Sizes) (super : Super) (events : List Event) (first second : Option Super)
+pub kept-repaired : (kept : OpenImage) (whole : Sizes) (super : Super) (events : List Event)
+    (first second : Option Super)
     (place : Option ℕ) (state : State) → IsTrue (is_served whole)
     → kept.fs.land.blocks.draft.sizes.nodesize ≡ whole.nodesize → kept.fs.land.blocks.draft.sizes.slots ≡ whole.slots
     → total_bytes whole ≤ length (content events) → place ≡ stale_place first second
@@ -120,7 +121,7 @@ kept-repaired kept whole super events first second place state served nodesize s
     stale)) keeps
 
 -- and so it is of an image that was just opened
-pub kept-reopened : (kept : Kept) (super : Super) (events : List Event) (first second : Option Super)
+pub kept-reopened : (kept : OpenImage) (super : Super) (events : List Event) (first second : Option Super)
     (place : Option ℕ) (state : State) → IsTrue (is_super super) → IsFitted kept → kept.superblock ≡ super
     → total_bytes (sizes_of super) ≤ length (content events) → place ≡ stale_place first second
     → IsKeptOf kept state (Recorded events) → IsKeptOf kept state (Recorded (with_repair super place (Synced ∷ events)))

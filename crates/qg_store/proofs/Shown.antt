@@ -12,10 +12,10 @@ use Rattle.qg_image.specs.State.{State}
 use Rattle.qg_machine.specs.Refusals.{refusal, refuse}
 use Rattle.qg_machine.specs.Step.{rows_of}
 use Rattle.qg_machine.specs.Step as machine
-use Rattle.qg_groups.specs.Tracked.{quota_of}
-use Rattle.qg_kept_commit.specs.Types.{Kept}
-use Rattle.qg_kept_commit.specs.Answering.{Answered, shown}
-use Rattle.qg_kept_commit.specs.Keeping.{IsKeptOf}
+use Rattle.qg_qgroups.specs.Tracked.{quota_of}
+use Rattle.qg_image_commits.specs.Types.{OpenImage}
+use Rattle.qg_image_commits.specs.Answering.{Answered, shown}
+use Rattle.qg_image_commits.specs.Keeping.{IsKeptOf}
 
 -- it is refused while quota is off
 refused_so : (state : State) (quota : Option Quota) → state.quota ≡ quota
@@ -32,7 +32,7 @@ told_so state reply (Some quota) on is =
     (is ∙ ap (λ (o : Option Quota). Shown (rows_of o)) (sym on), (refl, refl))
 
 -- the state stays
-pub does_show : (kept : Kept) (state : State) (reply : Answer) (history : History)
+pub does_show : (kept : OpenImage) (state : State) (reply : Answer) (history : History)
     → IsKeptOf kept state history → reply ≡ shown (quota_of kept.quota) → Answered state Show reply [] kept history
 does_show kept state reply history keeps is = record {
   new = state;

@@ -12,13 +12,13 @@ use Rattle.qg_super.specs.declared.superblock.Super.{Super}
 use Rattle.qg_super.specs.SuperText.{sizes_of}
 use Rattle.qg_blocks.specs.Stopping.{StopsForCause}
 use Rattle.qg_blocks.proofs.Stopping.{stops-err}
-use Rattle.qg_kept_commit.specs.Types.{Kept}
-use Rattle.qg_kept_commit.specs.Keeping.{IsFitted}
-use Rattle.qg_kept_commit.proofs.Stopped.{later-err, stops-stored}
+use Rattle.qg_image_commits.specs.Types.{OpenImage}
+use Rattle.qg_image_commits.specs.Keeping.{IsFitted}
+use Rattle.qg_image_commits.proofs.Stopped.{later-err, stops-stored}
 use Rattle.qg_store.specs.Stopping.{HasStopCause, StopsByRead}
 
 -- before what was pending is committed
-pub first-stored : (A : Type 0) {B : Type 0} (result : Result B BlockFault) (fault : BlockFault) (old mid : Kept)
+pub first-stored : (A : Type 0) {B : Type 0} (result : Result B BlockFault) (fault : BlockFault) (old mid : OpenImage)
     (bytes : ℕ) → IsErrAnd result (λ given. given ≡ fault) → IsFitted mid → mid.superblock ≡ old.superblock
     → StopsForCause {A = A} (Err fault) mid.fs.land.blocks.draft.sizes bytes
     → StopsForCause result (sizes_of old.superblock) bytes
@@ -27,7 +27,7 @@ first-stored A result fault old mid bytes is fitted same stops =
     (ap (λ (s : Super). sizes_of s) same) refl (stops-stored {A = A} (Err fault) mid bytes fitted stops)
 
 -- while it is
-pub pending-stored : (A : Type 0) {B : Type 0} (result : Result B BlockFault) (fault : BlockFault) (old mid : Kept)
+pub pending-stored : (A : Type 0) {B : Type 0} (result : Result B BlockFault) (fault : BlockFault) (old mid : OpenImage)
     (bytes left : ℕ) → IsErrAnd result (λ given. given ≡ fault) → mid.superblock ≡ old.superblock → left ≡ bytes
     → StopsForCause {A = A} (Err fault) (sizes_of mid.superblock) left
     → StopsForCause result (sizes_of old.superblock) bytes
@@ -37,7 +37,7 @@ pending-stored A result fault old mid bytes left is same size stops =
 
 -- in the change behind it: the disk may have grown
 pub change-stored : (A : Type 0) {B : Type 0} (result : Result B BlockFault) (fault : BlockFault)
-    (old base mid : Kept) (bytes left after : ℕ) → IsErrAnd result (λ given. given ≡ fault) → IsFitted mid
+    (old base mid : OpenImage) (bytes left after : ℕ) → IsErrAnd result (λ given. given ≡ fault) → IsFitted mid
     → base.superblock ≡ old.superblock → sizes_of mid.superblock ≡ sizes_of base.superblock → left ≡ bytes
     → left ≤ after → StopsForCause {A = A} (Err fault) mid.fs.land.blocks.draft.sizes after
     → StopsForCause result (sizes_of old.superblock) bytes
@@ -47,7 +47,8 @@ change-stored A result fault old base mid bytes left after is fitted same sizes 
 
 -- in the commit behind the change
 pub second-stored : (A : Type 0) {B : Type 0} (result : Result B BlockFault) (fault : BlockFault)
-    (old base mid new : Kept) (bytes left between after : ℕ) → IsErrAnd result (λ given. given ≡ fault) → IsFitted new
+    (old base mid new : OpenImage) (bytes left between after : ℕ) → IsErrAnd result (λ given. given ≡ fault)
+    → IsFitted new
     → base.superblock ≡ old.superblock → sizes_of mid.superblock ≡ sizes_of base.superblock
     → new.superblock ≡ mid.superblock → left ≡ bytes → left ≤ between → after ≡ between
     → StopsForCause {A = A} (Err fault) new.fs.land.blocks.draft.sizes after
@@ -59,7 +60,7 @@ second-stored A result fault old base mid new bytes left between after is fitted
     (subst (λ (n : ℕ). StopsForCause {A = A} (Err fault) new.fs.land.blocks.draft.sizes n) still stops)
 
 -- where memory was refused
-pub read-memory : (result : Result Answer BlockFault) (command : Command) (old new : Kept) (before after : History)
+pub read-memory : (result : Result Answer BlockFault) (command : Command) (old new : OpenImage) (before after : History)
     (bytes : ℕ) → result ≡ Err NoMemory → StopsByRead result command old new before after bytes
 read-memory result command old new before after bytes is =
     subst (λ (r : Result Answer BlockFault). StopsByRead r command old new before after bytes) (sym is)

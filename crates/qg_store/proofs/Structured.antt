@@ -14,22 +14,26 @@ use Rattle.qg_num.specs.declared.fault.BlockFault.{BlockFault}
 use Rattle.qg_num.specs.declared.refusal.Refusal.{Refusal}
 use Rattle.qg_node.specs.declared.node.Node.{Node}
 use Rattle.qg_super.specs.declared.superblock.Super.{Super}
+use Rattle.qg_image.specs.Record.{Record}
 use Rattle.qg_image.specs.State.{Committed, State}
 use Rattle.qg_machine.specs.Refusals.{is_pending, nodes_reached, refusal}
 use Rattle.qg_machine.specs.Step.{Changes, Commits, CommitsPending, DoesStructural}
 use Rattle.qg_machine.specs.Step as machine
-use Rattle.qg_groups.specs.Changing.{is_group_command}
-use Rattle.qg_blocks.specs.Told.{IfBroken}
+use Rattle.qg_qgroups.specs.Changing.{is_group_command}
+use Rattle.qg_blocks.specs.NodesFound.{IfBroken}
+use Rattle.qg_space.specs.Holding.{free_slots}
 use Rattle.qg_blocks.proofs.Broken.{broken-handed, broken-then}
-use Rattle.qg_kept_commit.specs.Calls.{Call, commit_calls, unsure_calls, with_commit}
-use Rattle.qg_kept_commit.specs.Types.{Kept}
-use Rattle.qg_kept_commit.specs.Answering.{AnswersOn, IsDoneSoFar, comes_to_disk, is_structural}
-use Rattle.qg_kept_commit.specs.Keeping.{IsKeptOf}
-use Rattle.qg_kept_commit.specs.Making.{MadeFirst, Makes, SecondSoFar, StartsCommit, StopsSecond}
-use Rattle.qg_kept_commit.specs.Planning.{CommitsOfSoFar, CommitsOn, StartsCommitOf, StopsCommitOf}
-use Rattle.qg_kept_commit.specs.Stored.{IsIntact, KnowsLast, StopsFirst}
+use Rattle.qg_image_commits.specs.Calls.{Call, commit_calls, unsure_calls, with_commit}
+use Rattle.qg_image_commits.specs.Types.{OpenImage}
+use Rattle.qg_image_commits.specs.Answering.{AnswersOn, IsDoneSoFar, comes_to_disk, is_structural}
+use Rattle.qg_image_commits.proofs.Reserve.{finds-planned}
+use Rattle.qg_image_commits.specs.FsLawsKeeping.{other_names}
+use Rattle.qg_image_commits.specs.Keeping.{IsFitted, IsKeptOf, IsKeptWith, commit_need}
+use Rattle.qg_image_commits.specs.Making.{MadeFirst, Makes, SecondSoFar, StartsCommit, StopsSecond}
+use Rattle.qg_image_commits.specs.Planning.{CommitsOfSoFar, CommitsOn, StartsCommitOf, StopsCommitOf}
+use Rattle.qg_image_commits.specs.Stored.{IsIntact, KnowsLast, StopsFirst}
 use Rattle.qg_store.specs.Structural.{HasCommitted, IsDoneFirst, IsSettledFrom}
-use Rattle.qg_kept_changes.specs.Changing.{IsChanged}
+use Rattle.qg_image_changes.specs.Changing.{IsChanged}
 use Rattle.qg_store.proofs.Synced.{Makes-append, held_after}
 
 -- ---- what is held meanwhile
@@ -74,7 +78,7 @@ held-regrouped before changed _ reply group changes = absurd (true≢false (sym 
 -- ---- the first commit
 
 -- it was made, and no more was done
-pub made-first : (state : State) (mid : Kept) (events : List Event) (between history : History)
+pub made-first : (state : State) (mid : OpenImage) (events : List Event) (between history : History)
     → HasCommitted state mid events between → history ≡ between → MadeFirst state events history
 made-first state mid events between history first same = record {
   before = first.before;
@@ -100,70 +104,102 @@ so-far-first state given events between history comes unrefused same done = elim
 
 -- ---- all of it
 
-module _ (state : State) (given : Command) (reply : Answer) (mid new last : Kept) (events : List Event)
-    (between after : History) (first : HasCommitted state mid events between)
-    (change : IsChanged first.before given reply new after) (same : after ≡ between)
-    (held : change.changed.held ≡ first.before.held) where
-  told : after ≡ Recorded first.between
-  told = same ∙ first.told
+-- what a commit promises of each state that is kept so
+abbrev PromisesOf : OpenImage → History → (State → List Event → Type 0) → Type 0
+PromisesOf kept history P = (state : State) (events : List Event) (names : List Record)
+    → IsKeptWith kept state history names → commit_need kept ≤ free_slots kept.fs.land.space
+    → history ≡ Recorded events → P state events
 
-  held-now : held_after state.held first.earlier ≡ change.changed.held
-  held-now = held-first state first.earlier first.before first.first ∙ sym held
+-- a structural command that isn't refused: what was pending was committed, and then the command was done in memory
+pub record IsReady (state : State) (given : Command) (reply : Answer) (mid new : OpenImage) (events : List Event)
+    (between after : History) : Type 0 where
+  pub comes : comes_to_disk given ≡ true
+  pub unrefused : refusal state given ≡ None
+  pub done : IsDoneFirst state events between
+  pub first : HasCommitted state mid events between
+  pub change : IsChanged first.before given reply new after
+  pub same : after ≡ between
+  pub held : change.changed.held ≡ first.before.held
+  pub fits : IsFitted new
 
-  module _ (history : History) (second : CommitsOn change.changed last first.between history) where
+module _ {state : State} {given : Command} {reply : Answer} {mid new : OpenImage} {events : List Event}
+    {between after : History} (is : IsReady state given reply mid new events between after) where
+  abbrev changed : State
+  changed = is.change.changed
+
+  told : after ≡ Recorded is.first.between
+  told = is.same ∙ is.first.told
+
+  -- what the second commit promises of the state that is kept then
+  pub of-changed : (P : State → List Event → Type 0) → PromisesOf new after P → P changed is.first.between
+  of-changed P promise =
+      promise changed is.first.between (other_names is.first.before) is.change.keeps
+      (finds-planned new is.fits is.change.room) told
+
+  held-now : held_after state.held is.first.earlier ≡ changed.held
+  held-now = held-first state is.first.earlier is.first.before is.first.first ∙ sym is.held
+
+  module _ (last : OpenImage) (history : History) (second : CommitsOn changed last is.first.between history) where
     abbrev commits : List State
-    commits = first.earlier ++ second.new ∷ []
+    commits = is.first.earlier ++ second.new ∷ []
 
-    made : Makes state.held commits events (with_commit second.super second.nodes first.between)
-    made = Makes-append state.held first.earlier (second.new ∷ []) events first.between
-        (with_commit second.super second.nodes first.between) first.made
-        (subst (λ (h : Committed). Makes h (second.new ∷ []) first.between
-        (with_commit second.super second.nodes first.between)) (sym held-now)
+    made : Makes state.held commits events (with_commit second.super second.nodes is.first.between)
+    made = Makes-append state.held is.first.earlier (second.new ∷ []) events is.first.between
+        (with_commit second.super second.nodes is.first.between) is.first.made
+        (subst (λ (h : Committed). Makes h (second.new ∷ []) is.first.between
+        (with_commit second.super second.nodes is.first.between)) (sym held-now)
         (second.super, second.nodes, second.brings, refl))
 
     does : DoesStructural state given reply commits second.new
     does = record {
-      before = first.before;
-      earlier = first.earlier;
-      first = first.first;
-      changed = change.changed;
-      changes = change.changes;
+      before = is.first.before;
+      earlier = is.first.earlier;
+      first = is.first.first;
+      changed = changed;
+      changes = is.change.changes;
       second = second.commits;
       told = refl;
     }
 
-    pub does-structural : refusal state given ≡ None
-        → (DoesStructural state given reply commits second.new
-        → machine.Does state given reply commits second.new)
-        → AnswersOn state given reply last events history
-    does-structural unrefused is = (
+    answered : ((commits : List State) (then : State) → DoesStructural state given reply commits then
+        → machine.Does state given reply commits then) → AnswersOn state given reply last events history
+    answered steps = (
       commits,
       record {
         new = second.new;
         step = subst (λ (o : Option Refusal). MatchOption o (machine.Does state given reply commits second.new)
-            (λ reason. (reply ≡ Refused reason) × machine.Stays state commits second.new)) (sym unrefused) (is does);
+            (λ reason. (reply ≡ Refused reason) × machine.Stays state commits second.new)) (sym is.unrefused)
+            (steps commits second.new does);
         keeps = second.keeps;
         reserved = second.keeps.reserve;
       },
       record {
-        after = with_commit second.super second.nodes first.between;
+        after = with_commit second.super second.nodes is.first.between;
         told = second.told;
         made = made;
       },
     )
 
+  -- it is answered as it was done
+  pub does-structural : (last : OpenImage) (history : History)
+      → PromisesOf new after (λ now then. CommitsOn now last then history)
+      → ((commits : List State) (then : State) → DoesStructural state given reply commits then
+      → machine.Does state given reply commits then) → AnswersOn state given reply last events history
+  does-structural last history promise =
+      answered last history (of-changed (λ now then. CommitsOn now last then history) promise)
+
   -- the calls of the second commit came so far
   begun : (calls : Super → List Node → List Call) (history : History)
-      → CommitsOfSoFar calls change.changed first.between history → SecondSoFar calls state given events history
+      → CommitsOfSoFar calls changed is.first.between history → SecondSoFar calls state given events history
   begun calls history second = record {
-    before = first.before;
-    earlier = first.earlier;
-    first = first.first;
-    between = first.between;
-    made_first = first.made;
+    before = is.first.before;
+    earlier = is.first.earlier;
+    first = is.first.first;
+    between = is.first.between;
+    made_first = is.first.made;
     reply = reply;
-    changed = change.changed;
-    changes = change.changes;
+    changed = changed;
+    changes = is.change.changes;
     new = second.new;
     second = second.commits;
     super = second.super;
@@ -174,30 +210,32 @@ module _ (state : State) (given : Command) (reply : Answer) (mid new last : Kept
 
   -- the first commit was made, and of the second so many calls
   pub made-second : (history : History)
-      → (history ≡ Recorded first.between) ⊎ StopsCommitOf change.changed first.between history
+      → PromisesOf new after (λ now then. (history ≡ Recorded then) ⊎ StopsCommitOf now then history)
       → MadeFirst state events history ⊎ StopsSecond state given events history
-  made-second history starts = elim starts [
-    | inl none ↦ inl (made-first state mid events between history first (none ∙ sym first.told))
-    | inr second ↦ inr (begun unsure_calls history second)
-  ]
+  made-second history promise = elim (of-changed
+      (λ now then. (history ≡ Recorded then) ⊎ StopsCommitOf now then history) promise) [
+        | inl none ↦ inl (made-first state mid events between history is.first (none ∙ sym is.first.told))
+        | inr second ↦ inr (begun unsure_calls history second)
+      ]
 
-  pub so-far-second : (history : History) → comes_to_disk given ≡ true → refusal state given ≡ None
-      → IsDoneFirst state events between
-      → (history ≡ Recorded first.between) ⊎ StartsCommitOf change.changed first.between history
+  pub so-far-second : (history : History)
+      → PromisesOf new after (λ now then. (history ≡ Recorded then) ⊎ StartsCommitOf now then history)
       → IsDoneSoFar state given events history
-  so-far-second history comes unrefused done starts = elim starts [
-    | inl none ↦ so-far-first state given events between history comes unrefused (none ∙ sym first.told) done
-    | inr second ↦ inr (record {
-      comes = comes;
-      unrefused = unrefused;
-      calls = inr (begun commit_calls history second);
-    })
-  ]
+  so-far-second history promise = elim (of-changed
+      (λ now then. (history ≡ Recorded then) ⊎ StartsCommitOf now then history) promise) [
+        | inl none ↦
+            so-far-first state given events between history is.comes is.unrefused (none ∙ sym is.first.told) is.done
+        | inr second ↦ inr (record {
+          comes = is.comes;
+          unrefused = is.unrefused;
+          calls = inr (begun commit_calls history second);
+        })
+      ]
 
 -- ---- over any disk
 
 -- the generation that the second commit meets
-pub early-second : (old mid new : Kept) → IsSettledFrom old mid → new.superblock ≡ mid.superblock
+pub early-second : (old mid new : OpenImage) → IsSettledFrom old mid → new.superblock ≡ mid.superblock
     → old.superblock.generation ≤ 2 ^ 63 → new.superblock.generation ≤ 2 ^ 63 + 1
 early-second old mid new settled same early =
     let now = ap (λ (s : Super). s.generation) same in
@@ -207,7 +245,7 @@ early-second old mid new settled same early =
     ]
 
 -- nothing is pending of the state
-not-pending : (kept : Kept) (state : State) (history : History) → IsKeptOf kept state history → kept.pending ≡ 0
+not-pending : (kept : OpenImage) (state : State) (history : History) → IsKeptOf kept state history → kept.pending ≡ 0
     → is_pending state ≡ false
 not-pending kept state history keeps none =
     let many = keeps.pending in le-ltb 0 (length state.pending) (omega (arith, many, none))
@@ -229,7 +267,7 @@ first-by state given events after none (inl made) =
 first-by state given events after none (inr second) = inr (ap not none, second)
 
 -- The last commit is known, where what was pending is committed, and the superblock was not changed before and behind
-pub last-settled : (given : Command) (old turned mid new : Kept) (before after : History)
+pub last-settled : (given : Command) (old turned mid new : OpenImage) (before after : History)
     → is_structural given ≡ true → turned.superblock ≡ old.superblock → turned.pending ≡ old.pending
     → IsSettledFrom turned mid → new.superblock ≡ mid.superblock
     → ((state : State) (events : List Event) → IsKeptOf old state before → before ≡ Recorded events
@@ -269,7 +307,7 @@ none_or_some zero = inl refl
 none_or_some (suc n) = inr (omega arith)
 
 -- what was pending was committed, where something was, and nothing else was done
-pub intact-first : (given : Command) (old base mid new : Kept) (before early between after : History)
+pub intact-first : (given : Command) (old base mid new : OpenImage) (before early between after : History)
     → is_structural given ≡ true → early ≡ before → base.pending ≡ old.pending
     → (base.pending ≡ 0 → between ≡ early)
     → (0 < base.pending → (nodes : List Node) × (between ≡ history_after (with_commit mid.superblock nodes) early))
@@ -290,7 +328,7 @@ intact-first given old base mid new before early between after structural read p
     ]
 
 -- a command that is given is this one
-pub intact-given : (command given : Command) (old new : Kept) (before after : History)
+pub intact-given : (command given : Command) (old new : OpenImage) (before after : History)
     (result : Result Answer BlockFault) → command ≡ given → IfBroken result (IsIntact given old new before after)
     → IfBroken result (IsIntact command old new before after)
 intact-given command given old new before after result is broken =
@@ -298,7 +336,7 @@ intact-given command given old new before after result is broken =
 
 -- a fault that is handed on: what follows from what it left
 pub intact-handed : (A : Type 0) {B : Type 0} (result : Result B BlockFault) (fault : BlockFault) (given : Command)
-    (old new : Kept) (before after : History) (Same : Type 0) → result ≡ Err fault
+    (old new : OpenImage) (before after : History) (Same : Type 0) → result ≡ Err fault
     → (Same → IsIntact given old new before after) → IfBroken {A = A} (Err fault) Same
     → IfBroken result (IsIntact given old new before after)
 intact-handed A {B} result fault given old new before after Same is then broken =

@@ -6,9 +6,9 @@ use Rattle.qg_super.specs.declared.superblock.Super.{Super}
 use Rattle.qg_super.specs.Places.{first_place, second_place}
 use Rattle.qg_super.specs.SuperText.{super_text}
 use Rattle.qg_image.specs.State.{Committed, State}
-use Rattle.qg_kept_commit.specs.Calls.{with_nodes, with_commit}
-use Rattle.qg_kept_commit.proofs.Moments.{synced-with_commit}
-use Rattle.qg_kept_commit.specs.Making.{AreSynced, Makes}
+use Rattle.qg_image_commits.specs.Calls.{with_nodes, with_commit}
+use Rattle.qg_image_commits.proofs.Moments.{synced-with_commit}
+use Rattle.qg_image_commits.specs.Making.{AreSynced, Makes}
 
 -- what a disk held at a sync right after these events
 abbrev moment_after : List Event → Moment

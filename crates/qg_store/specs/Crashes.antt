@@ -8,9 +8,9 @@ use Rattle.qg_image.specs.State.{State}
 use Rattle.qg_machine.specs.Refusals.{refusal}
 use Rattle.qg_machine.specs.Step.{CommitsPending, Step}
 use Rattle.qg_crashes.specs.Outcomes.{Chain, Commit, Rests, Survives, dated_by}
-use Rattle.qg_kept_commit.specs.Types.{Kept}
-use Rattle.qg_kept_commit.specs.Answering.{Answered, comes_to_disk}
-use Rattle.qg_kept_commit.specs.Making.{MadeCommits}
+use Rattle.qg_image_commits.specs.Types.{OpenImage}
+use Rattle.qg_image_commits.specs.Answering.{Answered, comes_to_disk}
+use Rattle.qg_image_commits.specs.Making.{MadeCommits}
 
 -- ---- the last commit
 
@@ -66,7 +66,7 @@ pub record CommitsBy (old : State) (command : Command) (committed : State) (even
 -- The machine answers a command so, and what is kept is that of the state that it comes to. The disk was made to hold
 -- what the command commits, of which a crash in the midst of it left one or the last commit before it, and rests in the
 -- last of these: the next command begins over that
-pub record StillRests (old : State) (command : Command) (reply : Answer) (committed : State) (kept : Kept)
+pub record StillRests (old : State) (command : Command) (reply : Answer) (committed : State) (kept : OpenImage)
     (events : List Event) (history : History) : Type 0 where
   pub commits : List State
   pub answered : Answered old command reply commits kept history
@@ -79,6 +79,6 @@ pub record StillRests (old : State) (command : Command) (reply : Answer) (commit
 -- commit, or for one that the command makes, whatever is answered; and where the command is answered, the disk rests
 -- again
 pub record OutlivesCommand (old : State) (command : Command) (committed : State) (events : List Event)
-    (history : History) (result : Result Answer Stop) (kept : Kept) : Type 0 where
+    (history : History) (result : Result Answer Stop) (kept : OpenImage) : Type 0 where
   pub crashes : CommitsBy old command committed events history
   pub rests : IfOk result (λ reply. StillRests old command reply committed kept events history)

@@ -1,12 +1,12 @@
-pub use Rattle.qg_kept_commit.specs.Answering
-pub use Rattle.qg_kept_commit.specs.Calls
-pub use Rattle.qg_kept_commit.specs.CommitOpening
-pub use Rattle.qg_kept_commit.specs.Fresh
-pub use Rattle.qg_kept_commit.specs.Making
-pub use Rattle.qg_kept_commit.specs.Mkfs
-pub use Rattle.qg_kept_commit.specs.Opened as CommitOpened
-pub use Rattle.qg_kept_commit.specs.Report
-pub use Rattle.qg_kept_commit.specs.Stored
+pub use Rattle.qg_image_commits.specs.Answering
+pub use Rattle.qg_image_commits.specs.Calls
+pub use Rattle.qg_image_commits.specs.CommitOpening
+pub use Rattle.qg_image_commits.specs.Fresh
+pub use Rattle.qg_image_commits.specs.Making
+pub use Rattle.qg_image_commits.specs.Mkfs
+pub use Rattle.qg_image_commits.specs.Opened as CommitOpened
+pub use Rattle.qg_image_commits.specs.Report
+pub use Rattle.qg_image_commits.specs.Stored
 pub mod Structural
 pub mod Crashes
 pub mod Work

@@ -9,13 +9,13 @@ use Rattle.qg_num.specs.declared.fault.Stop.TheVariants.{Aborted, Disk, Image, N
 use Rattle.qg_super.specs.declared.sizes.Sizes.{Sizes}
 use Rattle.qg_super.specs.SuperText.{sizes_of}
 use Rattle.qg_blocks.specs.Stopping.{IsStopCause, StopsForCause}
-use Rattle.qg_blocks.specs.Told.{IfBroken}
-use Rattle.qg_kept_commit.specs.Types.{Kept}
-use Rattle.qg_kept_commit.specs.Stored.{IsIntact, Stored, is_of_image}
+use Rattle.qg_blocks.specs.NodesFound.{IfBroken}
+use Rattle.qg_image_commits.specs.Types.{OpenImage}
+use Rattle.qg_image_commits.specs.Stored.{IsIntact, Stored, is_of_image}
 
 -- A command that finds a rule broken has done nothing to a disk of so many bytes, but for the first of the two commits
 -- of a structural command; and rule and address are named for a cause
-pub record StopsByRead (result : Result Answer BlockFault) (command : Command) (old new : Kept)
+pub record StopsByRead (result : Result Answer BlockFault) (command : Command) (old new : OpenImage)
     (before after : History) (bytes : ℕ) : Type 0 where
   pub intact : IfBroken result (IsIntact command old new before after)
   pub cause : StopsForCause result (sizes_of old.superblock) bytes

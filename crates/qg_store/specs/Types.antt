@@ -1,2 +1,2 @@
 -- Types of the crates below that this crate passes on.
-pub use Rattle.qg_kept_commit.specs.Types.{Broken, Differs, Report, Sound}
+pub use Rattle.qg_image_commits.specs.Types.{Broken, Differs, Report, Sound}

@@ -7,7 +7,7 @@ use Rattle.qg_num.specs.declared.fault.Stop.{Stop}
 use Rattle.qg_image.specs.State.{State, layout_of}
 use Rattle.qg_machine.specs.FileChange.{FileChange, file_change}
 use Rattle.qg_machine.specs.Work.{AreBounded, HasCounted, StepsTaken, is_accepted}
-use Rattle.qg_kept_commit.specs.Stored.{IsStoreOf, Stored}
+use Rattle.qg_image_commits.specs.Stored.{IsStoreOf, Stored}
 
 -- Two counters have counted the steps that a command took in a store, over a disk with these histories before and after
 -- it: the owners of nothing were looked up so far. Where it is a file command that was accepted, from a state to

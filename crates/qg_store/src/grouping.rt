@@ -5,28 +5,28 @@ ghost use Rattle.qg_device.specs.History.{Event, Recorded};
 ghost use Rattle.qg_num.specs.declared.answer.Answer.TheVariants.{Done};
 ghost use Rattle.qg_super.specs.SuperText.{sizes_of};
 ghost use Rattle.qg_image.specs.State.{State};
-ghost use Rattle.qg_blocks.specs.Told.{BreaksNone};
-ghost use Rattle.qg_groups.specs.Changing.{is_group_command};
-ghost use Rattle.qg_kept_commit.specs.Answering.{AnswersOn, IsDoneSoFar, is_unchanging};
-ghost use Rattle.qg_kept_commit.specs.Editing.{HasLooked};
-ghost use Rattle.qg_kept_commit.specs.Keeping.{IsFitted, IsKept, IsKeptOf};
-ghost use Rattle.qg_kept_commit.specs.Stored.{KnowsLast};
+ghost use Rattle.qg_blocks.specs.NodesFound.{BreaksNone};
+ghost use Rattle.qg_qgroups.specs.Changing.{is_group_command};
+ghost use Rattle.qg_image_commits.specs.Answering.{AnswersOn, IsDoneSoFar, is_unchanging};
+ghost use Rattle.qg_image_commits.specs.Editing.{HasLooked};
+ghost use Rattle.qg_image_commits.specs.Keeping.{IsFitted, IsKept, IsKeptOf};
+ghost use Rattle.qg_image_commits.specs.Stored.{KnowsLast};
 ghost use Rattle.qg_store.specs.Stopping.{StopsByRead};
-ghost use Rattle.qg_kept_changes.specs.Changing.{group_copies};
+ghost use Rattle.qg_image_changes.specs.Changing.{group_copies};
 
 use crate::structural::{COPIES, commit_pending, no_commit};
 use qg_disk::Disk;
-use qg_groups::refusal_of;
-use qg_kept_changes::change_groups;
-use qg_kept_commit::commit_now;
-use qg_kept_commit::kept::Kept;
+use qg_image_changes::change_groups;
+use qg_image_commits::commit_now;
+use qg_image_commits::open_image::OpenImage;
 use qg_num::{Answer, BlockFault, Command, Steps};
+use qg_qgroups::refusal_of;
 use std::sync::ledger::Ledger;
 
 /// Turns quota on or off, or changes groups, relations or limits, or refuses to. What is pending is committed first,
 /// and the change then.
 pub(crate) fn regroup<D: Disk, L: Ledger>(
-    kept: &mut Kept,
+    kept: &mut OpenImage,
     disk: &mut D,
     command: &Command,
     reads: &mut Steps<L>,
@@ -66,7 +66,7 @@ pub(crate) fn regroup<D: Disk, L: Ledger>(
 }
 
 // The nodes that a command of quota may copy.
-fn copies_of(kept: &Kept, command: &Command) -> u64
+fn copies_of(kept: &OpenImage, command: &Command) -> u64
     requires fitted { IsFitted kept.now }
     ensures { result ≡ group_copies kept.now command.now }
 {

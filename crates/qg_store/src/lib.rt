@@ -5,5 +5,5 @@ mod grouping;
 mod store;
 mod structural;
 
-pub use qg_kept_commit::kept::{check, image_commit};
+pub use qg_image_commits::open_image::{check, image_commit};
 pub use store::Store;

@@ -11,30 +11,30 @@ ghost use Rattle.qg_grammar.specs.ScriptText.{is_in_grammar};
 ghost use Rattle.qg_image.specs.State.{State};
 ghost use Rattle.qg_image.specs.StateOf.{StateOf};
 ghost use Rattle.qg_image.specs.Verdict.{verdict};
-ghost use Rattle.qg_blocks.specs.Told.{BreaksNone};
+ghost use Rattle.qg_blocks.specs.NodesFound.{BreaksNone};
 ghost use Rattle.qg_walk.specs.Fault.{TellsFailure};
 ghost use Rattle.qg_crashes.specs.Outcomes.{Rests};
-ghost use Rattle.qg_kept_commit.specs.Opened.{IsOpened, IsOpening, OutlivesCrashes};
-ghost use Rattle.qg_kept_commit.specs.CommitOpening.{IsUntouched};
-ghost use Rattle.qg_kept_commit.specs.Answering.{AnswersOn, IsDoneSoFar, comes_to_disk, is_unchanging};
+ghost use Rattle.qg_image_commits.specs.Opened.{IsOpened, IsOpening, OutlivesCrashes};
+ghost use Rattle.qg_image_commits.specs.CommitOpening.{IsUntouched};
+ghost use Rattle.qg_image_commits.specs.Answering.{AnswersOn, IsDoneSoFar, comes_to_disk, is_unchanging};
 ghost use Rattle.qg_store.specs.Crashes.{IsLastCommit, OutlivesCommand};
 ghost use Rattle.qg_store.specs.Work.{TakesSteps};
 ghost use Rattle.qg_file_commands.specs.Reading.{AsksForFew};
-ghost use Rattle.qg_kept_commit.specs.Editing.{HasLooked};
-ghost use Rattle.qg_kept_commit.specs.Keeping.{IsKept, IsKeptOf};
-ghost use Rattle.qg_kept_commit.specs.Stored.{ComesToDisk, DoesCommand, GoesOn, IsReady, IsStoreOf};
-ghost use Rattle.qg_kept_commit.specs.Stored.{IsStoreOver, IsUnchanged, KnowsLast, RunsOrStops, is_aborted};
-ghost use Rattle.qg_kept_commit.specs.Stored.{sizes_stored};
+ghost use Rattle.qg_image_commits.specs.Editing.{HasLooked};
+ghost use Rattle.qg_image_commits.specs.Keeping.{IsKept, IsKeptOf};
+ghost use Rattle.qg_image_commits.specs.Stored.{ComesToDisk, DoesCommand, GoesOn, IsReady, IsStoreOf};
+ghost use Rattle.qg_image_commits.specs.Stored.{IsStoreOver, IsUnchanged, KnowsLast, RunsOrStops, is_aborted};
+ghost use Rattle.qg_image_commits.specs.Stored.{sizes_stored};
 ghost use Rattle.qg_store.specs.Stopping.{StopsByRead, StopsStore};
 
 use crate::grouping::regroup;
 use crate::structural::{create, delete, snap};
 use qg_disk::Disk;
 use qg_file_commands::{clone, list, truncate, unlink, write};
-use qg_kept_changes::{kept_of, show};
-use qg_kept_commit::kept::Kept;
-use qg_kept_commit::kept::image_commit::{OpenFault, open};
-use qg_kept_commit::{commit, owners};
+use qg_image_changes::{kept_of, show};
+use qg_image_commits::open_image::OpenImage;
+use qg_image_commits::open_image::image_commit::{OpenFault, open};
+use qg_image_commits::{commit, owners};
 use qg_num::{Address, Answer, BlockFault, Command, Generation, Steps, Stop};
 use std::alloc::Global;
 use std::marker::Model;
@@ -43,12 +43,12 @@ use std::sync::ledger::Ledger;
 /// An open image, with what is pending (this project's own).
 #[derive(Drop)]
 pub struct Store {
-    kept: Kept,
+    kept: OpenImage,
     stopped: Option<BlockFault>,
 }
 
 impl Model for Store {
-    ghost use Rattle.qg_kept_commit.specs.Stored.{Stored, IsStore};
+    ghost use Rattle.qg_image_commits.specs.Stored.{Stored, IsStore};
 
     ghost Value = { Stored };
 
@@ -188,7 +188,7 @@ fn stop_of(fault: &BlockFault) -> Stop
 
 // Does a command or refuses it.
 fn answer<D: Disk, M: Ledger>(
-    kept: &mut Kept,
+    kept: &mut OpenImage,
     disk: &mut D,
     command: &Command,
     reads: &mut Steps<M>,

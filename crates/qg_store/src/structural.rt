@@ -8,23 +8,23 @@ ghost use Rattle.qg_super.specs.SuperText.{sizes_of};
 ghost use Rattle.qg_image.specs.State.{State};
 ghost use Rattle.qg_machine.specs.Refusals.{nodes_reached};
 ghost use Rattle.qg_blocks.specs.Stopping.{StopsForCause};
-ghost use Rattle.qg_blocks.specs.Told.{BreaksNone, IfBroken};
+ghost use Rattle.qg_blocks.specs.NodesFound.{BreaksNone, IfBroken};
 ghost use Rattle.qg_extents.specs.Table.{IsTable};
 ghost use Rattle.qg_space.specs.Holding.{free_slots};
-ghost use Rattle.qg_kept_commit.specs.Answering.{AnswersOn, IsDoneSoFar, is_unchanging};
-ghost use Rattle.qg_kept_commit.specs.Editing.{HasLooked, HasReadNodes};
-ghost use Rattle.qg_kept_commit.specs.Keeping.{IsKept, IsKeptOf, structural_need_of};
-ghost use Rattle.qg_kept_commit.specs.Stored.{IsIntact, KnowsLast, StaysLast, StopsPending};
+ghost use Rattle.qg_image_commits.specs.Answering.{AnswersOn, IsDoneSoFar, is_unchanging};
+ghost use Rattle.qg_image_commits.specs.Editing.{HasLooked, HasReadNodes};
+ghost use Rattle.qg_image_commits.specs.Keeping.{IsKept, IsKeptOf, structural_need_of};
+ghost use Rattle.qg_image_commits.specs.Stored.{IsIntact, KnowsLast, StaysLast, StopsPending};
 ghost use Rattle.qg_store.specs.Structural.{CallsPending, HasCommitted, IsDoneFirst, IsSettledFrom, commit_refusal};
-ghost use Rattle.qg_kept_changes.specs.Changing.{HasRoom};
+ghost use Rattle.qg_image_changes.specs.Changing.{HasRoom};
 
 use qg_disk::Disk;
-use qg_groups::refusal_of_parents;
+use qg_image_changes::{are_too_many, create_change, delete_change, number_next, snap_change};
+use qg_image_commits::open_image::{OpenImage, structural_need, turn_to};
+use qg_image_commits::{LAST_GENERATION, commit_now};
 use qg_items::tree::TOP_LEVEL;
-use qg_kept_changes::{are_too_many, create_change, delete_change, number_next, snap_change};
-use qg_kept_commit::kept::{Kept, structural_need, turn_to};
-use qg_kept_commit::{LAST_GENERATION, commit_now};
 use qg_num::{Answer, BlockFault, GroupId, NoMemory, Refusal, RootId, Steps};
+use qg_qgroups::refusal_of_parents;
 use std::sync::ledger::Ledger;
 
 /// The nodes that a structural command may copy besides those that it goes through.
@@ -35,7 +35,7 @@ const MOST_NODES: u64 = 1 << 48;
 
 /// Makes a subvolume without files, or refuses to. What is pending is committed first, and the subvolume then.
 pub(crate) fn create<D: Disk, L: Ledger>(
-    kept: &mut Kept,
+    kept: &mut OpenImage,
     disk: &mut D,
     reads: &mut Steps<L>,
 ) -> Result<Answer, BlockFault>
@@ -77,7 +77,7 @@ pub(crate) fn create<D: Disk, L: Ledger>(
 /// Makes a subvolume that begins as another one is, its group a member of the groups of a list, or refuses to. Else as
 /// [`create`].
 pub(crate) fn snap<D: Disk, L: Ledger>(
-    kept: &mut Kept,
+    kept: &mut OpenImage,
     disk: &mut D,
     sub: RootId,
     parents: &[GroupId],
@@ -127,7 +127,7 @@ pub(crate) fn snap<D: Disk, L: Ledger>(
 
 /// Deletes a subvolume, or refuses to. Else as [`create`].
 pub(crate) fn delete<D: Disk, L: Ledger>(
-    kept: &mut Kept,
+    kept: &mut OpenImage,
     disk: &mut D,
     sub: RootId,
     reads: &mut Steps<L>,
@@ -171,7 +171,7 @@ pub(crate) fn delete<D: Disk, L: Ledger>(
 
 // The nodes that may be copied where the tree at hand goes. More than 2^48 are told in no memory.
 fn copies_of_tree<D: Disk, L: Ledger>(
-    kept: &mut Kept,
+    kept: &mut OpenImage,
     disk: &mut D,
     reads: &mut Steps<L>,
 ) -> Result<u64, BlockFault>
@@ -187,7 +187,7 @@ fn copies_of_tree<D: Disk, L: Ledger>(
     ensures cause { HasCause BlockFault.Disk (D.faults disk.old) (D.faults disk.new) result }
 {
     let _ascending = kept.fs.refs.refs().len();
-    let nodes = qg_kept_changes::drop::count_nodes(
+    let nodes = qg_image_changes::subvolumes::count_nodes(
         kept.alloc,
         &mut kept.fs.land,
         disk,
@@ -212,7 +212,7 @@ fn copies_with(parents: &[GroupId]) -> Result<u64, NoMemory>
 }
 
 /// Why a structural command that may copy so many nodes is refused at last.
-pub(crate) fn no_commit(kept: &Kept, copies: u64) -> Result<Option<Refusal>, NoMemory>
+pub(crate) fn no_commit(kept: &OpenImage, copies: u64) -> Result<Option<Refusal>, NoMemory>
     requires size { IsNodeSize kept.now.superblock.nodesize }
     ensures value { IfOk result (λ why. why ≡ commit_refusal kept.now copies) }
     ensures enough { IfOk result (λ why. IfNone why (structural_need_of kept.now copies
@@ -235,7 +235,7 @@ pub(crate) fn no_commit(kept: &Kept, copies: u64) -> Result<Option<Refusal>, NoM
 /// What is pending is committed, where something is. What a structural command needs is there then, but for that
 /// commit.
 pub(crate) fn commit_pending<D: Disk, L: Ledger>(
-    kept: &mut Kept,
+    kept: &mut OpenImage,
     disk: &mut D,
     reads: &mut Steps<L>,
 ) -> Result<(), BlockFault>

@@ -2,5 +2,5 @@ pub mod Reading
 pub mod Rounds
 pub mod Stepped
 pub mod Ordered
-pub mod Held
+pub mod TreesRead
 pub mod Links

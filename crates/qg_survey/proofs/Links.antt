@@ -21,22 +21,22 @@ use Rattle.qg_image.specs.State.{Placed, State, Subvolume, layout_of, node_at}
 use Rattle.qg_image.proofs.Contained.{none_contained}
 use Rattle.qg_reach.specs.Sets.{HaveSame}
 use Rattle.qg_reach.proofs.Members.{contains_map, one_mapped}
-use Rattle.qg_image.specs.declared.tree.Tree.TheVariants.{Files}
+use Rattle.qg_image.specs.declared.tree.TreeKind.TheVariants.{Files}
 use Rattle.qg_machine.specs.Layout.{IsTreeOf, super_to_come}
-use Rattle.qg_ground.specs.declared.ground.Ground.{Ground}
-use Rattle.qg_ground.specs.Land.{IsGround}
-use Rattle.qg_home.specs.Linked.{AreLinksOf, HasChildAt, HasNodeAt, linked_of}
-use Rattle.qg_home.specs.declared.linked.Linked.{Linked}
-use Rattle.qg_home.proofs.Listed.{index_of}
-use Rattle.qg_home.proofs.Reaching.{entry_of_value, value_of_entry}
-use Rattle.qg_direct.specs.Surveyed.{AreSurveyed, links_in, surveyed_of}
-use Rattle.qg_descent.specs.Branch.{IsBranch}
-use Rattle.qg_descent.specs.Tree.{Reaches}
-use Rattle.qg_descent.proofs.Branches.{branch-below, branch-top}
-use Rattle.qg_tree_refs.specs.declared.tree_refs.TreeRefs.{TreeRefs}
-use Rattle.qg_drop.specs.Standing.{HoldsState}
-use Rattle.qg_drop.proofs.Extents.{AreApart, among-one, apart-held, branch-whole, extents-held, node-met}
-use Rattle.qg_drop.proofs.Meeting.{each-there, met-child, met-there, placed-there, root-met}
+use Rattle.qg_node_alloc.specs.declared.ground.Ground.{Ground}
+use Rattle.qg_node_alloc.specs.Land.{IsGround}
+use Rattle.qg_owner_rule.specs.Linked.{AreLinksOf, HasChildAt, HasNodeAt, linked_of}
+use Rattle.qg_owner_rule.specs.declared.linked.Linked.{Linked}
+use Rattle.qg_owner_rule.proofs.Listed.{index_of}
+use Rattle.qg_owner_rule.proofs.Reaching.{entry_of_value, value_of_entry}
+use Rattle.qg_qgroup_counts.specs.Surveyed.{AreSurveyed, links_in, surveyed_of}
+use Rattle.qg_tree_read.specs.Branch.{IsBranch}
+use Rattle.qg_tree_read.specs.Tree.{Reaches}
+use Rattle.qg_tree_read.proofs.Branches.{branch-below, branch-top}
+use Rattle.qg_tree_backrefs.specs.declared.tree_refs.TreeRefs.{TreeRefs}
+use Rattle.qg_subvolumes.specs.ForestStanding.{HoldsState}
+use Rattle.qg_subvolumes.proofs.ForestExtents.{AreApart, among-one, apart-held, branch-whole, extents-held, node-met}
+use Rattle.qg_subvolumes.proofs.Meeting.{each-there, met-child, met-there, placed-there, root-met}
 
 -- what is reached from a branch is the top of a branch, of its own level
 branch-reached : (super : Super) (nodes : ℕ → Option Node) (level from : ℕ) (items : List Item)

@@ -16,8 +16,8 @@ use Rattle.qg_image.specs.State.{Placed, State}
 use Rattle.qg_image.proofs.Contained.{contains_cases, contains_here, contains_later, none_contained}
 use Rattle.qg_reach.proofs.Ascending.{Rise, rise_sorted, rises_same}
 use Rattle.qg_reach.proofs.Members.{each_contained}
-use Rattle.qg_direct.specs.Surveyed.{surveyed_of}
-use Rattle.qg_direct.specs.declared.surveyed.Surveyed.{Surveyed}
+use Rattle.qg_qgroup_counts.specs.Surveyed.{surveyed_of}
+use Rattle.qg_qgroup_counts.specs.declared.surveyed.Surveyed.{Surveyed}
 use Rattle.qg_survey.specs.Surveying.{AreRead, link_at}
 use Rattle.qg_survey.proofs.Reading.{is-there, there-is}
 

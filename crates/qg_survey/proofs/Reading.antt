@@ -17,11 +17,11 @@ use Rattle.qg_image.specs.Table.{value_at}
 use Rattle.qg_image.specs.State.{Placed, State, node_at}
 use Rattle.qg_image.proofs.Contained.{none_contained}
 use Rattle.qg_reach.proofs.Members.{contains_map}
-use Rattle.qg_direct.specs.Surveyed.{surveyed_of}
-use Rattle.qg_direct.specs.declared.surveyed.Surveyed.{Surveyed}
-use Rattle.qg_home.proofs.Listed.{contains_at}
+use Rattle.qg_qgroup_counts.specs.Surveyed.{surveyed_of}
+use Rattle.qg_qgroup_counts.specs.declared.surveyed.Surveyed.{Surveyed}
+use Rattle.qg_owner_rule.proofs.Listed.{contains_at}
 use Rattle.qg_extents.proofs.Tables.{at_itself, at_other}
-use Rattle.qg_descent.specs.Tree.{Reaches}
+use Rattle.qg_tree_read.specs.Tree.{Reaches}
 use Rattle.qg_survey.specs.Surveying.{Adds, AreRead, HasBelow, link_at}
 
 abbrev Links : Type 0

@@ -4,11 +4,11 @@ use Rattle.std.specs.Prelude.{IsSome}
 use Rattle.std.specs.List.{All}
 use Rattle.std.proofs.lemmas.List.Elements.{All-cons, All-nil}
 use Rattle.qg_image.specs.State.{State}
-use Rattle.qg_descent.specs.Tree.{Root}
-use Rattle.qg_descent.specs.declared.way.Way.{Way}
+use Rattle.qg_tree_read.specs.Tree.{Root}
+use Rattle.qg_tree_read.specs.declared.way.Way.{Way}
 use Rattle.qg_image.specs.Walk.{root_expected}
-use Rattle.qg_drop.specs.Counting.{LeadsToBranch}
-use Rattle.qg_direct.specs.declared.surveyed.Surveyed.{Surveyed}
+use Rattle.qg_subvolumes.specs.Counting.{LeadsToBranch}
+use Rattle.qg_qgroup_counts.specs.declared.surveyed.Surveyed.{Surveyed}
 use Rattle.qg_survey.specs.Surveying.{Adds, AreRead, EndBelow, EndTrees, EndsBelow, GoesOn, HasBelow, LeadsOn, link_at}
 use Rattle.qg_survey.proofs.Reading.{adds-higher, adds-none, adds-on, still-read}
 

@@ -18,21 +18,21 @@ use Rattle.qg_image.specs.Table.{value_at}
 use Rattle.qg_image.specs.State.{Placed, State, node_at}
 use Rattle.qg_image.proofs.Contained.{none_contained, contains_cases, contains_here, contains_later}
 use Rattle.qg_reach.proofs.Members.{one_mapped}
-use Rattle.qg_image.specs.declared.tree.Tree.TheVariants.{Files}
+use Rattle.qg_image.specs.declared.tree.TreeKind.TheVariants.{Files}
 use Rattle.qg_machine.specs.Layout.{super_to_come}
 use Rattle.qg_walk.proofs.Failures.{IsFormed-form}
-use Rattle.qg_blocks.specs.Held.{Draft, Held}
-use Rattle.qg_blocks.specs.Told.{held_at}
+use Rattle.qg_blocks.specs.NodesInMemory.{Draft, Held}
+use Rattle.qg_blocks.specs.NodesFound.{held_at}
 use Rattle.qg_refs.specs.Book.{Book, full_in}
-use Rattle.qg_direct.specs.Surveyed.{surveyed_of}
-use Rattle.qg_direct.specs.declared.surveyed.Surveyed.{Surveyed}
-use Rattle.qg_descent.specs.Tree.{Reaches}
-use Rattle.qg_descent.specs.Way.{IsVisited}
-use Rattle.qg_descent.specs.declared.way.Way.{Way}
-use Rattle.qg_descent.proofs.BranchWalk.{top-under}
-use Rattle.qg_descent.proofs.Under.{IsUnder, level-told}
-use Rattle.qg_drop.proofs.Meeting.{placed-there}
-use Rattle.qg_drop.specs.Counting.{LeadsToBranch, TellsNodes, ways_told}
+use Rattle.qg_qgroup_counts.specs.Surveyed.{surveyed_of}
+use Rattle.qg_qgroup_counts.specs.declared.surveyed.Surveyed.{Surveyed}
+use Rattle.qg_tree_read.specs.Tree.{Reaches}
+use Rattle.qg_tree_read.specs.Way.{IsVisited}
+use Rattle.qg_tree_read.specs.declared.way.Way.{Way}
+use Rattle.qg_tree_read.proofs.BranchWalk.{top-under}
+use Rattle.qg_tree_read.proofs.Under.{IsUnder, level-told}
+use Rattle.qg_subvolumes.proofs.Meeting.{placed-there}
+use Rattle.qg_subvolumes.specs.Counting.{LeadsToBranch, TellsNodes, ways_told}
 use Rattle.qg_survey.specs.Surveying.{Adds, AreRead, EndBelow, EndsBelow, GoesOn, HasBelow, MarksNodes, link_at}
 use Rattle.qg_survey.proofs.Reading.{adds-higher, adds-none, adds-on, below-read, no-children, put-adds, put-below}
 use Rattle.qg_survey.proofs.Reading.{put-read, reached-itself}

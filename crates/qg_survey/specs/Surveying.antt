@@ -7,12 +7,12 @@ use Rattle.qg_image.specs.Table.{keys_of, value_at}
 use Rattle.qg_image.specs.State.{Placed, State, node_at}
 use Rattle.qg_image.specs.Walk.{root_expected}
 use Rattle.qg_refs.specs.Book.{Book, full_in}
-use Rattle.qg_direct.specs.Surveyed.{surveyed_of}
-use Rattle.qg_direct.specs.declared.surveyed.Surveyed.{Surveyed}
-use Rattle.qg_descent.specs.Tree.{Reaches, Root}
-use Rattle.qg_descent.specs.declared.way.Way.{Way}
-use Rattle.qg_drop.specs.Standing.{tree_of}
-use Rattle.qg_drop.specs.Counting.{LeadsToBranch}
+use Rattle.qg_qgroup_counts.specs.Surveyed.{surveyed_of}
+use Rattle.qg_qgroup_counts.specs.declared.surveyed.Surveyed.{Surveyed}
+use Rattle.qg_tree_read.specs.Tree.{Reaches, Root}
+use Rattle.qg_tree_read.specs.declared.way.Way.{Way}
+use Rattle.qg_subvolumes.specs.ForestStanding.{tree_of}
+use Rattle.qg_subvolumes.specs.Counting.{LeadsToBranch}
 
 -- what was read of the node at an address
 abbrev pub link_at : List (ℕ × Surveyed) → ℕ → Option Surveyed

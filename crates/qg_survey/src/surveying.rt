@@ -6,13 +6,13 @@ ghost use Rattle.qg_device.specs.Cause.{HasCause};
 ghost use Rattle.qg_device.specs.History.{Event, Recorded};
 ghost use Rattle.qg_image.specs.State.{State as MachineState, next_generation};
 ghost use Rattle.qg_blocks.specs.Stopping.{StopsForCause};
-ghost use Rattle.qg_blocks.specs.Told.{BreaksNone};
+ghost use Rattle.qg_blocks.specs.NodesFound.{BreaksNone};
 ghost use Rattle.qg_extents.specs.Table.{book_of};
-ghost use Rattle.qg_direct.specs.Surveyed.{surveyed_of};
-ghost use Rattle.qg_descent.specs.Way.{HasRead, IsReadable};
+ghost use Rattle.qg_qgroup_counts.specs.Surveyed.{surveyed_of};
+ghost use Rattle.qg_tree_read.specs.Way.{HasRead, IsReadable};
 ghost use Rattle.qg_tree_edits.specs.Editing.{IsEditable};
-ghost use Rattle.qg_drop.specs.Standing.{HoldsState};
-ghost use Rattle.qg_drop.specs.Counting.{LeadsToBranch, TellsNodes};
+ghost use Rattle.qg_subvolumes.specs.ForestStanding.{HoldsState};
+ghost use Rattle.qg_subvolumes.specs.Counting.{LeadsToBranch, TellsNodes};
 ghost use Rattle.qg_survey.specs.Surveying.{
   AreRead,
   EndBelow,
@@ -26,15 +26,15 @@ ghost use Rattle.qg_survey.specs.Surveying.{
 };
 
 use qg_blocks::Blocks;
-use qg_descent::{Tree, Way};
-use qg_direct::{Surveyed, surveyed_of};
 use qg_disk::Disk;
-use qg_drop::ways_of;
 use qg_extents::Extents;
-use qg_ground::Ground;
 use qg_image::FilePart;
+use qg_node_alloc::Ground;
 use qg_num::{Address, BlockFault, NoMemory, Steps};
-use qg_tree_refs::TreeRefs;
+use qg_qgroup_counts::{Surveyed, surveyed_of};
+use qg_subvolumes::ways_of;
+use qg_tree_backrefs::TreeRefs;
+use qg_tree_read::{Tree, Way};
 use std::alloc::{AllocError, Global};
 use std::collections::BTreeMap;
 use std::sync::ledger::Ledger;

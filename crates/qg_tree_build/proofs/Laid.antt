@@ -14,18 +14,18 @@ use Rattle.qg_node.specs.declared.node.Node.TheVariants.{Leaf, Inner}
 use Rattle.qg_node.specs.Nodes.{header_of}
 use Rattle.qg_node.specs.NodeText.{IsNode}
 use Rattle.qg_super.specs.declared.sizes.Sizes.{Sizes}
-use Rattle.qg_blocks.specs.Told.{fresh_at, told}
+use Rattle.qg_blocks.specs.NodesFound.{fresh_at, told}
 use Rattle.qg_space.specs.Holding.{free_slots, is_free_slot}
-use Rattle.qg_ground.specs.declared.ground.Ground.{Ground}
-use Rattle.qg_ground.specs.Land.{IsDrafted, Rests}
-use Rattle.qg_ground.specs.Changes.{IsOwnedBy, Makes, Takes, node_at}
-use Rattle.qg_ground.proofs.Lands.{Rests-after, fresh_at-told}
-use Rattle.qg_ground.proofs.Owners.{IsOwnedBy-draft, IsOwnedBy-made}
-use Rattle.qg_tree.specs.Build.{IsMadeFor}
-use Rattle.qg_tree.specs.Row.{address_of}
+use Rattle.qg_node_alloc.specs.declared.ground.Ground.{Ground}
+use Rattle.qg_node_alloc.specs.Land.{IsDrafted, Rests}
+use Rattle.qg_node_alloc.specs.Changes.{IsOwnedBy, Makes, Takes, node_at}
+use Rattle.qg_node_alloc.proofs.Lands.{Rests-after, fresh_at-told}
+use Rattle.qg_node_alloc.proofs.Owners.{IsOwnedBy-draft, IsOwnedBy-made}
+use Rattle.qg_tree_layout.specs.Build.{IsMadeFor}
+use Rattle.qg_tree_layout.specs.Row.{address_of}
 use Rattle.qg_tree_edits.specs.Counting.{one}
 use Rattle.qg_tree_edits.proofs.Ways.{one-here}
-use Rattle.qg_tree_build.proofs.Counted.{lying}
+use Rattle.qg_tree_build.proofs.WaysToNodes.{lying}
 use Rattle.qg_tree_build.proofs.Slots.{apart-after, apart-before, both-each, free-kept, front-each, last-each}
 use Rattle.qg_tree_build.proofs.Slots.{last-taken}
 

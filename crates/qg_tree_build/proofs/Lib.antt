@@ -1,7 +1,7 @@
 pub mod Filled
 pub mod Planned
 pub mod Walked
-pub mod Counted
+pub mod WaysToNodes
 pub mod Slots
 pub mod Laid
 pub mod Telling

@@ -10,11 +10,11 @@ use Rattle.qg_node.specs.NodeText.{IsNodeSize}
 use Rattle.qg_super.proofs.Served.{SizesFit-is_served}
 use Rattle.qg_space.specs.Holding.{free_slots, is_free_slot}
 use Rattle.qg_space.proofs.Listed.{free_slots-le-slots}
-use Rattle.qg_ground.specs.declared.ground.Ground.{Ground}
-use Rattle.qg_ground.specs.Land.{IsDrafted}
-use Rattle.qg_tree.specs.Build.{IsBuilt}
-use Rattle.qg_tree.specs.Row.{address_of}
-use Rattle.qg_tree.proofs.Frame.{IsDistinct-front}
+use Rattle.qg_node_alloc.specs.declared.ground.Ground.{Ground}
+use Rattle.qg_node_alloc.specs.Land.{IsDrafted}
+use Rattle.qg_tree_layout.specs.Build.{IsBuilt}
+use Rattle.qg_tree_layout.specs.Row.{address_of}
+use Rattle.qg_tree_layout.proofs.Frame.{IsDistinct-front}
 use Rattle.qg_tree_build.specs.Building.{most_nodes}
 use Rattle.qg_tree_build.specs.Planning.{IsPlanned}
 

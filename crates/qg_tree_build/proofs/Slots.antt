@@ -12,8 +12,8 @@ use Rattle.qg_image.specs.Table.{with_number}
 use Rattle.qg_space.specs.Holding.{Holding, is_free_slot}
 use Rattle.qg_space.proofs.Firsts.{is_free_slot-clear}
 use Rattle.qg_space.proofs.Members.{Contains-with_number}
-use Rattle.qg_ground.proofs.Slots.{free-parts}
-use Rattle.qg_tree.specs.Row.{address_of}
+use Rattle.qg_node_alloc.proofs.Slots.{free-parts}
+use Rattle.qg_tree_layout.specs.Row.{address_of}
 
 -- a slot that is free stays so where another is taken
 pub free-kept : (old new : Holding) (now q : ℕ) → new.sizes ≡ old.sizes → new.held_slots ≡ old.held_slots

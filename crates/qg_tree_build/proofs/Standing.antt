@@ -8,24 +8,24 @@ use Rattle.qg_device.specs.History.{History}
 use Rattle.qg_node.specs.declared.item.Item.{Item}
 use Rattle.qg_node.specs.declared.node.Node.{Node}
 use Rattle.qg_super.specs.declared.sizes.Sizes.{Sizes}
-use Rattle.qg_blocks.specs.Told.{fresh_at, told}
+use Rattle.qg_blocks.specs.NodesFound.{fresh_at, told}
 use Rattle.qg_space.specs.Holding.{is_free_slot}
 use Rattle.qg_image.specs.Among.{node_among}
-use Rattle.qg_image.specs.declared.tree.Tree.{Tree}
-use Rattle.qg_ground.specs.declared.ground.Ground.{Ground}
-use Rattle.qg_ground.specs.Tellings.{Telling}
-use Rattle.qg_ground.specs.Tellings.Telling.{Made}
-use Rattle.qg_ground.proofs.Lands.{IsSome-is, told-fresh_at}
-use Rattle.qg_ground.proofs.Settling.{fresh-free}
-use Rattle.qg_tree.specs.Row.{address_of}
-use Rattle.qg_tree.proofs.Frame.{AllByRecursion-weaker, Keeps}
-use Rattle.qg_descent.specs.Tree.{Reaches, Root}
+use Rattle.qg_image.specs.declared.tree.TreeKind.{TreeKind}
+use Rattle.qg_node_alloc.specs.declared.ground.Ground.{Ground}
+use Rattle.qg_node_alloc.specs.Tellings.{Telling}
+use Rattle.qg_node_alloc.specs.Tellings.Telling.{Made}
+use Rattle.qg_node_alloc.proofs.Lands.{IsSome-is, told-fresh_at}
+use Rattle.qg_node_alloc.proofs.Settling.{fresh-free}
+use Rattle.qg_tree_layout.specs.Row.{address_of}
+use Rattle.qg_tree_layout.proofs.Frame.{AllByRecursion-weaker, Keeps}
+use Rattle.qg_tree_read.specs.Tree.{Reaches, Root}
 use Rattle.qg_tree_edits.specs.Counting.{ways}
 use Rattle.qg_tree_edits.proofs.Turning.{told-more, told-same}
 use Rattle.qg_tree_edits.proofs.Ways.{ways-none, ways-some}
 use Rattle.qg_tree_build.specs.Building.{CanBuild, IsBuildTold, IsBuiltIn, most_nodes}
 use Rattle.qg_tree_build.specs.Planning.{IsPlanned}
-use Rattle.qg_tree_build.proofs.Counted.{lying, lying-some, ways-built}
+use Rattle.qg_tree_build.proofs.WaysToNodes.{lying, lying-some, ways-built}
 use Rattle.qg_tree_build.proofs.Laid.{IsLaying}
 use Rattle.qg_tree_build.proofs.Telling.{slots_laid, told-laid}
 use Rattle.qg_tree_build.proofs.Walked.{IsTree-built}
@@ -54,7 +54,7 @@ none_some (Some node) is some = cc
 abbrev tellings : List Node → List Telling
 tellings nodes = map Made (slots_laid nodes)
 
-module _ (tree : Tree) (old new : Ground) (before after : History) (bytes owner next : ℕ)
+module _ (tree : TreeKind) (old new : Ground) (before after : History) (bytes owner next : ℕ)
     (items : List Item) (nodes : List Node) (root level : ℕ) (can : CanBuild tree old before bytes owner next items)
     (plan : IsPlanned old owner next items nodes root level)
     (laying : IsLaying old new after owner next [] nodes) where

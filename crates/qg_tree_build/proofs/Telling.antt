@@ -6,14 +6,14 @@ use Rattle.std.specs.List.{AllByRecursion, IsDistinct}
 use Rattle.std.proofs.lemmas.List.Sums.{sum_by-cons}
 use Rattle.qg_node.specs.declared.node.Node.{Node}
 use Rattle.qg_space.specs.Holding.{is_free_slot}
-use Rattle.qg_ground.specs.declared.ground.Ground.{Ground}
-use Rattle.qg_ground.specs.Tellings.{Telling}
-use Rattle.qg_ground.specs.Tellings.Telling.{Made}
-use Rattle.qg_tree.specs.Row.{address_of}
+use Rattle.qg_node_alloc.specs.declared.ground.Ground.{Ground}
+use Rattle.qg_node_alloc.specs.Tellings.{Telling}
+use Rattle.qg_node_alloc.specs.Tellings.Telling.{Made}
+use Rattle.qg_tree_layout.specs.Row.{address_of}
 use Rattle.qg_tree_edits.specs.Counting.{IsTold, one}
 use Rattle.qg_tree_edits.proofs.PlacedTold.{told-made}
 use Rattle.qg_tree_edits.proofs.Turning.{told-append, told-more, told-none}
-use Rattle.qg_tree_build.proofs.Counted.{lying, lying-none}
+use Rattle.qg_tree_build.proofs.WaysToNodes.{lying, lying-none}
 use Rattle.qg_tree_build.proofs.Slots.{apart-after}
 
 -- the slots of nodes that were put, the first one that was put first

@@ -13,7 +13,7 @@ use Rattle.qg_super.specs.declared.superblock.Super.{Super}
 use Rattle.qg_image.specs.Below.{items_below}
 use Rattle.qg_image.specs.ItemMeaning.{when}
 use Rattle.qg_image.specs.declared.failure.Failure.{Failure}
-use Rattle.qg_image.specs.declared.tree.Tree.{Tree}
+use Rattle.qg_image.specs.declared.tree.TreeKind.{TreeKind}
 use Rattle.qg_image.specs.declared.expected.Expected.{Expected}
 use Rattle.qg_image.specs.Among.{found_among, found_there, node_among}
 use Rattle.qg_image.specs.Failure.{first_failure, unless}
@@ -22,9 +22,9 @@ use Rattle.qg_image.specs.Walk.{begins_at, deepest, ends_before, found_failure, 
 use Rattle.qg_image.specs.Walk.{pointers_failure, root_expected, shape_failure, walk_failure, way_failure}
 use Rattle.qg_walk.specs.Standing.{expected_below, form_failure}
 use Rattle.qg_walk.proofs.Failures.{neither, none_of_two}
-use Rattle.qg_tree.specs.Build.{Allows, IsBuilt}
-use Rattle.qg_tree.proofs.Frame.{Keeps, under_kept}
-use Rattle.qg_descent.specs.Tree.{IsTree, found_in, super_for}
+use Rattle.qg_tree_layout.specs.Build.{Allows, IsBuilt}
+use Rattle.qg_tree_layout.proofs.Frame.{Keeps, under_kept}
+use Rattle.qg_tree_read.specs.Tree.{IsTree, found_in, super_for}
 
 -- ---- what is expected of a root may be left open
 
@@ -46,16 +46,16 @@ opened last told generation is =
     and_from (nat_lt 0 generation) (nat_le generation last) front.1 parts.1
 
 -- a node that one way accepts is accepted by another, which expects the same keys
-record IsOpener (tree : Tree) (super : Super) (strong weak : Expected) : Type 0 where
+record IsOpener (tree : TreeKind) (super : Super) (strong weak : Expected) : Type 0 where
   way : (address : ℕ) (node : Node) → way_failure tree super strong address node ≡ None
       → way_failure tree super weak address node ≡ None
   from : weak.from ≡ strong.from
   to : weak.to ≡ strong.to
 
-itself : (tree : Tree) (super : Super) (expected : Expected) → IsOpener tree super expected expected
+itself : (tree : TreeKind) (super : Super) (expected : Expected) → IsOpener tree super expected expected
 itself tree super expected = record { way = λ address node none. none; from = refl; to = refl }
 
-root_way : (tree : Tree) (super : Super) (level generation address : ℕ) (node : Node)
+root_way : (tree : TreeKind) (super : Super) (level generation address : ℕ) (node : Node)
     → way_failure tree super (root_expected (Some level) (Some generation)) address node ≡ None
     → way_failure tree super (root_expected (Some level) None) address node ≡ None
 unfolding way_failure
@@ -65,7 +65,7 @@ root_way tree super level generation address node none =
     (begins_at None (own_keys node) && ends_before None (own_keys node)) address none in
     rw (four.0, four.1, opened super.generation generation (header_of node).generation four.2) refl
 
-root_opener : (tree : Tree) (super : Super) (level generation : ℕ)
+root_opener : (tree : TreeKind) (super : Super) (level generation : ℕ)
     → IsOpener tree super (root_expected (Some level) (Some generation)) (root_expected (Some level) None)
 root_opener tree super level generation =
     record { way = root_way tree super level generation; from = refl; to = refl }
@@ -74,7 +74,7 @@ root_opener tree super level generation =
 
 -- Where what is found is told, the walk of no more levels over what is told meets no failure of form, where two walks
 -- over what is found meet none of the way and none of shape
-module _ (tree : Tree) (super : Super) (found : ℕ → Result Node Failure) (map : ℕ → Option Node)
+module _ (tree : TreeKind) (super : Super) (found : ℕ → Result Node Failure) (map : ℕ → Option Node)
     (keeps : (address : ℕ) (node : Node) → found address ≡ Ok node → map address ≡ Some node) where
   abbrev shape : Expected → ℕ → Node → Option Failure
   shape expected address node = shape_failure super.nodesize expected address node
@@ -145,7 +145,7 @@ passed : {A : Type 0} (test : Bool) (given : Option A) (x : A) → when test giv
 passed true given x h = refl
 passed false given x h = absurd cc
 
-way_walked : (tree : Tree) (super : Super) (found : ℕ → Result Node Failure) (expected : Expected) (root : ℕ)
+way_walked : (tree : TreeKind) (super : Super) (found : ℕ → Result Node Failure) (expected : Expected) (root : ℕ)
     → is_way tree super found expected root ≡ true
     → walk_failure (way_failure tree super) found deepest expected root ≡ None
 unfolding is_way
@@ -157,7 +157,7 @@ among : (here : Option Node) (address : ℕ) (node : Node) → found_there here 
 among None address node h = absurd cc
 among (Some other) address node h = let same : other ≡ node = cc in ap (λ (n : Node). Some n) same
 
-module _ (tree : Tree) (map : ℕ → Option Node) (nodesize owner next : ℕ) (items : List Item) (slots : List ℕ)
+module _ (tree : TreeKind) (map : ℕ → Option Node) (nodesize owner next : ℕ) (items : List Item) (slots : List ℕ)
     (nodes : List Node) (root level : ℕ) (is : IsBuilt nodesize owner next items slots nodes root level)
     (keeps : Keeps (node_among nodes) map) where
   allows : (size : ℕ) → size ≡ nodesize → is_owner tree owner ≡ true → 0 < next

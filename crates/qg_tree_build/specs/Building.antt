@@ -7,14 +7,14 @@ use Rattle.qg_node.specs.declared.node.Node.{Node}
 use Rattle.qg_node.specs.Nodes.{header_of, is_ascending, items_bytes}
 use Rattle.qg_node.specs.NodeText.{IsNode}
 use Rattle.qg_image.specs.Need.{nodes_filled}
-use Rattle.qg_blocks.specs.Told.{IsBacked, fresh_at, told}
+use Rattle.qg_blocks.specs.NodesFound.{IsBacked, fresh_at, told}
 use Rattle.qg_space.specs.Holding.{free_slots, is_free_slot}
-use Rattle.qg_image.specs.declared.tree.Tree.{Tree}
+use Rattle.qg_image.specs.declared.tree.TreeKind.{TreeKind}
 use Rattle.qg_image.specs.Walk.{deepest, is_owner}
-use Rattle.qg_ground.specs.declared.ground.Ground.{Ground}
-use Rattle.qg_ground.specs.Land.{IsDrafted}
-use Rattle.qg_ground.specs.Tellings.Telling.{Made}
-use Rattle.qg_descent.specs.Tree.{Reaches, Root}
+use Rattle.qg_node_alloc.specs.declared.ground.Ground.{Ground}
+use Rattle.qg_node_alloc.specs.Land.{IsDrafted}
+use Rattle.qg_node_alloc.specs.Tellings.Telling.{Made}
+use Rattle.qg_tree_read.specs.Tree.{Reaches, Root}
 use Rattle.qg_tree_edits.specs.Counting.{IsTold, ways}
 use Rattle.qg_tree_edits.specs.Editing.{CanMake, IsEditable}
 use Rattle.qg_tree_edits.specs.Rooting.{IsRooted}
@@ -34,7 +34,7 @@ pub record CanLay (land : Ground) (history : History) (node : Node) : Type 0 whe
 -- what a build asks, over any disk: nodes and space in which a tree is made for the generation to come, a number and a
 -- generation that its nodes may have, items in the order of their keys with bodies of at most 1024 bytes, and free
 -- slots for the most nodes that they take
-pub record CanBuild (tree : Tree) (land : Ground) (history : History) (bytes owner next : ℕ)
+pub record CanBuild (tree : TreeKind) (land : Ground) (history : History) (bytes owner next : ℕ)
     (items : List Item) : Type 0 where
   pub editable : IsEditable land history bytes next
   pub owned : IsTrue (is_owner tree owner)
@@ -46,7 +46,7 @@ pub record CanBuild (tree : Tree) (land : Ground) (history : History) (bytes own
 -- A tree was built of these items: it has this number and generation, and stands, as an edit asks it. Each node that it
 -- reaches is fresh, in a slot that was free. What it does not reach is told as before, and no slot gets free. At most
 -- so many slots were taken
-pub record IsBuiltIn (tree : Tree) (root : Root) (old new : Ground) (history : History)
+pub record IsBuiltIn (tree : TreeKind) (root : Root) (old new : Ground) (history : History)
     (owner next most : ℕ) (items : List Item) : Type 0 where
   pub owned : root.owner ≡ owner
   pub dated : root.next ≡ next

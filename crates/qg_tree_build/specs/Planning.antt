@@ -5,8 +5,8 @@ use Rattle.qg_node.specs.declared.item.Item.{Item}
 use Rattle.qg_node.specs.declared.node.Node.{Node}
 use Rattle.qg_node.specs.Nodes.{header_of}
 use Rattle.qg_space.specs.Holding.{is_free_slot}
-use Rattle.qg_ground.specs.declared.ground.Ground.{Ground}
-use Rattle.qg_tree.specs.Build.{IsBuilt}
+use Rattle.qg_node_alloc.specs.declared.ground.Ground.{Ground}
+use Rattle.qg_tree_layout.specs.Build.{IsBuilt}
 
 -- nodes are a tree of these items, and each names a free slot, no two the same
 pub record IsPlanned (land : Ground) (owner next : ℕ) (items : List Item) (nodes : List Node) (root level : ℕ)

@@ -2,22 +2,22 @@
 ghost use Rattle.std.specs.Prelude.{◌≡◌, ◌++◌, ◌+◌, ◌*◌, ◌≤◌, ℕ, List, IfOk, OnOk, map};
 ghost use Rattle.qg_device.specs.Cause.{HasCause};
 ghost use Rattle.qg_device.specs.History.{Event, History, Recorded};
-ghost use Rattle.qg_blocks.specs.Told.{BreaksNone};
-ghost use Rattle.qg_ground.specs.Changes.{IsOwnedBy};
-ghost use Rattle.qg_ground.specs.Tellings.{Telling};
-ghost use Rattle.qg_ground.specs.Tellings.Telling.{Made};
-ghost use Rattle.qg_ground.specs.Calls.{LeavesBe};
+ghost use Rattle.qg_blocks.specs.NodesFound.{BreaksNone};
+ghost use Rattle.qg_node_alloc.specs.Changes.{IsOwnedBy};
+ghost use Rattle.qg_node_alloc.specs.Tellings.{Telling};
+ghost use Rattle.qg_node_alloc.specs.Tellings.Telling.{Made};
+ghost use Rattle.qg_node_alloc.specs.Calls.{LeavesBe};
 ghost use Rattle.qg_tree_build.specs.Building.{CanBuild, IsBuildTold, IsBuiltIn, most_nodes};
 
 use crate::laying::lay_node;
 use crate::planning::plan_nodes;
-use qg_descent::Tree;
 use qg_disk::Disk;
-use qg_ground::{Book, Ground};
 use qg_node::Items;
+use qg_node_alloc::{Book, Ground};
 use qg_num::{BlockFault, Generation, RootId, Steps};
-use qg_parts::TreePart;
-use qg_tree::Built;
+use qg_tree_items::TreePart;
+use qg_tree_layout::Built;
+use qg_tree_read::Tree;
 use std::alloc::Global;
 use std::sync::ledger::Ledger;
 

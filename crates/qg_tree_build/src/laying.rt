@@ -2,17 +2,17 @@
 ghost use Rattle.std.specs.Prelude.{◌≡◌, ◌+◌, ◌≤◌, List, [], ◌∷◌, ◌++◌, OnErr, OnOk, IsTrue};
 ghost use Rattle.qg_device.specs.History.{History};
 ghost use Rattle.qg_node.specs.Nodes.{header_of};
-ghost use Rattle.qg_blocks.specs.Told.{IsBacked};
+ghost use Rattle.qg_blocks.specs.NodesFound.{IsBacked};
 ghost use Rattle.qg_space.specs.Holding.{is_free_slot};
-ghost use Rattle.qg_ground.specs.Calls.{FailsByDisk, KeepsBook, LeavesBe};
-ghost use Rattle.qg_ground.specs.Changes.{Makes, Takes};
-ghost use Rattle.qg_ground.specs.Tellings.{Spares, Telling};
-ghost use Rattle.qg_ground.specs.Tellings.Telling.{Made};
+ghost use Rattle.qg_node_alloc.specs.Calls.{FailsByDisk, KeepsBook, LeavesBe};
+ghost use Rattle.qg_node_alloc.specs.Changes.{Makes, Takes};
+ghost use Rattle.qg_node_alloc.specs.Tellings.{Spares, Telling};
+ghost use Rattle.qg_node_alloc.specs.Tellings.Telling.{Made};
 ghost use Rattle.qg_tree_build.specs.Building.{CanLay};
 
 use qg_disk::Disk;
-use qg_ground::{Book, Ground};
 use qg_node::Node;
+use qg_node_alloc::{Book, Ground};
 use qg_num::{BlockFault, NoMemory, Steps};
 use std::sync::ledger::Ledger;
 

@@ -4,14 +4,14 @@ ghost use Rattle.std.specs.List.{All};
 ghost use Rattle.qg_node.specs.Nodes.{is_ascending, items_bytes};
 ghost use Rattle.qg_node.specs.NodeText.{IsNodeSize};
 ghost use Rattle.qg_space.specs.Holding.{free_slots};
-ghost use Rattle.qg_ground.specs.Land.{IsDrafted};
+ghost use Rattle.qg_node_alloc.specs.Land.{IsDrafted};
 ghost use Rattle.qg_tree_build.specs.Building.{most_nodes};
 ghost use Rattle.qg_tree_build.specs.Planning.{IsPlanned};
 
-use qg_ground::Ground;
 use qg_node::{HEADER_BYTES, ITEM_HEADER_BYTES, Item, Items};
+use qg_node_alloc::Ground;
 use qg_num::{Generation, NoMemory, RootId};
-use qg_tree::Built;
+use qg_tree_layout::Built;
 use std::alloc::Global;
 
 // What items take, in bytes.
@@ -53,5 +53,5 @@ pub(crate) fn plan_nodes(
     let nodesize = land.blocks.nodesize();
     let count = most_nodes(nodesize, items.as_slice());
     let slots = land.space.free_list(alloc, count)?;
-    qg_tree::build(alloc, nodesize, owner, next, items, slots.as_slice())
+    qg_tree_layout::build(alloc, nodesize, owner, next, items, slots.as_slice())
 }

@@ -12,18 +12,18 @@ use Rattle.qg_node.specs.declared.node.Header.{Header}
 use Rattle.qg_node.specs.declared.node.Node.{Node}
 use Rattle.qg_node.specs.declared.node.Node.TheVariants.{Inner}
 use Rattle.qg_node.specs.Nodes.{is_ascending}
-use Rattle.qg_image.specs.declared.tree.Tree.{Tree}
+use Rattle.qg_image.specs.declared.tree.TreeKind.{TreeKind}
 use Rattle.qg_walk.specs.Standing.{expected_below, form_failure}
-use Rattle.qg_blocks.specs.Told.{fresh_at, told}
+use Rattle.qg_blocks.specs.NodesFound.{fresh_at, told}
 use Rattle.qg_space.specs.Holding.{is_free_slot}
-use Rattle.qg_ground.specs.declared.ground.Ground.{Ground}
-use Rattle.qg_descent.specs.Tree.{Reaches, Root, super_of}
-use Rattle.qg_descent.specs.Branch.{AreBranches, IsMember}
+use Rattle.qg_node_alloc.specs.declared.ground.Ground.{Ground}
+use Rattle.qg_tree_read.specs.Tree.{Reaches, Root, super_of}
+use Rattle.qg_tree_read.specs.Branch.{AreBranches, IsMember}
 
 -- The child at a place of a fresh node is to be edited under a key. These are the items under it, `mine`, and under the
 -- other children, whose keys are less in front and greater behind. The other children are what the way to them leads to
 -- expect; no two children reach the same address, and none of the others a free slot
-pub record IsAround (tree : Tree) (root : Root) (land : Ground) (history : History) (level at : ℕ)
+pub record IsAround (tree : TreeKind) (root : Root) (land : Ground) (history : History) (level at : ℕ)
     (to : Option Key) (place : ℕ) (key : Key) (pointers : List Pointer) (front mine back items : List Item) : Type
     0 where
   pub header : Header

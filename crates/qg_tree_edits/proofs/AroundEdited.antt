@@ -18,25 +18,25 @@ use Rattle.qg_super.specs.declared.superblock.Super.{Super}
 use Rattle.qg_image.specs.IsShaped.{same_key}
 use Rattle.qg_shape.proofs.Ascending.{all_behind, are_equal, ascending_round, ascending_tail_of, greater, less_trans}
 use Rattle.qg_shape.proofs.Sides.{back-all, front-all}
-use Rattle.qg_image.specs.declared.tree.Tree.{Tree}
+use Rattle.qg_image.specs.declared.tree.TreeKind.{TreeKind}
 use Rattle.qg_walk.specs.Standing.{expected_below, form_failure}
 use Rattle.qg_walk.proofs.KeyRanges.{list_all-both, list_all-weaker, same_key-true}
-use Rattle.qg_blocks.specs.Told.{told}
+use Rattle.qg_blocks.specs.NodesFound.{told}
 use Rattle.qg_space.specs.Holding.{is_free_slot}
-use Rattle.qg_ground.specs.declared.ground.Ground.{Ground}
+use Rattle.qg_node_alloc.specs.declared.ground.Ground.{Ground}
 use Rattle.qg_edit.specs.declared.edit.Edit.{Edit}
 use Rattle.qg_edit.specs.declared.edit.Change.{Change}
 use Rattle.qg_edit.specs.declared.edit.Change.TheVariants.{Insert, Replace, Remove, Clear}
 use Rattle.qg_edit.specs.Edits.{IsShort, changed, edited, with_item}
 use Rattle.qg_tree_edits.specs.declared.instead.Instead.{Instead}
-use Rattle.qg_descent.specs.Tree.{Reaches, Root, super_for, super_of}
-use Rattle.qg_descent.specs.Branch.{AreBranches, IsMember}
+use Rattle.qg_tree_read.specs.Tree.{Reaches, Root, super_for, super_of}
+use Rattle.qg_tree_read.specs.Branch.{AreBranches, IsMember}
 use Rattle.qg_tree_edits.specs.Editing.{HoldInstead, IsLeafEdited, IsPartEdited, IsUnsettled, KeepsAbove}
 use Rattle.qg_tree_edits.specs.Editing.{ReachesInstead, ReachesParts}
 use Rattle.qg_tree_edits.proofs.Around.{IsAround}
-use Rattle.qg_descent.proofs.BranchFrames.{branches-same, reach-same, reach-top}
-use Rattle.qg_descent.proofs.BranchOrder.{keys_of}
-use Rattle.qg_descent.proofs.BranchRanges.{all-parts, ascending-others}
+use Rattle.qg_tree_read.proofs.BranchFrames.{branches-same, reach-same, reach-top}
+use Rattle.qg_tree_read.proofs.BranchOrder.{keys_of}
+use Rattle.qg_tree_read.proofs.BranchRanges.{all-parts, ascending-others}
 use Rattle.qg_tree_edits.proofs.Spliced.{drop-get, take-get}
 
 -- ---- a leaf's items once they are edited
@@ -258,7 +258,7 @@ module _ (edit : Edit) (old new : List Item) (is : IsLeafEdited edit old new) wh
 
 -- ---- the node around
 
-module _ (tree : Tree) (root : Root) (mid new : Ground) (history : History) (level at : ℕ) (to : Option Key)
+module _ (tree : TreeKind) (root : Root) (mid new : Ground) (history : History) (level at : ℕ) (to : Option Key)
     (place : ℕ) (edit : Edit) (pointers : List Pointer) (front mine back items : List Item)
     (around : IsAround tree root mid history level at to place edit.key pointers front mine back items) (child_at : ℕ)
     (child : Instead) (part : IsPartEdited tree root mid new history level child_at edit mine child)

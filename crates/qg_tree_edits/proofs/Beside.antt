@@ -6,20 +6,20 @@ use Rattle.qg_device.specs.History.{History}
 use Rattle.qg_num.specs.declared.key.Key.{Key}
 use Rattle.qg_node.specs.declared.item.Item.{Item}
 use Rattle.qg_node.specs.declared.pointer.Pointer.{Pointer}
-use Rattle.qg_image.specs.declared.tree.Tree.{Tree}
-use Rattle.qg_blocks.specs.Told.{told}
-use Rattle.qg_ground.specs.declared.ground.Ground.{Ground}
+use Rattle.qg_image.specs.declared.tree.TreeKind.{TreeKind}
+use Rattle.qg_blocks.specs.NodesFound.{told}
+use Rattle.qg_node_alloc.specs.declared.ground.Ground.{Ground}
 use Rattle.qg_tree_edits.specs.declared.child.Neighbour.{Neighbour}
 use Rattle.qg_tree_edits.specs.declared.instead.Instead.{Instead}
-use Rattle.qg_descent.specs.Tree.{Reaches, Root, super_of}
-use Rattle.qg_descent.specs.Branch.{IsBranch, IsPointed}
+use Rattle.qg_tree_read.specs.Tree.{Reaches, Root, super_of}
+use Rattle.qg_tree_read.specs.Branch.{IsBranch, IsPointed}
 use Rattle.qg_tree_edits.specs.Editing.{IsBeside, IsOwned, IsUnsettled, alone}
-use Rattle.qg_descent.proofs.Branches.{each-get}
-use Rattle.qg_descent.proofs.BranchFrames.{reach-top}
+use Rattle.qg_tree_read.proofs.Branches.{each-get}
+use Rattle.qg_tree_read.proofs.BranchFrames.{reach-top}
 use Rattle.qg_tree_edits.proofs.Spliced.{get-drop, get-take}
 
 -- what is under another child
-module _ (tree : Tree) (root : Root) (land : Ground) (history : History) (level at : ℕ) (to : Option Key)
+module _ (tree : TreeKind) (root : Root) (land : Ground) (history : History) (level at : ℕ) (to : Option Key)
     (place : ℕ) (child : Instead) (items : List Item)
     (un : IsUnsettled tree root land history level at to place child items) where
   Under : Pointer → List Item → Type 0
@@ -47,7 +47,7 @@ beside-differs pointers to level place beside is same = elim is.pair [
   | inr front ↦ let a = front.0 in let b = front.1 in omega (arith, a, b, same)
 ]
 
-module _ (tree : Tree) (root : Root) (land new : Ground) (history : History) (level at : ℕ)
+module _ (tree : TreeKind) (root : Root) (land new : Ground) (history : History) (level at : ℕ)
     (to : Option Key) (place child : ℕ) (items : List Item)
     (un : IsUnsettled tree root land history level at to place (alone child) items) where
   -- and so is its address, also once it is owned

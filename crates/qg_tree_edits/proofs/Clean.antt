@@ -4,9 +4,9 @@ use Rattle.std.specs.Prelude.{Option, Some, None, IsSome, is_some, if◌then◌e
 use Rattle.qg_device.specs.History.{History}
 use Rattle.qg_node.specs.declared.node.Node.{Node}
 use Rattle.qg_node.specs.Nodes.{header_of}
-use Rattle.qg_blocks.specs.Told.{fresh_at, told}
-use Rattle.qg_ground.specs.declared.ground.Ground.{Ground}
-use Rattle.qg_ground.specs.Tellings.Telling.{Copied}
+use Rattle.qg_blocks.specs.NodesFound.{fresh_at, told}
+use Rattle.qg_node_alloc.specs.declared.ground.Ground.{Ground}
+use Rattle.qg_node_alloc.specs.Tellings.Telling.{Copied}
 use Rattle.qg_tree_edits.specs.Counting.{IsAsWas, clean_at}
 
 pub none-unless : (fresh : Option Node) → (IsSome fresh → ⊥) → fresh ≡ None

@@ -6,10 +6,10 @@ use Rattle.std.proofs.lemmas.Bool.{eq-eqb, eqb-true}
 use Rattle.qg_device.specs.History.{History}
 use Rattle.qg_node.specs.declared.node.Node.{Node}
 use Rattle.qg_super.specs.declared.sizes.Sizes.{Sizes}
-use Rattle.qg_blocks.specs.Told.{fresh_at, told, told_or}
+use Rattle.qg_blocks.specs.NodesFound.{fresh_at, told, told_or}
 use Rattle.qg_space.proofs.Members.{one_passes, passes_one}
-use Rattle.qg_ground.specs.declared.ground.Ground.{Ground}
-use Rattle.qg_ground.specs.Land.{IsDrafted, Rests}
+use Rattle.qg_node_alloc.specs.declared.ground.Ground.{Ground}
+use Rattle.qg_node_alloc.specs.Land.{IsDrafted, Rests}
 use Rattle.qg_tree_edits.specs.Counting.{AreCommitted, committed_at}
 
 -- no fresh node lies at such an address

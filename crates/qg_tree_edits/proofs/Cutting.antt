@@ -9,13 +9,13 @@ use Rattle.qg_node.specs.declared.node.Node.{Node}
 use Rattle.qg_node.specs.Nodes.{header_of}
 use Rattle.qg_shape.proofs.Sides.{header_of-split}
 use Rattle.qg_shape.specs.Parts.{IsInner}
-use Rattle.qg_blocks.specs.Told.{IsBacked, IsNodeAt, fresh_at}
+use Rattle.qg_blocks.specs.NodesFound.{IsBacked, IsNodeAt, fresh_at}
 use Rattle.qg_space.specs.Holding.{free_slots}
-use Rattle.qg_ground.specs.declared.ground.Ground.{Ground}
-use Rattle.qg_ground.specs.Land.{IsDrafted, Rests}
-use Rattle.qg_ground.specs.Tellings.{Spares}
-use Rattle.qg_ground.proofs.Editing.{Rests-edited, Spares-edited, edited, edited-others}
-use Rattle.qg_ground.proofs.Lands.{IsSome-is, fresh_at-told}
+use Rattle.qg_node_alloc.specs.declared.ground.Ground.{Ground}
+use Rattle.qg_node_alloc.specs.Land.{IsDrafted, Rests}
+use Rattle.qg_node_alloc.specs.Tellings.{Spares}
+use Rattle.qg_node_alloc.proofs.Editing.{Rests-edited, Spares-edited, edited, edited-others}
+use Rattle.qg_node_alloc.proofs.Lands.{IsSome-is, fresh_at-told}
 use Rattle.qg_edit.specs.Outcome.{IsCutOf, RestIsNode}
 use Rattle.qg_tree_edits.specs.Editing.{IsCutThere, IsRewritten, Moves, RestIsReady, StaysCut}
 

@@ -9,19 +9,19 @@ use Rattle.qg_node.specs.declared.node.Node.TheVariants.{Inner}
 use Rattle.qg_node.specs.Nodes.{own_pointers}
 use Rattle.qg_shape.specs.Places.{LeadsTo}
 use Rattle.qg_image.specs.declared.expected.Expected.{Expected}
-use Rattle.qg_image.specs.declared.tree.Tree.{Tree}
-use Rattle.qg_blocks.specs.Told.{fresh_at, held_at, told}
+use Rattle.qg_image.specs.declared.tree.TreeKind.{TreeKind}
+use Rattle.qg_blocks.specs.NodesFound.{fresh_at, held_at, told}
 use Rattle.qg_blocks.proofs.Telling.{fresh-held}
-use Rattle.qg_ground.specs.declared.ground.Ground.{Ground}
-use Rattle.qg_ground.specs.Land.{IsDrafted, Rests}
-use Rattle.qg_ground.specs.Tellings.{Telling}
+use Rattle.qg_node_alloc.specs.declared.ground.Ground.{Ground}
+use Rattle.qg_node_alloc.specs.Land.{IsDrafted, Rests}
+use Rattle.qg_node_alloc.specs.Tellings.{Telling}
 use Rattle.qg_edit.specs.declared.edit.Edit.{Edit}
 use Rattle.qg_edit.specs.Edits.{IsShort}
 use Rattle.qg_tree_edits.specs.declared.instead.Instead.{Instead}
-use Rattle.qg_descent.specs.declared.way.Way.{Way}
-use Rattle.qg_descent.specs.Tree.{Root, super_of}
+use Rattle.qg_tree_read.specs.declared.way.Way.{Way}
+use Rattle.qg_tree_read.specs.Tree.{Root, super_of}
 use Rattle.qg_tree_edits.specs.First.{first_leaf, least, leaves, leaves_behind}
-use Rattle.qg_descent.specs.Branch.{IsMember}
+use Rattle.qg_tree_read.specs.Branch.{IsMember}
 use Rattle.qg_tree_edits.specs.Editing.{CanMake, IsLeafEdited, IsOwned, IsPartEdited, IsPartFit, IsPlacedBehind}
 use Rattle.qg_tree_edits.specs.Editing.{IsSettled, IsUnsettled, IsWayAt, KeepsAbove, KeepsLeaves, ReachesBeside}
 use Rattle.qg_tree_edits.specs.Editing.{ReachesParts, slots_for}
@@ -34,7 +34,7 @@ use Rattle.qg_tree_edits.proofs.PartBelow.{part-below}
 use Rattle.qg_tree_edits.proofs.PartEdited.{fit-branch, part-edited-unsettled, part-told-unsettled}
 use Rattle.qg_tree_edits.proofs.LeavesBelow.{below-leaves}
 
-module _ (tree : Tree) (root : Root) (land mid : Ground) (history : History) (level : ℕ)
+module _ (tree : TreeKind) (root : Root) (land mid : Ground) (history : History) (level : ℕ)
     (expected : Expected) (at now : ℕ) (edit : Edit) (items : List Item)
     (fit : IsPartFit tree root land history (suc level) expected at edit items)
     (owned : IsOwned tree root land mid history expected at now) (makes : CanMake tree root)

@@ -11,11 +11,11 @@ use Rattle.qg_node.specs.declared.node.Node.{Node}
 use Rattle.qg_node.specs.declared.node.Node.TheVariants.{Leaf, Inner}
 use Rattle.qg_node.specs.Nodes.{header_of, own_pointers}
 use Rattle.qg_super.specs.declared.superblock.Super.{Super}
-use Rattle.qg_image.specs.declared.tree.Tree.{Tree}
-use Rattle.qg_ground.specs.Tellings.{Telling}
-use Rattle.qg_ground.specs.Tellings.Telling.{Copied, Made, Left}
-use Rattle.qg_descent.specs.Branch.{AreBranches, IsBranch, IsPointed}
-use Rattle.qg_descent.proofs.Branches.{branch-top, each-get}
+use Rattle.qg_image.specs.declared.tree.TreeKind.{TreeKind}
+use Rattle.qg_node_alloc.specs.Tellings.{Telling}
+use Rattle.qg_node_alloc.specs.Tellings.Telling.{Copied, Made, Left}
+use Rattle.qg_tree_read.specs.Branch.{AreBranches, IsBranch, IsPointed}
+use Rattle.qg_tree_read.proofs.Branches.{branch-top, each-get}
 use Rattle.qg_tree_edits.specs.Counting.{Downward, IsDownward, IsTimely, LeadsNone, Turns, gains, losses, one, ways}
 use Rattle.qg_tree_edits.specs.Counting.{ways_each}
 use Rattle.qg_tree_edits.proofs.Reached.{either-some, some-term}
@@ -187,7 +187,7 @@ child_at (p ∷ pointers) r (suc k) short is =
     let found = child_at pointers r k (omega (arith, short)) is in
     (suc found.0, found.1, found.2, found.3)
 
-module _ (tree : Tree) (super : Super) (nodes clean : ℕ → Option Node)
+module _ (tree : TreeKind) (super : Super) (nodes clean : ℕ → Option Node)
     (same : (q : ℕ) (node : Node) → clean q ≡ Some node → nodes q ≡ Some node) where
   -- ways lead to an address, and a node of a lower level is told there
   IsLower : ℕ → (ℕ → ℕ) → ℕ → Type 0

@@ -19,7 +19,7 @@ use Rattle.qg_node.specs.Nodes.{ascends_from, is_ascending, own_pointers}
 use Rattle.qg_shape.specs.Places.{LeadsTo}
 use Rattle.qg_walk.proofs.KeyRanges.{less_upto}
 use Rattle.qg_tree_edits.specs.First.{first_leaf, items_of, least, pointers_of, under_first}
-use Rattle.qg_descent.specs.Tree.{Reaches}
+use Rattle.qg_tree_read.specs.Tree.{Reaches}
 
 -- ---- the least key
 

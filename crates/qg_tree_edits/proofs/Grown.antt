@@ -13,22 +13,22 @@ use Rattle.qg_node.specs.declared.node.Node.{Node}
 use Rattle.qg_node.specs.declared.node.Node.TheVariants.{Inner}
 use Rattle.qg_node.specs.Nodes.{ascends_from, header_of, is_ascending, own_pointers}
 use Rattle.qg_shape.specs.Pointing.{pointer_to}
-use Rattle.qg_blocks.specs.Told.{fresh_at, told}
+use Rattle.qg_blocks.specs.NodesFound.{fresh_at, told}
 use Rattle.qg_space.specs.Holding.{is_free_slot}
 use Rattle.qg_super.specs.declared.sizes.Sizes.{Sizes}
-use Rattle.qg_image.specs.declared.tree.Tree.{Tree}
-use Rattle.qg_ground.specs.declared.ground.Ground.{Ground}
-use Rattle.qg_ground.specs.Changes.{Makes}
-use Rattle.qg_ground.specs.Land.{IsDrafted, Rests}
-use Rattle.qg_ground.specs.Tellings.Telling.{Made}
-use Rattle.qg_ground.proofs.Lands.{Takes-made, told-fresh_at}
+use Rattle.qg_image.specs.declared.tree.TreeKind.{TreeKind}
+use Rattle.qg_node_alloc.specs.declared.ground.Ground.{Ground}
+use Rattle.qg_node_alloc.specs.Changes.{Makes}
+use Rattle.qg_node_alloc.specs.Land.{IsDrafted, Rests}
+use Rattle.qg_node_alloc.specs.Tellings.Telling.{Made}
+use Rattle.qg_node_alloc.proofs.Lands.{Takes-made, told-fresh_at}
 use Rattle.qg_tree_edits.specs.declared.instead.Instead.{Instead}
-use Rattle.qg_descent.specs.Tree.{IsTree, Reaches, Root, super_of}
-use Rattle.qg_descent.specs.Branch.{AreBranches, IsMember}
+use Rattle.qg_tree_read.specs.Tree.{IsTree, Reaches, Root, super_of}
+use Rattle.qg_tree_read.specs.Branch.{AreBranches, IsMember}
 use Rattle.qg_tree_edits.specs.Editing.{CanMake, FillsThere, HoldInstead, ReachesInstead}
 use Rattle.qg_tree_edits.specs.Counting.{IsRootTold, one, ways, ways_instead}
 use Rattle.qg_tree_edits.specs.Rooting.{HasRoot, StandsForRoot}
-use Rattle.qg_descent.proofs.BranchFrames.{branch-same, reach-same, reach-top}
+use Rattle.qg_tree_read.proofs.BranchFrames.{branch-same, reach-same, reach-top}
 use Rattle.qg_tree_edits.proofs.Leading.{branches-keys, two-lead}
 use Rattle.qg_tree_edits.proofs.OwnedBranch.{member_made}
 use Rattle.qg_tree_edits.proofs.Placed.{fresh-taken}
@@ -42,7 +42,7 @@ use Rattle.qg_tree_edits.proofs.Served.{size-blocks}
 abbrev pub two : ℕ → ℕ → Instead
 two now more = record { now = now; more = Some more }
 
-module _ (tree : Tree) (root : Root) (land : Ground) (history : History) (now more : ℕ) (items : List Item)
+module _ (tree : TreeKind) (root : Root) (land : Ground) (history : History) (now more : ℕ) (items : List Item)
     (a b : Node)
     (stands : StandsForRoot tree root land history (two now more) items) (drafted : IsDrafted land root.next)
     (first : fresh_at land.blocks.draft now ≡ Some a) (second : fresh_at land.blocks.draft more ≡ Some b) where
@@ -258,7 +258,7 @@ module _ (tree : Tree) (root : Root) (land : Ground) (history : History) (now mo
     grown = subst (λ (h : ℕ). HasRoot tree root (record root { address = top; height = h }) land new history
         (two now more) items) (sym (add-one root.height)) grown_up
 
-pub grown-above : (tree : Tree) (root : Root) (land : Ground) (history : History) (now more : ℕ)
+pub grown-above : (tree : TreeKind) (root : Root) (land : Ground) (history : History) (now more : ℕ)
     (items : List Item) (a b : Node) → StandsForRoot tree root land history (two now more) items
     → IsDrafted land root.next → fresh_at land.blocks.draft now ≡ Some a → fresh_at land.blocks.draft more ≡ Some b
     → (new : Ground) (later : History) (top : ℕ) (header : Header) (node p q : Node)
@@ -275,7 +275,7 @@ grown-above tree root land history now more items a b stands drafted first secon
     ∙ ap (λ (n : Node). Inner header (pointer_to a ∷ pointer_to n ∷ [])) q_is) made)
     makes level owner dated rests
 
-pub told-above : (tree : Tree) (root : Root) (land : Ground) (history : History) (now more : ℕ)
+pub told-above : (tree : TreeKind) (root : Root) (land : Ground) (history : History) (now more : ℕ)
     (items : List Item) (a b : Node) → StandsForRoot tree root land history (two now more) items
     → IsDrafted land root.next → fresh_at land.blocks.draft now ≡ Some a → fresh_at land.blocks.draft more ≡ Some b
     → (new : Ground) (later : History) (top : ℕ) (header : Header) (node p q : Node)

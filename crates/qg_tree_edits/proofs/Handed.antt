@@ -6,20 +6,20 @@ use Rattle.qg_num.specs.declared.key.Key.{Key}
 use Rattle.qg_num.specs.declared.fault.BlockFault.{BlockFault}
 use Rattle.qg_node.specs.declared.item.Item.{Item}
 use Rattle.qg_node.specs.declared.node.Node.{Node}
-use Rattle.qg_image.specs.declared.tree.Tree.{Tree}
-use Rattle.qg_blocks.specs.Told.{BreaksNone, told}
-use Rattle.qg_ground.specs.declared.ground.Ground.{Ground}
-use Rattle.qg_ground.specs.Tellings.{Telling}
+use Rattle.qg_image.specs.declared.tree.TreeKind.{TreeKind}
+use Rattle.qg_blocks.specs.NodesFound.{BreaksNone, told}
+use Rattle.qg_node_alloc.specs.declared.ground.Ground.{Ground}
+use Rattle.qg_node_alloc.specs.Tellings.{Telling}
 use Rattle.qg_edit.specs.declared.edit.Change.TheVariants.{Clear}
 use Rattle.qg_edit.specs.declared.edit.Edit.{Edit}
 use Rattle.qg_tree_edits.specs.declared.instead.Instead.{Instead}
-use Rattle.qg_descent.specs.declared.way.Way.{Way}
-use Rattle.qg_descent.specs.Tree.{Root}
+use Rattle.qg_tree_read.specs.declared.way.Way.{Way}
+use Rattle.qg_tree_read.specs.Tree.{Root}
 use Rattle.qg_tree_edits.specs.Editing.{IsEmptyIfLeaf, IsPartEdited, IsPartFit, IsSettled, IsUnsettled, KeepsLeaves}
 use Rattle.qg_tree_edits.specs.Counting.{IsPartTold, IsSettledTold}
 use Rattle.qg_tree_edits.specs.First.{least, leaves, leaves_behind}
 
-pub child-edited : (tree : Tree) (root : Root) (mid low : Ground) (level : ℕ) (below : Way) (edit : Edit)
+pub child-edited : (tree : TreeKind) (root : Root) (mid low : Ground) (level : ℕ) (below : Way) (edit : Edit)
     (mine : List Item) (history later : History) → later ≡ history → (child : Instead)
     → IsPartFit tree root mid history level below.expected below.address edit mine
     → ((items : List Item) → IsPartFit tree root mid later level below.expected below.address edit items
@@ -30,7 +30,7 @@ child-edited tree root mid low level below edit mine history later same child fi
     (edited mine (subst (λ (h : History). IsPartFit tree root mid h level below.expected below.address edit
     mine) (sym same) fit))
 
-pub child-told : (tree : Tree) (root : Root) (mid low : Ground) (level : ℕ) (below : Way) (edit : Edit)
+pub child-told : (tree : TreeKind) (root : Root) (mid low : Ground) (level : ℕ) (below : Way) (edit : Edit)
     (mine : List Item) (history later : History) → later ≡ history → (child : Instead)
     (Follows : List Telling → Type 0) → IsPartFit tree root mid history level below.expected below.address edit mine
     → ((items : List Item) → IsPartFit tree root mid later level below.expected below.address edit items
@@ -42,7 +42,7 @@ child-told tree root mid low level below edit mine history later same child Foll
     (told mine (subst (λ (h : History). IsPartFit tree root mid h level below.expected below.address edit
     mine) (sym same) fit))
 
-module _ (tree : Tree) (root : Root) (low : Ground) where
+module _ (tree : TreeKind) (root : Root) (low : Ground) where
   pub settle-sound : (level now : ℕ) (to : Option Key) (place : ℕ) (child : Instead)
       (history later : History) → later ≡ history
       → (result : Result (Option Node) BlockFault) (events : List Event)
@@ -84,7 +84,7 @@ module _ (tree : Tree) (root : Root) (low : Ground) where
 
 -- ---- the same of leaves
 
-pub child-leaves : (tree : Tree) (root : Root) (mid low : Ground) (level : ℕ) (below : Way) (edit : Edit)
+pub child-leaves : (tree : TreeKind) (root : Root) (mid low : Ground) (level : ℕ) (below : Way) (edit : Edit)
     (mine : List Item) (history later : History) → later ≡ history → (child : Instead)
     → IsPartFit tree root mid history level below.expected below.address edit mine
     → ((items : List Item) → IsPartFit tree root mid later level below.expected below.address edit items
@@ -100,7 +100,7 @@ child-leaves tree root mid low level below edit mine history later same child fi
     mine) (sym same) fit) first clear)
 
 -- and of those of a node whose first child was edited, where no other stands beside the child
-pub settle-leaves : (tree : Tree) (root : Root) (low set : Ground) (level now : ℕ) (to : Option Key) (place : ℕ)
+pub settle-leaves : (tree : TreeKind) (root : Root) (low set : Ground) (level now : ℕ) (to : Option Key) (place : ℕ)
     (child : Instead) (history later : History) → later ≡ history
     → ((items : List Item) (un : IsUnsettled tree root low later level now to place child items) → place ≡ 0
     → child.more ≡ None → IsEmptyIfLeaf low later level child.now

@@ -25,22 +25,22 @@ use Rattle.qg_super.specs.Places.{capacity, is_slot, slot_at, slots_begin}
 use Rattle.qg_super.proofs.Served.{SizesFit-is_served}
 use Rattle.qg_super.proofs.Slots.{IsSlotAt-is_slot}
 use Rattle.qg_image.specs.IsShaped.{is_shaped}
-use Rattle.qg_image.specs.declared.tree.Tree.{Tree}
+use Rattle.qg_image.specs.declared.tree.TreeKind.{TreeKind}
 use Rattle.qg_image.specs.Walk.{root_expected}
 use Rattle.qg_blocks.specs.Standing.{has_slot, standing}
-use Rattle.qg_blocks.specs.Told.{fresh_at, told, told_or}
+use Rattle.qg_blocks.specs.NodesFound.{fresh_at, told, told_or}
 use Rattle.qg_blocks.proofs.Stands.{HasSlot-has_slot}
-use Rattle.qg_ground.specs.declared.ground.Ground.{Ground}
-use Rattle.qg_ground.specs.Land.{IsDrafted}
-use Rattle.qg_descent.specs.Branch.{AreBranches, IsBranch, IsPointed}
-use Rattle.qg_descent.specs.Tree.{Reaches, Root, TellsTree, super_of}
-use Rattle.qg_descent.proofs.Under.{IsUnder, under-inner}
-use Rattle.qg_descent.proofs.Branches.{branch-level, each-get}
-use Rattle.qg_descent.proofs.BranchApart.{branches-apart}
-use Rattle.qg_descent.proofs.BranchForms.{form-expected}
-use Rattle.qg_descent.proofs.BranchOrder.{ascends-under, keys_of}
-use Rattle.qg_descent.proofs.BranchRanges.{ascending-first, ascending-others}
-use Rattle.qg_descent.proofs.BranchWalk.{branches-under}
+use Rattle.qg_node_alloc.specs.declared.ground.Ground.{Ground}
+use Rattle.qg_node_alloc.specs.Land.{IsDrafted}
+use Rattle.qg_tree_read.specs.Branch.{AreBranches, IsBranch, IsPointed}
+use Rattle.qg_tree_read.specs.Tree.{Reaches, Root, TellsTree, super_of}
+use Rattle.qg_tree_read.proofs.Under.{IsUnder, under-inner}
+use Rattle.qg_tree_read.proofs.Branches.{branch-level, each-get}
+use Rattle.qg_tree_read.proofs.BranchApart.{branches-apart}
+use Rattle.qg_tree_read.proofs.BranchForms.{form-expected}
+use Rattle.qg_tree_read.proofs.BranchOrder.{ascends-under, keys_of}
+use Rattle.qg_tree_read.proofs.BranchRanges.{ascending-first, ascending-others}
+use Rattle.qg_tree_read.proofs.BranchWalk.{branches-under}
 use Rattle.qg_tree_edits.proofs.PartBelow.{told-ascends}
 use Rattle.qg_tree_edits.proofs.Served.{size-blocks}
 
@@ -178,7 +178,7 @@ pointers_full size pointers sized full =
     let bytes = leb-true (capacity size) (4 * (33 * length pointers)) full in
     elim sized [ inl small ↦ omega (arith, bytes, small) | inr large ↦ omega (arith, bytes, large) ]
 
-module _ (tree : Tree) (super : Super) (nodes : ℕ → Option Node) (size : IsNodeSize super.nodesize) (sizes : Sizes)
+module _ (tree : TreeKind) (super : Super) (nodes : ℕ → Option Node) (size : IsNodeSize super.nodesize) (sizes : Sizes)
     (some : 0 < sizes.nodesize) (placed : (q : ℕ) (node : Node) → nodes q ≡ Some node → is_slot sizes q ≡ true) where
   -- the slot of a number is reached from the node of a level at an address
   ReachesSlot : ℕ → ℕ → ℕ → Type 0
@@ -340,7 +340,7 @@ told-slot land history generation drafted q node is =
 
 -- ---- a tree
 
-height_under : (tree : Tree) (root : Root) (land : Ground) (history : History) (items : List Item)
+height_under : (tree : TreeKind) (root : Root) (land : Ground) (history : History) (items : List Item)
     (height : ℕ) → IsDrafted land root.next
     → IsUnder tree (super_of root land.blocks.draft) (told land.blocks.draft history) height
     (root_expected (Some height) None) root.address items → height ≤ 3
@@ -366,7 +366,7 @@ height_under tree root land history items (suc level) drafted under =
     levels_few level sizes.slots served.slots few
 
 -- a tree in an image of a size that is served has a height of 3 at most
-pub height-low : (tree : Tree) (root : Root) (land : Ground) (history : History) (items : List Item)
+pub height-low : (tree : TreeKind) (root : Root) (land : Ground) (history : History) (items : List Item)
     → IsDrafted land root.next → TellsTree tree root land.blocks.draft history items → root.height ≤ 3
 height-low tree root land history items drafted tells =
     height_under tree root land history items root.height drafted

@@ -10,15 +10,15 @@ use Rattle.qg_node.specs.declared.node.Node.{Node}
 use Rattle.qg_node.specs.declared.node.Node.TheVariants.{Leaf, Inner}
 use Rattle.qg_node.specs.Nodes.{is_ascending}
 use Rattle.qg_super.specs.declared.superblock.Super.{Super}
-use Rattle.qg_image.specs.declared.tree.Tree.{Tree}
+use Rattle.qg_image.specs.declared.tree.TreeKind.{TreeKind}
 use Rattle.qg_shape.specs.Filled.{HasShortBodies}
-use Rattle.qg_blocks.specs.Told.{fresh_at, told}
-use Rattle.qg_ground.specs.declared.ground.Ground.{Ground}
-use Rattle.qg_ground.proofs.Lands.{told-fresh_at}
+use Rattle.qg_blocks.specs.NodesFound.{fresh_at, told}
+use Rattle.qg_node_alloc.specs.declared.ground.Ground.{Ground}
+use Rattle.qg_node_alloc.proofs.Lands.{told-fresh_at}
 use Rattle.qg_edit.specs.Outcome.{IsInFront}
-use Rattle.qg_descent.specs.Branch.{IsBranch, IsPointed}
-use Rattle.qg_descent.proofs.Branches.{each-join}
-use Rattle.qg_descent.proofs.BranchOrder.{keys_of}
+use Rattle.qg_tree_read.specs.Branch.{IsBranch, IsPointed}
+use Rattle.qg_tree_read.proofs.Branches.{each-join}
+use Rattle.qg_tree_read.proofs.BranchOrder.{keys_of}
 use Rattle.qg_tree_edits.proofs.Leading.{branches-keys}
 
 fresh_is : (land : Ground) (history : History) (at : ℕ) (node there : Node)
@@ -31,7 +31,7 @@ front_of a b c d left right is =
     subst (λ (n : Node). IsInFront n b) (sym left) (subst (λ (n : Node). IsInFront c n) (sym right) is)
 
 -- bodies are short in a node where they are under it
-pub united-short : (tree : Tree) (super : Super) (land : Ground) (history : History) (level at : ℕ)
+pub united-short : (tree : TreeKind) (super : Super) (land : Ground) (history : History) (level at : ℕ)
     (items : List Item)
     → IsBranch tree super (told land.blocks.draft history) level at items → All (λ item. length item.body ≤ 1024) items
     → (a : Node) → fresh_at land.blocks.draft at ≡ Some a → HasShortBodies a
@@ -43,7 +43,7 @@ united-short tree super land history (suc level) at items branch short a here =
     (λ place item low. absurd (omega (arith, low)))
 
 -- the left one's keys are less than the right one's
-pub united-front : (tree : Tree) (super : Super) (land : Ground) (history : History) (level left right : ℕ)
+pub united-front : (tree : TreeKind) (super : Super) (land : Ground) (history : History) (level left right : ℕ)
     (lefts rights : List Item)
     → IsBranch tree super (told land.blocks.draft history) level left lefts
     → IsBranch tree super (told land.blocks.draft history) level right rights

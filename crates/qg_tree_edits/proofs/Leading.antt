@@ -22,24 +22,24 @@ use Rattle.qg_shape.specs.Filled.{IsFilled}
 use Rattle.qg_shape.specs.Pointing.{pointer_to}
 use Rattle.qg_shape.proofs.Ascending.{all_behind, ascending_round}
 use Rattle.qg_shape.proofs.Sides.{is_shaped-pointer_to}
-use Rattle.qg_image.specs.declared.tree.Tree.{Tree}
-use Rattle.qg_blocks.specs.Told.{fresh_at, held_at, told}
+use Rattle.qg_image.specs.declared.tree.TreeKind.{TreeKind}
+use Rattle.qg_blocks.specs.NodesFound.{fresh_at, held_at, told}
 use Rattle.qg_blocks.proofs.Telling.{fresh-held}
-use Rattle.qg_ground.specs.declared.ground.Ground.{Ground}
-use Rattle.qg_ground.proofs.Editing.{edited-others}
-use Rattle.qg_ground.proofs.Lands.{IsSome-is, told-fresh_at}
+use Rattle.qg_node_alloc.specs.declared.ground.Ground.{Ground}
+use Rattle.qg_node_alloc.proofs.Editing.{edited-others}
+use Rattle.qg_node_alloc.proofs.Lands.{IsSome-is, told-fresh_at}
 use Rattle.qg_edit.proofs.Cuts.{large}
 use Rattle.qg_tree_edits.specs.declared.instead.Instead.{Instead}
-use Rattle.qg_descent.specs.Tree.{Reaches}
-use Rattle.qg_descent.specs.Branch.{AreBranches, IsBranch, IsPointed}
+use Rattle.qg_tree_read.specs.Tree.{Reaches}
+use Rattle.qg_tree_read.specs.Branch.{AreBranches, IsBranch, IsPointed}
 use Rattle.qg_tree_edits.specs.Editing.{CanLead, FillsThere, HasLed, IsCutThere, IsNamed, IsRewritten}
-use Rattle.qg_descent.proofs.Split.{keys_to}
-use Rattle.qg_descent.proofs.Under.{BeginAt}
-use Rattle.qg_descent.proofs.Branches.{branch-first, branch-level, each-get, each-join}
-use Rattle.qg_descent.proofs.BranchFrames.{branches-same}
-use Rattle.qg_descent.proofs.BranchForms.{shape-parts}
-use Rattle.qg_descent.proofs.BranchOrder.{keys_of}
-use Rattle.qg_descent.proofs.BranchRanges.{all-parts, ascending-others, pointers-all}
+use Rattle.qg_tree_read.proofs.Split.{keys_to}
+use Rattle.qg_tree_read.proofs.Under.{BeginAt}
+use Rattle.qg_tree_read.proofs.Branches.{branch-first, branch-level, each-get, each-join}
+use Rattle.qg_tree_read.proofs.BranchFrames.{branches-same}
+use Rattle.qg_tree_read.proofs.BranchForms.{shape-parts}
+use Rattle.qg_tree_read.proofs.BranchOrder.{keys_of}
+use Rattle.qg_tree_read.proofs.BranchRanges.{all-parts, ascending-others, pointers-all}
 
 -- ---- the pointers' keys ascend where the items do
 
@@ -58,7 +58,7 @@ greater_behind key (item ∷ first) others items begins whole ascending =
     (first ++ others) refl all).1 in
     subst (λ (k : Key). list_all (λ (other : Item). is_lt (key_cmp k other.key)) others ≡ true) begins behind
 
-module _ (tree : Tree) (super : Super) (nodes : ℕ → Option Node) where
+module _ (tree : TreeKind) (super : Super) (nodes : ℕ → Option Node) where
   pub branches-keys : (level : ℕ) (pointers : List Pointer) (items : List Item)
       → AreBranches tree super nodes level pointers items → is_ascending (keys_of items) ≡ true
       → is_ascending (keys_to pointers) ≡ true
@@ -136,7 +136,7 @@ module _ (tree : Tree) (super : Super) (nodes : ℕ → Option Node) where
 
 -- ---- a node that is edited where it lies, above
 
-module _ (tree : Tree) (super : Super) (land : Ground) (history : History) (level at : ℕ) (header : Header)
+module _ (tree : TreeKind) (super : Super) (land : Ground) (history : History) (level at : ℕ) (header : Header)
     (pointers : List Pointer)
     (here : fresh_at land.blocks.draft at ≡ Some (Inner header pointers)) (high : header.level ≡ suc level) where
   nodes : ℕ → Option Node
@@ -238,7 +238,7 @@ to_none = refl
 to_some : (pointer : Pointer) (address : ℕ) → pointer.child ≡ address → OnlyTo (pointer ∷ []) (Some address)
 to_some pointer address is = (pointer, refl, is)
 
-module _ (tree : Tree) (super : Super) (land new : Ground) (history : History) (level at from to : ℕ)
+module _ (tree : TreeKind) (super : Super) (land new : Ground) (history : History) (level at from to : ℕ)
     (instead : Instead) (pointers : List Pointer) (header : Header) (items : List Item)
     (can : CanLead tree super land history level at from to instead pointers header items)
     (named : IsNamed land instead.now) (a : Node) (held : held_at land.blocks instead.now ≡ Some a) where

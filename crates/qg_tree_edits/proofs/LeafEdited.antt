@@ -13,24 +13,24 @@ use Rattle.qg_shape.specs.Outcomes.{IsSplit}
 use Rattle.qg_shape.specs.Parts.{with_items}
 use Rattle.qg_super.specs.declared.superblock.Super.{Super}
 use Rattle.qg_image.specs.declared.expected.Expected.{Expected}
-use Rattle.qg_image.specs.declared.tree.Tree.{Tree}
+use Rattle.qg_image.specs.declared.tree.TreeKind.{TreeKind}
 use Rattle.qg_image.specs.Walk.{is_generation, is_owner}
-use Rattle.qg_blocks.specs.Told.{fresh_at, told}
+use Rattle.qg_blocks.specs.NodesFound.{fresh_at, told}
 use Rattle.qg_space.specs.Holding.{Holding, is_free_slot}
-use Rattle.qg_ground.specs.declared.ground.Ground.{Ground}
-use Rattle.qg_ground.specs.Changes.{node_at}
-use Rattle.qg_ground.specs.Land.{IsDrafted, Rests}
+use Rattle.qg_node_alloc.specs.declared.ground.Ground.{Ground}
+use Rattle.qg_node_alloc.specs.Changes.{node_at}
+use Rattle.qg_node_alloc.specs.Land.{IsDrafted, Rests}
 use Rattle.qg_edit.specs.declared.edit.Edit.{Edit}
 use Rattle.qg_edit.specs.Edits.{edited}
 use Rattle.qg_tree_edits.specs.declared.instead.Instead.{Instead}
-use Rattle.qg_descent.specs.Tree.{Reaches, Root, super_of}
-use Rattle.qg_descent.specs.Branch.{IsBranch, IsMember}
+use Rattle.qg_tree_read.specs.Tree.{Reaches, Root, super_of}
+use Rattle.qg_tree_read.specs.Branch.{IsBranch, IsMember}
 use Rattle.qg_tree_edits.specs.Editing.{CanMake, FillsThere, HoldInstead, IsCutThere, IsOwned, IsPartEdited, IsPartFit}
 use Rattle.qg_tree_edits.specs.Editing.{IsPlacedBehind, IsRewritten, ReachesInstead, alone, with_owner}
 use Rattle.qg_tree_edits.specs.Counting.{AreCommitted, IsPartTold, IsTold, one, tellings_made, tellings_owned, ways}
 use Rattle.qg_tree_edits.specs.Counting.{ways_instead}
-use Rattle.qg_descent.proofs.BranchFrames.{reach-top}
-use Rattle.qg_descent.proofs.BranchWalk.{branch-under}
+use Rattle.qg_tree_read.proofs.BranchFrames.{reach-top}
+use Rattle.qg_tree_read.proofs.BranchWalk.{branch-under}
 use Rattle.qg_tree_edits.proofs.FirstLeaf.{first-alone}
 use Rattle.qg_tree_edits.proofs.OwnedBranch.{mine-leaf}
 use Rattle.qg_tree_edits.proofs.OwnedTold.{owned-told}
@@ -73,7 +73,7 @@ cut_leaf nodesize address h items (Leaf hf fs) (Leaf ho os) split =
     }
 
 -- the rest is a node that the tree may have, by an owner that its nodes may have
-member_moved : (tree : Tree) (super : Super) (level owner address : ℕ) (h other : Header)
+member_moved : (tree : TreeKind) (super : Super) (level owner address : ℕ) (h other : Header)
     → other ≡ record h { address = other.address } → IsTrue (is_owner tree owner)
     → IsMember tree super level h → IsMember tree super level (record other { owner = owner; address = address })
 member_moved tree super level owner address h other is may member = record {
@@ -83,7 +83,7 @@ member_moved tree super level owner address h other is may member = record {
 }
 
 -- what stands there holds the items
-module _ (tree : Tree) (super : Super) (set end : Ground) (history : History) (nodesize now : ℕ)
+module _ (tree : TreeKind) (super : Super) (set end : Ground) (history : History) (nodesize now : ℕ)
     (h : Header) (items : List Item) (instead : Instead) (member : IsMember tree super 0 h)
     (owner : ℕ) (may : IsTrue (is_owner tree owner))
     (size : super.nodesize ≡ nodesize) where
@@ -134,7 +134,7 @@ module _ (tree : Tree) (super : Super) (set end : Ground) (history : History) (n
   leaf-holds (inr two) = two_hold two
 
 -- the leaf that was owned has the items
-module _ (tree : Tree) (root : Root) (land mid : Ground) (history : History) (expected : Expected)
+module _ (tree : TreeKind) (root : Root) (land mid : Ground) (history : History) (expected : Expected)
     (at now : ℕ) (edit : Edit) (items : List Item)
     (owned : IsOwned tree root land mid history expected at now) (makes : CanMake tree root)
     (fit : IsPartFit tree root land history 0 expected at edit items) where
@@ -149,7 +149,7 @@ module _ (tree : Tree) (root : Root) (land mid : Ground) (history : History) (ex
       let is = mine-leaf tree root land mid history expected at now owned makes top.0 items top.1 top.2.levelled in
       (is.0, is.1, is.2 top.2)
 
-module _ (tree : Tree) (root : Root) (land mid set end : Ground) (history later last : History)
+module _ (tree : TreeKind) (root : Root) (land mid set end : Ground) (history later last : History)
     (expected : Expected) (at now : ℕ) (edit : Edit) (items : List Item) (rest : Option Node) (instead : Instead)
     (owned : IsOwned tree root land mid history expected at now) (makes : CanMake tree root)
     (fit : IsPartFit tree root land history 0 expected at edit items) (drafted : IsDrafted land root.next)

@@ -15,11 +15,11 @@ use Rattle.qg_node.specs.NodeText.{IsNodeSize}
 use Rattle.qg_super.specs.declared.superblock.Super.{Super}
 use Rattle.qg_super.specs.Places.{capacity}
 use Rattle.qg_image.specs.IsShaped.{is_first}
-use Rattle.qg_image.specs.declared.tree.Tree.{Tree}
+use Rattle.qg_image.specs.declared.tree.TreeKind.{TreeKind}
 use Rattle.qg_tree_edits.specs.First.{items_of, leaves, leaves_behind, leaves_joined, leaves_under, pointers_of}
-use Rattle.qg_descent.specs.Tree.{Reaches}
-use Rattle.qg_descent.specs.Branch.{AreBranches, IsBranch, IsPointed}
-use Rattle.qg_descent.proofs.Branches.{each-get}
+use Rattle.qg_tree_read.specs.Tree.{Reaches}
+use Rattle.qg_tree_read.specs.Branch.{AreBranches, IsBranch, IsPointed}
+use Rattle.qg_tree_read.proofs.Branches.{each-get}
 
 -- ---- under pointers
 
@@ -95,7 +95,7 @@ two_full size pointers sized full =
     let bytes = leb-true (capacity size) (4 * (33 * length pointers)) full in
     elim sized [ inl small ↦ omega (arith, bytes, small) | inr large ↦ omega (arith, bytes, large) ]
 
-module _ (tree : Tree) (super : Super) (nodes : ℕ → Option Node) where
+module _ (tree : TreeKind) (super : Super) (nodes : ℕ → Option Node) where
   Leads : ℕ → Pointer → List Item → Type 0
   Leads level pointer under = IsPointed super nodes pointer × IsBranch tree super nodes level pointer.child under
 

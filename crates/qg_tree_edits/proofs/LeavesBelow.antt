@@ -12,22 +12,22 @@ use Rattle.qg_node.specs.declared.node.Node.TheVariants.{Inner}
 use Rattle.qg_node.specs.NodeText.{IsNodeSize}
 use Rattle.qg_super.specs.declared.superblock.Super.{Super}
 use Rattle.qg_image.specs.declared.expected.Expected.{Expected}
-use Rattle.qg_image.specs.declared.tree.Tree.{Tree}
-use Rattle.qg_blocks.specs.Told.{told}
-use Rattle.qg_ground.specs.declared.ground.Ground.{Ground}
-use Rattle.qg_ground.specs.Land.{IsDrafted}
+use Rattle.qg_image.specs.declared.tree.TreeKind.{TreeKind}
+use Rattle.qg_blocks.specs.NodesFound.{told}
+use Rattle.qg_node_alloc.specs.declared.ground.Ground.{Ground}
+use Rattle.qg_node_alloc.specs.Land.{IsDrafted}
 use Rattle.qg_edit.specs.declared.edit.Change.{Change}
 use Rattle.qg_edit.specs.declared.edit.Change.TheVariants.{Clear}
 use Rattle.qg_edit.specs.declared.edit.Edit.{Edit}
 use Rattle.qg_edit.specs.Edits.{changed, edited}
 use Rattle.qg_tree_edits.specs.declared.instead.Instead.{Instead}
-use Rattle.qg_descent.specs.Tree.{Reaches, Root, super_of}
-use Rattle.qg_descent.specs.Branch.{AreBranches, IsBranch, IsPointed}
+use Rattle.qg_tree_read.specs.Tree.{Reaches, Root, super_of}
+use Rattle.qg_tree_read.specs.Branch.{AreBranches, IsBranch, IsPointed}
 use Rattle.qg_tree_edits.specs.First.{least, leaves, leaves_behind, leaves_joined, leaves_under}
 use Rattle.qg_tree_edits.specs.Editing.{CanMake, IsOwned, IsPartEdited, IsPartFit, IsPlacedBehind, IsUnsettled}
 use Rattle.qg_tree_edits.specs.Editing.{KeepsAbove, KeepsLeaves}
 use Rattle.qg_tree_edits.proofs.Around.{IsAround}
-use Rattle.qg_descent.proofs.BranchWalk.{branches-under}
+use Rattle.qg_tree_read.proofs.BranchWalk.{branches-under}
 use Rattle.qg_tree_edits.proofs.FirstLeaf.{first-alone}
 use Rattle.qg_tree_edits.proofs.LeafLists.{joined-behind, leaves-alone, leaves-inner, leaves-same, leaves-two}
 use Rattle.qg_tree_edits.proofs.LeafLists.{under-same, under-some}
@@ -44,7 +44,7 @@ no_length [] is = refl
 no_length (item ∷ items) is = absurd (omega (arith, is))
 
 -- of a leaf that was cleared an empty one is left
-pub leaf-leaves : (tree : Tree) (root : Root) (old new : Ground) (history : History) (expected : Expected)
+pub leaf-leaves : (tree : TreeKind) (root : Root) (old new : Ground) (history : History) (expected : Expected)
     (at : ℕ) (edit : Edit) (items : List Item) (instead : Instead)
     → IsPartFit tree root old history 0 expected at edit items
     → IsPartEdited tree root old new history 0 at edit items instead → edit.key ≡ least → edit.change ≡ Clear
@@ -88,14 +88,15 @@ placed-leaves owner set end history level now None instead none placed =
 placed-leaves owner set end history level now (Some node) instead none placed = absurd cc
 
 -- an inner one below has two leaves at least
-two_below : (tree : Tree) (super : Super) (nodes : ℕ → Option Node) (level : ℕ) (pointer : Pointer) (items : List Item)
+two_below : (tree : TreeKind) (super : Super) (nodes : ℕ → Option Node) (level : ℕ) (pointer : Pointer)
+    (items : List Item)
     → IsNodeSize super.nodesize → IsPointed super nodes pointer
     → IsBranch tree super nodes level pointer.child items → 1 ≤ level → 2 ≤ length (leaves nodes level pointer.child)
 two_below tree super nodes zero pointer items size pointed branch high = absurd (omega (arith, high))
 two_below tree super nodes (suc level) pointer items size pointed branch high =
     leaves-two tree super nodes level pointer items size pointed branch
 
-module _ (tree : Tree) (root : Root) (land mid : Ground) (history : History) (level : ℕ)
+module _ (tree : TreeKind) (root : Root) (land mid : Ground) (history : History) (level : ℕ)
     (expected : Expected) (at now : ℕ) (edit : Edit) (items : List Item)
     (fit : IsPartFit tree root land history (suc level) expected at edit items)
     (owned : IsOwned tree root land mid history expected at now) (makes : CanMake tree root)

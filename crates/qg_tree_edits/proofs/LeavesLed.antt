@@ -10,15 +10,15 @@ use Rattle.qg_node.specs.declared.node.Header.{Header}
 use Rattle.qg_node.specs.declared.node.Node.{Node}
 use Rattle.qg_node.specs.declared.node.Node.TheVariants.{Inner}
 use Rattle.qg_super.specs.declared.superblock.Super.{Super}
-use Rattle.qg_image.specs.declared.tree.Tree.{Tree}
-use Rattle.qg_blocks.specs.Told.{fresh_at, told}
-use Rattle.qg_ground.specs.declared.ground.Ground.{Ground}
-use Rattle.qg_ground.proofs.Lands.{told-fresh_at}
+use Rattle.qg_image.specs.declared.tree.TreeKind.{TreeKind}
+use Rattle.qg_blocks.specs.NodesFound.{fresh_at, told}
+use Rattle.qg_node_alloc.specs.declared.ground.Ground.{Ground}
+use Rattle.qg_node_alloc.proofs.Lands.{told-fresh_at}
 use Rattle.qg_tree_edits.specs.declared.instead.Instead.{Instead}
-use Rattle.qg_descent.specs.Branch.{IsBranch, IsPointed}
+use Rattle.qg_tree_read.specs.Branch.{IsBranch, IsPointed}
 use Rattle.qg_tree_edits.specs.First.{leaves, leaves_under}
 use Rattle.qg_tree_edits.specs.Editing.{CanLead, FillsThere, HasLed, IsCutThere}
-use Rattle.qg_descent.proofs.Branches.{each-get}
+use Rattle.qg_tree_read.proofs.Branches.{each-get}
 use Rattle.qg_tree_edits.proofs.Leading.{not-above}
 use Rattle.qg_tree_edits.proofs.LeafLists.{leaves-inner, leaves-same, leaves_more, under-append, under-same}
 
@@ -41,7 +41,7 @@ more_same : (under other : ℕ → List (List Item)) (o : Option ℕ)
 more_same under other None same = refl
 more_same under other (Some more) same = same more refl
 
-module _ (tree : Tree) (super : Super) (land new : Ground) (history : History) (level at from to : ℕ)
+module _ (tree : TreeKind) (super : Super) (land new : Ground) (history : History) (level at from to : ℕ)
     (instead : Instead) (pointers : List Pointer) (header : Header) (items : List Item) (rest : Option Node)
     (can : CanLead tree super land history level at from to instead pointers header items)
     (led : HasLed tree super land new history level at from to instead pointers header items rest)

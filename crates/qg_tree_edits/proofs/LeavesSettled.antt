@@ -13,17 +13,17 @@ use Rattle.qg_node.specs.Nodes.{used_bytes}
 use Rattle.qg_node.specs.NodeText.{IsNodeSize}
 use Rattle.qg_super.specs.declared.superblock.Super.{Super}
 use Rattle.qg_shape.specs.Filled.{IsThin}
-use Rattle.qg_image.specs.declared.tree.Tree.{Tree}
+use Rattle.qg_image.specs.declared.tree.TreeKind.{TreeKind}
 use Rattle.qg_image.specs.declared.expected.Expected.{Expected}
-use Rattle.qg_blocks.specs.Told.{fresh_at, told}
+use Rattle.qg_blocks.specs.NodesFound.{fresh_at, told}
 use Rattle.qg_space.specs.Holding.{is_free_slot}
-use Rattle.qg_ground.specs.declared.ground.Ground.{Ground}
-use Rattle.qg_ground.specs.Land.{IsDrafted, Rests}
-use Rattle.qg_ground.proofs.Lands.{told-fresh_at}
+use Rattle.qg_node_alloc.specs.declared.ground.Ground.{Ground}
+use Rattle.qg_node_alloc.specs.Land.{IsDrafted, Rests}
+use Rattle.qg_node_alloc.proofs.Lands.{told-fresh_at}
 use Rattle.qg_tree_edits.specs.declared.instead.Instead.{Instead}
 use Rattle.qg_tree_edits.specs.declared.pairing.Pair.{Pair}
-use Rattle.qg_descent.specs.Tree.{Reaches, Root, super_of}
-use Rattle.qg_descent.specs.Branch.{IsBranch}
+use Rattle.qg_tree_read.specs.Tree.{Reaches, Root, super_of}
+use Rattle.qg_tree_read.specs.Branch.{IsBranch}
 use Rattle.qg_tree_edits.specs.First.{leaves, leaves_joined, leaves_under}
 use Rattle.qg_tree_edits.specs.Editing.{CanLead, CanMake, HasLed, IsEmptyIfLeaf, IsFreshOn, IsOwned, IsUnsettled}
 use Rattle.qg_tree_edits.specs.Editing.{KeepsLeaves, alone}
@@ -52,7 +52,7 @@ no_items : (items : List Item) → ◌≡◌ {A = List (List Item)} (items ∷ [
 no_items items is = cc
 
 -- a branch that is one empty leaf has no items
-branch_empty : (tree : Tree) (super : Super) (nodes : ℕ → Option Node) (level at : ℕ) (items : List Item)
+branch_empty : (tree : TreeKind) (super : Super) (nodes : ℕ → Option Node) (level at : ℕ) (items : List Item)
     → IsBranch tree super nodes level at items → level ≡ 0 → leaves nodes level at ≡ [] ∷ [] → items ≡ []
 unfolding IsBranch
 branch_empty tree super nodes zero at items branch low empty =
@@ -60,7 +60,7 @@ branch_empty tree super nodes zero at items branch low empty =
 branch_empty tree super nodes (suc level) at items branch low empty = absurd (omega (arith, low))
 
 -- and its node is not a quarter full
-thin_there : (tree : Tree) (super : Super) (land : Ground) (history : History) (nodesize level at : ℕ)
+thin_there : (tree : TreeKind) (super : Super) (land : Ground) (history : History) (nodesize level at : ℕ)
     (items : List Item) (node : Node)
     → IsBranch tree super (told land.blocks.draft history) level at items → level ≡ 0 → items ≡ []
     → fresh_at land.blocks.draft at ≡ Some node
@@ -81,7 +81,7 @@ joined_high (suc level) xs ys high = refl
 
 -- ---- the child stays a node of its own
 
-module _ (tree : Tree) (root : Root) (land new : Ground) (history : History) (level at : ℕ)
+module _ (tree : TreeKind) (root : Root) (land new : Ground) (history : History) (level at : ℕ)
     (to : Option Key) (place : ℕ) (child : Instead)
     (items : List Item) (rest : Option Node) (un : IsUnsettled tree root land history level at to place child items)
     (can : CanLead tree (super_of root land.blocks.draft) land history level at place (place + 1) child un.pointers
@@ -121,7 +121,7 @@ module _ (tree : Tree) (root : Root) (land new : Ground) (history : History) (le
 
 -- ---- a node that was owned
 
-module _ (tree : Tree) (root : Root) (land new : Ground) (history : History) (expected : Expected)
+module _ (tree : TreeKind) (root : Root) (land new : Ground) (history : History) (expected : Expected)
     (at now : ℕ)
     (owned : IsOwned tree root land new history expected at now) (makes : CanMake tree root) where
   -- the same leaves are under it
@@ -152,7 +152,7 @@ module _ (tree : Tree) (root : Root) (land new : Ground) (history : History) (ex
 
 -- ---- the child was joined with its neighbour
 
-module _ (tree : Tree) (root : Root) (land mid new end : Ground) (history later last : History)
+module _ (tree : TreeKind) (root : Root) (land mid new end : Ground) (history later last : History)
     (level at : ℕ) (to : Option Key) (place child : ℕ) (items : List Item) (rest : Option Node)
     (un : IsUnsettled tree root land history level at to place (alone child) items) (pair : Pair) (instead : Instead)
     (is : IsPaired tree root land mid history un.pointers to level place child pair)

@@ -8,14 +8,14 @@ use Rattle.qg_node.specs.declared.pointer.Pointer.{Pointer}
 use Rattle.qg_node.specs.declared.node.Header.{Header}
 use Rattle.qg_node.specs.declared.node.Node.{Node}
 use Rattle.qg_super.specs.declared.superblock.Super.{Super}
-use Rattle.qg_image.specs.declared.tree.Tree.{Tree}
-use Rattle.qg_blocks.specs.Told.{told}
-use Rattle.qg_ground.specs.declared.ground.Ground.{Ground}
+use Rattle.qg_image.specs.declared.tree.TreeKind.{TreeKind}
+use Rattle.qg_blocks.specs.NodesFound.{told}
+use Rattle.qg_node_alloc.specs.declared.ground.Ground.{Ground}
 use Rattle.qg_tree_edits.specs.declared.instead.Instead.{Instead}
-use Rattle.qg_descent.specs.Tree.{Reaches}
-use Rattle.qg_descent.specs.Branch.{IsBranch}
+use Rattle.qg_tree_read.specs.Tree.{Reaches}
+use Rattle.qg_tree_read.specs.Branch.{IsBranch}
 use Rattle.qg_tree_edits.specs.Editing.{CanLead, FillsThere, HasLed, ReachesInstead}
-use Rattle.qg_descent.proofs.BranchFrames.{reach-same}
+use Rattle.qg_tree_read.proofs.BranchFrames.{reach-same}
 use Rattle.qg_tree_edits.proofs.Leading.{not-above}
 
 -- what is told behind, if anything is, is what stands in the second place
@@ -31,7 +31,7 @@ only_more (Some a) more one k p there =
       at zero is = let same : one.0 ≡ p = cc in sym (ap (λ (q : Pointer). q.child) same) ∙ one.2
       at (suc k) is = absurd cc
 
-module _ (tree : Tree) (super : Super) (land new : Ground) (history : History) (level at from to : ℕ)
+module _ (tree : TreeKind) (super : Super) (land new : Ground) (history : History) (level at from to : ℕ)
     (instead : Instead) (pointers : List Pointer) (header : Header) (items : List Item)
     (rest : Option Node) (can : CanLead tree super land history level at from to instead pointers header items)
     (led : HasLed tree super land new history level at from to instead pointers header items rest) where

@@ -7,18 +7,18 @@ use Rattle.qg_node.specs.declared.pointer.Pointer.{Pointer}
 use Rattle.qg_node.specs.declared.node.Header.{Header}
 use Rattle.qg_node.specs.declared.node.Node.{Node}
 use Rattle.qg_super.specs.declared.superblock.Super.{Super}
-use Rattle.qg_image.specs.declared.tree.Tree.{Tree}
-use Rattle.qg_blocks.specs.Told.{told}
-use Rattle.qg_ground.specs.declared.ground.Ground.{Ground}
+use Rattle.qg_image.specs.declared.tree.TreeKind.{TreeKind}
+use Rattle.qg_blocks.specs.NodesFound.{told}
+use Rattle.qg_node_alloc.specs.declared.ground.Ground.{Ground}
 use Rattle.qg_tree_edits.specs.declared.instead.Instead.{Instead}
-use Rattle.qg_descent.specs.Branch.{AreBranches, IsBranch, IsPointed}
+use Rattle.qg_tree_read.specs.Branch.{AreBranches, IsBranch, IsPointed}
 use Rattle.qg_tree_edits.specs.Editing.{CanLead, FillsThere, HasLed}
 use Rattle.qg_tree_edits.specs.Counting.{ways, ways_each, ways_instead, ways_more}
-use Rattle.qg_descent.proofs.Branches.{each-get}
+use Rattle.qg_tree_read.proofs.Branches.{each-get}
 use Rattle.qg_tree_edits.proofs.Leading.{not-above}
 use Rattle.qg_tree_edits.proofs.Ways.{ways-same, ways_each-append, ways_each-cons, ways_each-same}
 
-module _ (tree : Tree) (super : Super) (land new : Ground) (history : History) (level at from to : ℕ)
+module _ (tree : TreeKind) (super : Super) (land new : Ground) (history : History) (level at from to : ℕ)
     (instead : Instead) (pointers : List Pointer) (header : Header) (items : List Item)
     (rest : Option Node) (can : CanLead tree super land history level at from to instead pointers header items)
     (led : HasLed tree super land new history level at from to instead pointers header items rest) where

@@ -10,10 +10,10 @@ use Rattle.qg_shape.proofs.Sides.{header_of-parted}
 use Rattle.qg_shape.proofs.Together.{header_of-whole_of}
 use Rattle.qg_shape.specs.declared.joining.Joined.{Joined}
 use Rattle.qg_shape.specs.declared.joining.Joined.TheVariants.{Whole, Parted}
-use Rattle.qg_blocks.specs.Told.{fresh_at}
-use Rattle.qg_ground.specs.declared.ground.Ground.{Ground}
-use Rattle.qg_ground.specs.Tellings.{Empties, HoldsNothing, KeepsLevels, Spares}
-use Rattle.qg_ground.proofs.Lands.{fresh_at-told}
+use Rattle.qg_blocks.specs.NodesFound.{fresh_at}
+use Rattle.qg_node_alloc.specs.declared.ground.Ground.{Ground}
+use Rattle.qg_node_alloc.specs.Tellings.{Empties, HoldsNothing, KeepsLevels, Spares}
+use Rattle.qg_node_alloc.proofs.Lands.{fresh_at-told}
 use Rattle.qg_edit.specs.Outcome.{cleared}
 use Rattle.qg_tree_edits.specs.Editing.{ArePair, AreRewritten, IsFreshOn, IsJoinedAs, IsJoinedThere, IsRewritten}
 use Rattle.qg_tree_edits.proofs.Cutting.{rewritten-spares}

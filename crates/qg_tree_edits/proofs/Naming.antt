@@ -6,12 +6,12 @@ use Rattle.qg_num.specs.declared.fault.BlockFault.{BlockFault}
 use Rattle.qg_num.specs.declared.fault.BlockFault.TheVariants.{NoMemory, Disk, Image}
 use Rattle.qg_num.specs.declared.rule.Rule.{Rule}
 use Rattle.qg_image.specs.declared.expected.Expected.{Expected}
-use Rattle.qg_image.specs.declared.tree.Tree.{Tree}
-use Rattle.qg_blocks.specs.Told.{BreaksNone, found}
-use Rattle.qg_ground.specs.declared.ground.Ground.{Ground}
+use Rattle.qg_image.specs.declared.tree.TreeKind.{TreeKind}
+use Rattle.qg_blocks.specs.NodesFound.{BreaksNone, found}
+use Rattle.qg_node_alloc.specs.declared.ground.Ground.{Ground}
 use Rattle.qg_edit.specs.Answering.{AnswersBy}
-use Rattle.qg_descent.specs.Tree.{Root, super_of}
-use Rattle.qg_descent.specs.Way.{FailsThere}
+use Rattle.qg_tree_read.specs.Tree.{Root, super_of}
+use Rattle.qg_tree_read.specs.Way.{FailsThere}
 use Rattle.qg_tree_edits.specs.Failing.{IsRefused, NamesOnly}
 
 -- what follows from what is so
@@ -60,7 +60,7 @@ answers-no_disk result P Q answers is =
     rw that at answers
 
 -- what is answered of a node that is misread
-pub names-refused : (A B : Type 0) (tree : Tree) (root : Root) (old new : Ground) (events : List Event)
+pub names-refused : (A B : Type 0) (tree : TreeKind) (root : Root) (old new : Ground) (events : List Event)
     (expected : Expected) (at : ℕ) (fault : BlockFault) → new.blocks.draft ≡ old.blocks.draft
     → FailsThere {A = A} tree (super_of root old.blocks.draft) expected at (found old.blocks.draft (content events) at)
     (Err fault) → NamesOnly {A = B} (IsRefused tree root old new events expected at) (Err fault)

@@ -8,18 +8,18 @@ use Rattle.qg_num.specs.declared.fault.BlockFault.TheVariants.{NoMemory, Disk, I
 use Rattle.qg_node.specs.declared.node.Node.{Node}
 use Rattle.qg_super.specs.declared.sizes.Sizes.{Sizes}
 use Rattle.qg_image.specs.declared.expected.Expected.{Expected}
-use Rattle.qg_image.specs.declared.tree.Tree.{Tree}
-use Rattle.qg_blocks.specs.Held.{Draft, Held}
+use Rattle.qg_image.specs.declared.tree.TreeKind.{TreeKind}
+use Rattle.qg_blocks.specs.NodesInMemory.{Draft, Held}
 use Rattle.qg_blocks.specs.Standing.{standing}
-use Rattle.qg_blocks.specs.Told.{Answers, BreaksNone, IsNodeAt, found, fresh_at, fresh_or, told, told_or}
+use Rattle.qg_blocks.specs.NodesFound.{Answers, BreaksNone, IsNodeAt, found, fresh_at, fresh_or, told, told_or}
 use Rattle.qg_blocks.proofs.Telling.{fresh-held}
 use Rattle.qg_space.specs.Holding.{Holding, is_free_slot}
-use Rattle.qg_ground.specs.declared.ground.Ground.{Ground}
-use Rattle.qg_ground.specs.Changes.{Copies, Owned, Takes}
-use Rattle.qg_ground.specs.Land.{IsDrafted}
-use Rattle.qg_ground.proofs.Lands.{IsSome-is}
-use Rattle.qg_descent.specs.Tree.{Root, super_of}
-use Rattle.qg_descent.specs.Way.{IsVisited}
+use Rattle.qg_node_alloc.specs.declared.ground.Ground.{Ground}
+use Rattle.qg_node_alloc.specs.Changes.{Copies, Owned, Takes}
+use Rattle.qg_node_alloc.specs.Land.{IsDrafted}
+use Rattle.qg_node_alloc.proofs.Lands.{IsSome-is}
+use Rattle.qg_tree_read.specs.Tree.{Root, super_of}
+use Rattle.qg_tree_read.specs.Way.{IsVisited}
 use Rattle.qg_tree_edits.specs.Editing.{IsOwned}
 use Rattle.qg_tree_edits.proofs.Placed.{KeepsFresh-put}
 
@@ -30,7 +30,7 @@ some_or (Some node) P some none = some node refl
 -- ---- what is left of it
 
 -- a fresh node is the one that was judged, and it stays where it is
-owned_kept : (tree : Tree) (root : Root) (old new : Ground) (history : History) (expected : Expected)
+owned_kept : (tree : TreeKind) (root : Root) (old new : Ground) (history : History) (expected : Expected)
     (at now : ℕ) (held : Held) (node : Node)
     → IsVisited tree (super_of root old.blocks.draft) expected old.blocks.draft history held at
     → IsDrafted old root.next → held.draft ≡ old.blocks.draft
@@ -56,7 +56,7 @@ owned_kept tree root old new history expected at now held node visited drafted d
     }
 
 -- any other is copied
-owned_copied : (tree : Tree) (root : Root) (old new : Ground) (history later : History)
+owned_copied : (tree : TreeKind) (root : Root) (old new : Ground) (history later : History)
     (expected : Expected) (at now : ℕ) (held : Held)
     → IsVisited tree (super_of root old.blocks.draft) expected old.blocks.draft history held at
     → IsDrafted old root.next → IsDrafted (record old { blocks = held }) root.next
@@ -82,7 +82,7 @@ owned_copied tree root old new history later expected at now held visited drafte
     }
 
 -- either way it is owned
-pub IsOwned-visited : (tree : Tree) (root : Root) (old new : Ground) (history later : History)
+pub IsOwned-visited : (tree : TreeKind) (root : Root) (old new : Ground) (history later : History)
     (expected : Expected) (at : ℕ) (held : Held) (result : Result ℕ BlockFault)
     → IsVisited tree (super_of root old.blocks.draft) expected old.blocks.draft history held at
     → IsDrafted old root.next → IsDrafted (record old { blocks = held }) root.next

@@ -12,18 +12,18 @@ use Rattle.qg_node.specs.declared.node.Node.TheVariants.{Leaf, Inner}
 use Rattle.qg_node.specs.Nodes.{header_of, own_pointers}
 use Rattle.qg_super.specs.declared.superblock.Super.{Super}
 use Rattle.qg_image.specs.declared.expected.Expected.{Expected}
-use Rattle.qg_image.specs.declared.tree.Tree.{Tree}
+use Rattle.qg_image.specs.declared.tree.TreeKind.{TreeKind}
 use Rattle.qg_image.specs.Walk.{is_generation}
-use Rattle.qg_blocks.specs.Told.{told}
+use Rattle.qg_blocks.specs.NodesFound.{told}
 use Rattle.qg_space.specs.Holding.{is_free_slot}
-use Rattle.qg_ground.specs.declared.ground.Ground.{Ground}
-use Rattle.qg_ground.specs.Tellings.{node_copy}
-use Rattle.qg_ground.proofs.Lands.{told-fresh_at}
-use Rattle.qg_descent.specs.Tree.{Reaches, Root, super_of}
-use Rattle.qg_descent.specs.Branch.{AreBranches, IsBranch, IsMember, IsPointed}
+use Rattle.qg_node_alloc.specs.declared.ground.Ground.{Ground}
+use Rattle.qg_node_alloc.specs.Tellings.{node_copy}
+use Rattle.qg_node_alloc.proofs.Lands.{told-fresh_at}
+use Rattle.qg_tree_read.specs.Tree.{Reaches, Root, super_of}
+use Rattle.qg_tree_read.specs.Branch.{AreBranches, IsBranch, IsMember, IsPointed}
 use Rattle.qg_tree_edits.specs.Editing.{CanMake, IsOwned}
-use Rattle.qg_descent.proofs.Branches.{branch-level, each-get}
-use Rattle.qg_descent.proofs.BranchFrames.{branches-same, reach-same}
+use Rattle.qg_tree_read.proofs.Branches.{branch-level, each-get}
+use Rattle.qg_tree_read.proofs.BranchFrames.{branches-same, reach-same}
 
 -- ---- a node of the generation to come
 
@@ -31,7 +31,7 @@ pub generation_next : (next : ℕ) → 0 < next → is_generation next None next
 generation_next next some = and_from (nat_lt 0 next) (nat_le next next) (le-leb 1 next (omega (arith, some)))
     (le-leb next next (omega arith))
 
-pub member_made : (tree : Tree) (root : Root) (land : Ground) (level : ℕ) (header : Header) → CanMake tree root
+pub member_made : (tree : TreeKind) (root : Root) (land : Ground) (level : ℕ) (header : Header) → CanMake tree root
     → header.level ≡ level → header.owner ≡ root.owner → header.generation ≡ root.next
     → IsMember tree (super_of root land.blocks.draft) level header
 member_made tree root land level header makes levelled owner generation = record {
@@ -52,7 +52,7 @@ copy_inner : (header : Header) (pointers : List Pointer) (node mine : Node) (now
 copy_inner header pointers node mine now owner generation node_is is = is
     ∙ ap (λ (n : Node). node_copy n now owner generation) node_is
 
-module _ (tree : Tree) (root : Root) (land new : Ground) (history : History) (expected : Expected)
+module _ (tree : TreeKind) (root : Root) (land new : Ground) (history : History) (expected : Expected)
     (at now : ℕ) (owned : IsOwned tree root land new history expected at now)
     (makes : CanMake tree root) where
   -- what is told of it

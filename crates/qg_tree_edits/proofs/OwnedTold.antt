@@ -10,20 +10,20 @@ use Rattle.qg_node.specs.declared.item.Item.{Item}
 use Rattle.qg_node.specs.declared.node.Node.{Node}
 use Rattle.qg_node.specs.Nodes.{header_of}
 use Rattle.qg_image.specs.declared.expected.Expected.{Expected}
-use Rattle.qg_image.specs.declared.tree.Tree.{Tree}
-use Rattle.qg_blocks.specs.Told.{fresh_at, told}
+use Rattle.qg_image.specs.declared.tree.TreeKind.{TreeKind}
+use Rattle.qg_blocks.specs.NodesFound.{fresh_at, told}
 use Rattle.qg_space.specs.Holding.{is_free_slot}
-use Rattle.qg_ground.specs.declared.ground.Ground.{Ground}
-use Rattle.qg_ground.specs.Tellings.{Telling}
-use Rattle.qg_ground.specs.Tellings.Telling.{Copied}
-use Rattle.qg_ground.proofs.Slots.{free-apart}
-use Rattle.qg_descent.specs.Tree.{Reaches, Root, super_of}
-use Rattle.qg_descent.specs.Branch.{IsBranch}
+use Rattle.qg_node_alloc.specs.declared.ground.Ground.{Ground}
+use Rattle.qg_node_alloc.specs.Tellings.{Telling}
+use Rattle.qg_node_alloc.specs.Tellings.Telling.{Copied}
+use Rattle.qg_node_alloc.proofs.Slots.{free-apart}
+use Rattle.qg_tree_read.specs.Tree.{Reaches, Root, super_of}
+use Rattle.qg_tree_read.specs.Branch.{IsBranch}
 use Rattle.qg_tree_edits.specs.Editing.{CanMake, IsOwned}
 use Rattle.qg_tree_edits.specs.Counting.{AreCommitted, IsAsWas, IsBare, IsTold, IsUnheld, LeadsNone, gains, one}
 use Rattle.qg_tree_edits.specs.Counting.{tellings_owned, ways, ways_each}
-use Rattle.qg_descent.proofs.Branches.{branch-level, branch-top}
-use Rattle.qg_descent.proofs.BranchFrames.{reach-top}
+use Rattle.qg_tree_read.proofs.Branches.{branch-level, branch-top}
+use Rattle.qg_tree_read.proofs.BranchFrames.{reach-top}
 use Rattle.qg_tree_edits.proofs.Clean.{none-unless}
 use Rattle.qg_tree_edits.proofs.Committed.{committed-told}
 use Rattle.qg_tree_edits.proofs.Downward.{leads-none}
@@ -63,7 +63,7 @@ module _ (old : Ground) (nodes clean : ℕ → Option Node) (Reached : ℕ → T
     few_made = omega arith;
   }
 
-module _ (tree : Tree) (root : Root) (land new : Ground) (history : History) (expected : Expected)
+module _ (tree : TreeKind) (root : Root) (land new : Ground) (history : History) (expected : Expected)
     (at now : ℕ) (owned : IsOwned tree root land new history expected at now)
     (makes : CanMake tree root) where
   -- as much is below it as was

@@ -1,12 +1,12 @@
 -- Who owns the fresh nodes after they were edited where they lie, and after what was cut off one got a place.
 use Rattle.std.proofs.Common.{◌≡◌, ◌≢◌, ℕ, refl, sym, ap, inl, inr, Option, Some, None}
 use Rattle.qg_node.specs.declared.node.Node.{Node}
-use Rattle.qg_blocks.specs.Told.{fresh_at}
+use Rattle.qg_blocks.specs.NodesFound.{fresh_at}
 use Rattle.qg_shape.specs.declared.joining.Joined.{Joined}
 use Rattle.qg_shape.specs.declared.joining.Joined.TheVariants.{Whole, Parted}
-use Rattle.qg_ground.specs.declared.ground.Ground.{Ground}
-use Rattle.qg_ground.specs.Changes.{HasOwner, IsOwnedBy}
-use Rattle.qg_ground.proofs.Owners.{IsOwnedBy-after, IsOwnedBy-draft, IsOwnedBy-left, IsOwnedBy-made, IsOwnedBy-one}
+use Rattle.qg_node_alloc.specs.declared.ground.Ground.{Ground}
+use Rattle.qg_node_alloc.specs.Changes.{HasOwner, IsOwnedBy}
+use Rattle.qg_node_alloc.proofs.Owners.{IsOwnedBy-after, IsOwnedBy-draft, IsOwnedBy-left, IsOwnedBy-made, IsOwnedBy-one}
 use Rattle.qg_tree_edits.specs.declared.instead.Instead.{Instead}
 use Rattle.qg_tree_edits.specs.Editing.{ArePair, AreRewritten, IsPlacedBehind, IsRewritten, with_owner}
 use Rattle.qg_tree_edits.specs.Uniting.{AreUnited, EndsAs}

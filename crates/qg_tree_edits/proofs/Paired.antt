@@ -9,19 +9,19 @@ use Rattle.qg_node.specs.declared.node.Node.TheVariants.{Leaf, Inner}
 use Rattle.qg_node.specs.Nodes.{header_of, used_bytes}
 use Rattle.qg_shape.specs.Filled.{IsThin}
 use Rattle.qg_image.specs.declared.expected.Expected.{Expected}
-use Rattle.qg_image.specs.declared.tree.Tree.{Tree}
-use Rattle.qg_blocks.specs.Told.{fresh_at}
-use Rattle.qg_ground.specs.declared.ground.Ground.{Ground}
-use Rattle.qg_ground.specs.Land.{IsDrafted, Rests}
-use Rattle.qg_ground.specs.Tellings.{node_copy}
+use Rattle.qg_image.specs.declared.tree.TreeKind.{TreeKind}
+use Rattle.qg_blocks.specs.NodesFound.{fresh_at}
+use Rattle.qg_node_alloc.specs.declared.ground.Ground.{Ground}
+use Rattle.qg_node_alloc.specs.Land.{IsDrafted, Rests}
+use Rattle.qg_node_alloc.specs.Tellings.{node_copy}
 use Rattle.qg_tree_edits.specs.declared.pairing.Pair.{Pair}
-use Rattle.qg_descent.specs.Tree.{Root, super_of}
+use Rattle.qg_tree_read.specs.Tree.{Root, super_of}
 use Rattle.qg_tree_edits.specs.Editing.{ArePair, IsFreshOn, IsOwned}
 use Rattle.qg_tree_edits.specs.Uniting.{IsPaired}
-use Rattle.qg_descent.proofs.BranchForms.{form-expected}
+use Rattle.qg_tree_read.proofs.BranchForms.{form-expected}
 use Rattle.qg_tree_edits.proofs.Spliced.{got-inside}
 use Rattle.qg_tree_edits.proofs.Served.{node-drafted, size-drafted}
-use Rattle.qg_descent.proofs.Under.{level-told}
+use Rattle.qg_tree_read.proofs.Under.{level-told}
 
 copy_level : (node : Node) (now owner generation : ℕ) → (header_of (node_copy node now owner generation)).level
     ≡ (header_of node).level
@@ -34,7 +34,7 @@ copy_used (Leaf header items) now owner generation = refl
 copy_used (Inner header pointers) now owner generation = refl
 
 -- a node that was owned has its level, and as much of it is used
-module _ (tree : Tree) (root : Root) (land new : Ground) (history : History) (expected : Expected)
+module _ (tree : TreeKind) (root : Root) (land new : Ground) (history : History) (expected : Expected)
     (at now : ℕ) (owned : IsOwned tree root land new history expected at now) where
   pub owned-level : (header_of owned.mine).level ≡ (header_of owned.node).level
   owned-level = elim owned.same [
@@ -73,7 +73,7 @@ pair_of land generation level left right drafted a b thin = record {
   thin = elim thin [ inl left_thin ↦ inl (left_thin a.node a.here) | inr right_thin ↦ inr (right_thin b.node b.here) ];
 }
 
-module _ (tree : Tree) (root : Root) (land new : Ground) (history later : History) (pointers : List Pointer)
+module _ (tree : TreeKind) (root : Root) (land new : Ground) (history later : History) (pointers : List Pointer)
     (to : Option Key) (level place child : ℕ) (pair : Pair)
     (is : IsPaired tree root land new history pointers to level place child pair)
     (rests : Rests land new later root.next) (fresh : IsFreshOn land level child) (thin : IsThinAt land child) where

@@ -9,25 +9,25 @@ use Rattle.qg_node.specs.declared.item.Item.{Item}
 use Rattle.qg_node.specs.declared.pointer.Pointer.{Pointer}
 use Rattle.qg_node.specs.Nodes.{used_bytes}
 use Rattle.qg_super.specs.Places.{capacity}
-use Rattle.qg_image.specs.declared.tree.Tree.{Tree}
-use Rattle.qg_blocks.specs.Told.{told}
+use Rattle.qg_image.specs.declared.tree.TreeKind.{TreeKind}
+use Rattle.qg_blocks.specs.NodesFound.{told}
 use Rattle.qg_space.specs.Holding.{is_free_slot}
-use Rattle.qg_ground.specs.declared.ground.Ground.{Ground}
-use Rattle.qg_ground.specs.Land.{IsDrafted, Rests}
+use Rattle.qg_node_alloc.specs.declared.ground.Ground.{Ground}
+use Rattle.qg_node_alloc.specs.Land.{IsDrafted, Rests}
 use Rattle.qg_tree_edits.specs.declared.pairing.Pair.{Pair}
-use Rattle.qg_descent.specs.Tree.{Reaches, Root, super_of}
-use Rattle.qg_descent.specs.Branch.{IsBranch, IsPointed}
+use Rattle.qg_tree_read.specs.Tree.{Reaches, Root, super_of}
+use Rattle.qg_tree_read.specs.Branch.{IsBranch, IsPointed}
 use Rattle.qg_tree_edits.specs.Editing.{CanMake, FillsThere, IsOwned, IsUnsettled, ReachesParts, alone}
 use Rattle.qg_tree_edits.specs.Uniting.{IsPaired}
 use Rattle.qg_tree_edits.proofs.Beside.{beside-differs, other-branch}
-use Rattle.qg_descent.proofs.BranchFrames.{reach-same, reach-top}
+use Rattle.qg_tree_read.proofs.BranchFrames.{reach-same, reach-top}
 use Rattle.qg_tree_edits.proofs.OwnedBranch.{mine-told, owned-reach}
 use Rattle.qg_tree_edits.proofs.Paired.{owned-used}
 use Rattle.qg_tree_edits.proofs.PairedHolds.{child-apart, free-there, other-apart, owned-there}
 use Rattle.qg_tree_edits.proofs.Placed.{fresh-taken}
 use Rattle.qg_tree_edits.proofs.Served.{node-drafted}
 
-module _ (tree : Tree) (root : Root) (land new : Ground) (history later : History) (level at : ℕ)
+module _ (tree : TreeKind) (root : Root) (land new : Ground) (history later : History) (level at : ℕ)
     (to : Option Key) (place child : ℕ) (items : List Item)
     (un : IsUnsettled tree root land history level at to place (alone child) items) (pair : Pair)
     (is : IsPaired tree root land new history un.pointers to level place child pair) (makes : CanMake tree root)

@@ -13,20 +13,20 @@ use Rattle.qg_shape.specs.Filled.{HasShortBodies}
 use Rattle.qg_shape.proofs.Sides.{back-all, front-all}
 use Rattle.qg_edit.specs.Outcome.{IsInFront}
 use Rattle.qg_super.specs.declared.superblock.Super.{Super}
-use Rattle.qg_image.specs.declared.tree.Tree.{Tree}
-use Rattle.qg_blocks.specs.Told.{fresh_at, told}
+use Rattle.qg_image.specs.declared.tree.TreeKind.{TreeKind}
+use Rattle.qg_blocks.specs.NodesFound.{fresh_at, told}
 use Rattle.qg_space.specs.Holding.{is_free_slot}
-use Rattle.qg_ground.specs.declared.ground.Ground.{Ground}
+use Rattle.qg_node_alloc.specs.declared.ground.Ground.{Ground}
 use Rattle.qg_tree_edits.specs.declared.pairing.Pair.{Pair}
-use Rattle.qg_descent.specs.Tree.{Reaches, Root, super_of}
-use Rattle.qg_descent.specs.Branch.{AreBranches, IsBranch, IsPointed}
+use Rattle.qg_tree_read.specs.Tree.{Reaches, Root, super_of}
+use Rattle.qg_tree_read.specs.Branch.{AreBranches, IsBranch, IsPointed}
 use Rattle.qg_tree_edits.specs.Editing.{CanMake, IsOwned, IsUnsettled, alone}
 use Rattle.qg_tree_edits.specs.Uniting.{IsPaired}
 use Rattle.qg_tree_edits.proofs.Beside.{beside-differs}
-use Rattle.qg_descent.proofs.Branches.{each-append}
-use Rattle.qg_descent.proofs.BranchFrames.{branch-same, branches-same, reach-top}
-use Rattle.qg_descent.proofs.BranchOrder.{keys_of}
-use Rattle.qg_descent.proofs.BranchRanges.{ascending-first, ascending-others}
+use Rattle.qg_tree_read.proofs.Branches.{each-append}
+use Rattle.qg_tree_read.proofs.BranchFrames.{branch-same, branches-same, reach-top}
+use Rattle.qg_tree_read.proofs.BranchOrder.{keys_of}
+use Rattle.qg_tree_read.proofs.BranchRanges.{ascending-first, ascending-others}
 use Rattle.qg_tree_edits.proofs.InFront.{united-front, united-short}
 use Rattle.qg_tree_edits.proofs.OwnedBranch.{owned-branch}
 use Rattle.qg_tree_edits.proofs.Spliced.{drop-get, drop-there, take-get, take-there}
@@ -46,7 +46,7 @@ regroup_front front first mine back =
     ∙ ap (λ (xs : List Item). front ++ xs) (sym (append_assoc first mine back))
 
 -- the items under both, and under the other children in front and behind
-pub record HoldPair (tree : Tree) (super : Super) (nodes : ℕ → Option Node) (level : ℕ) (pointers : List Pointer)
+pub record HoldPair (tree : TreeKind) (super : Super) (nodes : ℕ → Option Node) (level : ℕ) (pointers : List Pointer)
     (pair : Pair) (items : List Item) : Type 0 where
   pub front : List Item
   pub ls : List Item
@@ -58,7 +58,7 @@ pub record HoldPair (tree : Tree) (super : Super) (nodes : ℕ → Option Node) 
   pub right_holds : IsBranch tree super nodes level pair.right rs
   pub after : AreBranches tree super nodes level (drop (pair.front + 2) pointers) back
 
-module _ (tree : Tree) (root : Root) (land new : Ground) (history : History) (level at : ℕ)
+module _ (tree : TreeKind) (root : Root) (land new : Ground) (history : History) (level at : ℕ)
     (to : Option Key) (place child : ℕ) (items : List Item)
     (un : IsUnsettled tree root land history level at to place (alone child) items) (pair : Pair)
     (is : IsPaired tree root land new history un.pointers to level place child pair)

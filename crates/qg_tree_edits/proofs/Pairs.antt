@@ -15,14 +15,14 @@ use Rattle.qg_shape.specs.declared.joining.Joined.{Joined}
 use Rattle.qg_shape.specs.declared.joining.Joined.TheVariants.{Whole, Parted}
 use Rattle.qg_shape.specs.Filled.{HasShortBodies, IsThin}
 use Rattle.qg_shape.specs.Outcomes.{IsJoined}
-use Rattle.qg_blocks.specs.Told.{BreaksNone, fresh_at}
+use Rattle.qg_blocks.specs.NodesFound.{BreaksNone, fresh_at}
 use Rattle.qg_blocks.proofs.Telling.{is_at-other, same_by}
 use Rattle.qg_edit.specs.Answering.{AnswersBy, CanMerge, IsBrokenByMerge}
 use Rattle.qg_edit.specs.Outcome.{AreNodesAfter, IsInFront, IsNodeFor, cleared}
 use Rattle.qg_edit.proofs.Leaves.{IsNodeFor-cleared, IsNodeFor-itself}
-use Rattle.qg_ground.specs.declared.ground.Ground.{Ground}
-use Rattle.qg_ground.proofs.Lands.{IsSome-is, fresh_at-told}
-use Rattle.qg_ground.proofs.Editing.{edited, edited-here, edited-others}
+use Rattle.qg_node_alloc.specs.declared.ground.Ground.{Ground}
+use Rattle.qg_node_alloc.proofs.Lands.{IsSome-is, fresh_at-told}
+use Rattle.qg_node_alloc.proofs.Editing.{edited, edited-here, edited-others}
 use Rattle.qg_tree_edits.specs.Editing.{ArePair, AreRewritten, IsJoinedAs, IsJoinedThere}
 use Rattle.qg_tree_edits.specs.Failing.{ArentJoined, NamesOnly}
 use Rattle.qg_tree_edits.proofs.Rewritten.{same_node}

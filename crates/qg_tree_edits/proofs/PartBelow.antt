@@ -34,43 +34,43 @@ use Rattle.qg_image.specs.IsShaped.{is_first, is_shaped, same_key}
 use Rattle.qg_shape.specs.Places.{LeadsTo}
 use Rattle.qg_shape.proofs.Sides.{back-all, front-all}
 use Rattle.qg_image.specs.declared.expected.Expected.{Expected}
-use Rattle.qg_image.specs.declared.tree.Tree.{Tree}
+use Rattle.qg_image.specs.declared.tree.TreeKind.{TreeKind}
 use Rattle.qg_walk.specs.Added.{is_from, is_to}
 use Rattle.qg_walk.specs.Standing.{expected_below, form_failure}
 use Rattle.qg_walk.proofs.KeyRanges.{less_upto, list_all-weaker}
 use Rattle.qg_blocks.specs.Standing.{has_slot, ruled, standing}
-use Rattle.qg_blocks.specs.Told.{fresh_at, told, told_or}
+use Rattle.qg_blocks.specs.NodesFound.{fresh_at, told, told_or}
 use Rattle.qg_space.specs.Holding.{is_free_slot}
-use Rattle.qg_ground.specs.declared.ground.Ground.{Ground}
-use Rattle.qg_ground.specs.Land.{IsDrafted}
+use Rattle.qg_node_alloc.specs.declared.ground.Ground.{Ground}
+use Rattle.qg_node_alloc.specs.Land.{IsDrafted}
 use Rattle.qg_edit.specs.declared.edit.Change.{Change}
 use Rattle.qg_edit.specs.declared.edit.Change.TheVariants.{Insert, Replace, Remove, Clear}
 use Rattle.qg_edit.specs.declared.edit.Edit.{Edit}
 use Rattle.qg_edit.specs.Edits.{CanChange, CanEdit, has_key}
 use Rattle.qg_edit.proofs.Lists.{same-not_greater, same-not_less}
-use Rattle.qg_descent.specs.declared.way.Way.{Way}
-use Rattle.qg_descent.specs.Reading.{is_upto}
-use Rattle.qg_descent.specs.Tree.{Reaches, Root, super_for, super_of}
-use Rattle.qg_descent.specs.Way.{LeadsFor}
-use Rattle.qg_descent.specs.Branch.{AreBranches, IsMember}
+use Rattle.qg_tree_read.specs.declared.way.Way.{Way}
+use Rattle.qg_tree_read.specs.Reading.{is_upto}
+use Rattle.qg_tree_read.specs.Tree.{Reaches, Root, super_for, super_of}
+use Rattle.qg_tree_read.specs.Way.{LeadsFor}
+use Rattle.qg_tree_read.specs.Branch.{AreBranches, IsMember}
 use Rattle.qg_tree_edits.specs.First.{first_leaf, least}
 use Rattle.qg_tree_edits.specs.Editing.{CanMake, IsOwned, IsPartFit, IsWayAt}
 use Rattle.qg_tree_edits.proofs.Around.{IsAround}
-use Rattle.qg_descent.proofs.Branches.{begin-front, branches-first}
-use Rattle.qg_descent.proofs.BranchApart.{branches-apart}
-use Rattle.qg_descent.proofs.BranchForms.{form-expected, generation-parts}
-use Rattle.qg_descent.proofs.BranchFrames.{IsUnder-same, branches-same, reach-same, reach-top}
-use Rattle.qg_descent.proofs.BranchOrder.{ascends-under, keys_of}
-use Rattle.qg_descent.proofs.BranchRanges.{ascending-others, begins-from, less-before}
-use Rattle.qg_descent.proofs.BranchWalk.{branch-under, branches-under, pointed-under, top-under}
-use Rattle.qg_descent.proofs.Leads.{cut_at, followed_upto}
+use Rattle.qg_tree_read.proofs.Branches.{begin-front, branches-first}
+use Rattle.qg_tree_read.proofs.BranchApart.{branches-apart}
+use Rattle.qg_tree_read.proofs.BranchForms.{form-expected, generation-parts}
+use Rattle.qg_tree_read.proofs.BranchFrames.{IsUnder-same, branches-same, reach-same, reach-top}
+use Rattle.qg_tree_read.proofs.BranchOrder.{ascends-under, keys_of}
+use Rattle.qg_tree_read.proofs.BranchRanges.{ascending-others, begins-from, less-before}
+use Rattle.qg_tree_read.proofs.BranchWalk.{branch-under, branches-under, pointed-under, top-under}
+use Rattle.qg_tree_read.proofs.Leads.{cut_at, followed_upto}
 use Rattle.qg_tree_edits.proofs.FirstLeaf.{first-inner, first-same, leads-first}
 use Rattle.qg_tree_edits.proofs.Leading.{branches-keys}
 use Rattle.qg_tree_edits.proofs.OwnedBranch.{below-apart, below-top, mine-inner}
 use Rattle.qg_tree_edits.proofs.Served.{size-blocks}
-use Rattle.qg_descent.proofs.Split.{keys_to}
+use Rattle.qg_tree_read.proofs.Split.{keys_to}
 use Rattle.qg_tree_edits.proofs.Spliced.{drop-get, got-inside, take-get}
-use Rattle.qg_descent.proofs.Under.{AreUnder, BeginAt, IsUnder, begins-under, both-under, under-inner}
+use Rattle.qg_tree_read.proofs.Under.{AreUnder, BeginAt, IsUnder, begins-under, both-under, under-inner}
 
 -- ---- the keys of a node that is told ascend
 
@@ -235,7 +235,7 @@ several_shaped nodesize (Some key) header pointers size shaped =
 -- ---- the items under pointers, of which one is followed
 
 -- what is under the one, and under those in front and behind
-pub record IsParted (tree : Tree) (super : Super) (nodes : ℕ → Option Node) (level : ℕ) (to : Option Key)
+pub record IsParted (tree : TreeKind) (super : Super) (nodes : ℕ → Option Node) (level : ℕ) (to : Option Key)
     (before : List Pointer) (pointer : Pointer) (after : List Pointer) (items : List Item) : Type 0 where
   pub front : List Item
   pub mine : List Item
@@ -245,7 +245,7 @@ pub record IsParted (tree : Tree) (super : Super) (nodes : ℕ → Option Node) 
   pub in_front : AreBranches tree super nodes level before front
   pub behind : AreBranches tree super nodes level after back
 
-module _ (tree : Tree) (super : Super) (nodes : ℕ → Option Node) (level : ℕ) where
+module _ (tree : TreeKind) (super : Super) (nodes : ℕ → Option Node) (level : ℕ) where
   parted : (to : Option Key) (before : List Pointer) (pointer : Pointer) (after : List Pointer) (items : List Item)
       → AreUnder tree super nodes level to (before ++ pointer ∷ after) items
       → IsParted tree super nodes level to before pointer after items
@@ -322,7 +322,7 @@ module _ (tree : Tree) (super : Super) (nodes : ℕ → Option Node) (level : �
 
 -- ---- a part that an edit may be done to
 
-module _ (tree : Tree) (root : Root) (land : Ground) (history : History) (level : ℕ) (expected : Expected)
+module _ (tree : TreeKind) (root : Root) (land : Ground) (history : History) (level : ℕ) (expected : Expected)
     (at : ℕ) (edit : Edit) (items : List Item)
     (fit : IsPartFit tree root land history (suc level) expected at edit items) where
   pub fit-under : IsUnder tree (super_of root land.blocks.draft) (told land.blocks.draft history)
@@ -359,7 +359,7 @@ module _ (tree : Tree) (root : Root) (land : Ground) (history : History) (level 
 
 -- ---- its node was owned
 
-module _ (tree : Tree) (root : Root) (land mid : Ground) (history : History) (level : ℕ)
+module _ (tree : TreeKind) (root : Root) (land mid : Ground) (history : History) (level : ℕ)
     (expected : Expected) (at now : ℕ) (edit : Edit) (items : List Item)
     (fit : IsPartFit tree root land history (suc level) expected at edit items)
     (owned : IsOwned tree root land mid history expected at now) (makes : CanMake tree root)

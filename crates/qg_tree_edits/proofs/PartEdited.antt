@@ -12,22 +12,22 @@ use Rattle.qg_node.specs.declared.node.Node.TheVariants.{Leaf, Inner}
 use Rattle.qg_node.specs.Nodes.{header_of, own_pointers}
 use Rattle.qg_super.specs.declared.superblock.Super.{Super}
 use Rattle.qg_image.specs.declared.expected.Expected.{Expected}
-use Rattle.qg_image.specs.declared.tree.Tree.{Tree}
+use Rattle.qg_image.specs.declared.tree.TreeKind.{TreeKind}
 use Rattle.qg_image.specs.Walk.{is_generation, is_owner}
-use Rattle.qg_blocks.specs.Told.{fresh_at, told}
+use Rattle.qg_blocks.specs.NodesFound.{fresh_at, told}
 use Rattle.qg_space.specs.Holding.{is_free_slot}
 use Rattle.qg_shape.specs.Filled.{IsFilled}
 use Rattle.qg_shape.specs.Parts.{AreAlike, whole_of}
-use Rattle.qg_ground.specs.declared.ground.Ground.{Ground}
-use Rattle.qg_ground.specs.Changes.{Makes, node_at}
-use Rattle.qg_ground.specs.Land.{Rests}
-use Rattle.qg_ground.specs.Tellings.{Telling}
-use Rattle.qg_ground.proofs.Lands.{fresh_at-told, told-fresh_at}
-use Rattle.qg_ground.proofs.Slots.{free-less, taken-more}
+use Rattle.qg_node_alloc.specs.declared.ground.Ground.{Ground}
+use Rattle.qg_node_alloc.specs.Changes.{Makes, node_at}
+use Rattle.qg_node_alloc.specs.Land.{Rests}
+use Rattle.qg_node_alloc.specs.Tellings.{Telling}
+use Rattle.qg_node_alloc.proofs.Lands.{fresh_at-told, told-fresh_at}
+use Rattle.qg_node_alloc.proofs.Slots.{free-less, taken-more}
 use Rattle.qg_edit.specs.declared.edit.Edit.{Edit}
 use Rattle.qg_tree_edits.specs.declared.instead.Instead.{Instead}
-use Rattle.qg_descent.specs.Tree.{Reaches, Root, super_for, super_of}
-use Rattle.qg_descent.specs.Branch.{AreBranches, IsBranch, IsMember, IsPointed}
+use Rattle.qg_tree_read.specs.Tree.{Reaches, Root, super_for, super_of}
+use Rattle.qg_tree_read.specs.Branch.{AreBranches, IsBranch, IsMember, IsPointed}
 use Rattle.qg_tree_edits.specs.First.{first_leaf, least}
 use Rattle.qg_tree_edits.specs.Editing.{CanMake, FillsThere, HoldInstead, IsCutThere, IsLeafEdited, IsOwned}
 use Rattle.qg_tree_edits.specs.Editing.{IsPartEdited, IsPartFit, IsPlacedBehind, IsSettled, IsUnsettled, KeepsAbove}
@@ -35,9 +35,9 @@ use Rattle.qg_tree_edits.specs.Editing.{ReachesBeside, ReachesEach, ReachesInste
 use Rattle.qg_tree_edits.specs.Counting.{AreCommitted, IsPartTold, IsSettledTold, IsTold, TellSame, one, tellings_made}
 use Rattle.qg_tree_edits.specs.Counting.{tellings_owned, ways, ways_each, ways_instead, ways_parts}
 use Rattle.qg_tree_edits.proofs.Around.{IsAround}
-use Rattle.qg_descent.proofs.Branches.{each-append, each-get}
-use Rattle.qg_descent.proofs.BranchFrames.{branches-same, reach-same, reach-top}
-use Rattle.qg_descent.proofs.BranchWalk.{branch-under}
+use Rattle.qg_tree_read.proofs.Branches.{each-append, each-get}
+use Rattle.qg_tree_read.proofs.BranchFrames.{branches-same, reach-same, reach-top}
+use Rattle.qg_tree_read.proofs.BranchWalk.{branch-under}
 use Rattle.qg_tree_edits.proofs.Committed.{committed-after, committed-none, committed-told}
 use Rattle.qg_tree_edits.proofs.Downward.{IsClosed, each-closed, one-closed, plus-closed}
 use Rattle.qg_tree_edits.proofs.Leading.{not-above}
@@ -56,7 +56,7 @@ use Rattle.qg_tree_edits.proofs.Ways.{ways_each-same}
 -- ---- a part that is fit for an edit
 
 -- these are the items under it
-pub fit-branch : (tree : Tree) (root : Root) (land : Ground) (history : History) (level : ℕ)
+pub fit-branch : (tree : TreeKind) (root : Root) (land : Ground) (history : History) (level : ℕ)
     (expected : Expected) (at : ℕ) (edit : Edit) (items : List Item)
     → IsPartFit tree root land history level expected at edit items
     → IsBranch tree (super_of root land.blocks.draft) (told land.blocks.draft history) level at items
@@ -86,7 +86,7 @@ back_get [] ys i x is = (i, is)
 back_get (z ∷ xs) ys i x is = let later = back_get xs ys i x is in (suc later.0, later.1)
 
 -- the rest is a node that the tree may have where the whole is, by an owner that its nodes may have
-member_at : (tree : Tree) (super : Super) (level owner : ℕ) (header other : Header) (address : ℕ)
+member_at : (tree : TreeKind) (super : Super) (level owner : ℕ) (header other : Header) (address : ℕ)
     → other ≡ record header { owner = owner } → IsTrue (is_owner tree owner)
     → IsMember tree super level header → IsMember tree super level (record other { address = address })
 member_at tree super level owner header other address same may member = record {
@@ -162,7 +162,7 @@ ends_as nodesize owner set end now (Some node) instead header pointers new cut p
           (subst (λ (n : Node). IsFilled nodesize n) parts.3 cut.cut.rest_filled);
     })
 
-module _ (tree : Tree) (root : Root) (land mid low set end : Ground)
+module _ (tree : TreeKind) (root : Root) (land mid low set end : Ground)
     (history own_later child_later set_later end_later : History) (level : ℕ) (expected : Expected)
     (at now : ℕ) (edit : Edit)
     (place : ℕ) (pointers : List Pointer) (front mine back items items_new : List Item) (pointer : Pointer)
@@ -919,7 +919,7 @@ module _ (tree : Tree) (root : Root) (land mid low set end : Ground)
 
 -- ---- the same by what is known of the node once its child was edited
 
-module _ (tree : Tree) (root : Root) (land mid low set end : Ground)
+module _ (tree : TreeKind) (root : Root) (land mid low set end : Ground)
     (history own_later child_later set_later end_later : History) (level : ℕ) (expected : Expected)
     (at now : ℕ) (edit : Edit)
     (place : ℕ) (pointers : List Pointer) (front mine back items items_new : List Item) (pointer : Pointer)

@@ -5,14 +5,14 @@ use Rattle.qg_device.specs.History.{Unrecorded}
 use Rattle.qg_node.specs.declared.node.Node.{Node}
 use Rattle.qg_node.specs.declared.node.Node.TheVariants.{Leaf, Inner}
 use Rattle.qg_node.specs.Nodes.{header_of}
-use Rattle.qg_blocks.specs.Told.{fresh_at}
+use Rattle.qg_blocks.specs.NodesFound.{fresh_at}
 use Rattle.qg_space.specs.Holding.{free_slots, is_free_slot}
 use Rattle.qg_space.proofs.Members.{Contains-has_slot}
-use Rattle.qg_ground.specs.declared.ground.Ground.{Ground}
-use Rattle.qg_ground.specs.Changes.{Makes, Puts, node_at}
-use Rattle.qg_ground.specs.Land.{IsDrafted}
-use Rattle.qg_ground.proofs.Lands.{fresh_at-told}
-use Rattle.qg_ground.proofs.Slots.{free-absent}
+use Rattle.qg_node_alloc.specs.declared.ground.Ground.{Ground}
+use Rattle.qg_node_alloc.specs.Changes.{Makes, Puts, node_at}
+use Rattle.qg_node_alloc.specs.Land.{IsDrafted}
+use Rattle.qg_node_alloc.proofs.Lands.{fresh_at-told}
+use Rattle.qg_node_alloc.proofs.Slots.{free-absent}
 use Rattle.qg_tree_edits.specs.Editing.{IsFreshOn, KeepsFresh, Moves, StandsInstead}
 
 -- no slot is free where a node is fresh

@@ -9,12 +9,12 @@ use Rattle.qg_node.specs.Nodes.{header_of, used_bytes}
 use Rattle.qg_node.specs.NodeText.{IsNode}
 use Rattle.qg_shape.specs.Filled.{IsFilled}
 use Rattle.qg_shape.specs.Outcomes.{IsSplit}
-use Rattle.qg_blocks.specs.Told.{told}
+use Rattle.qg_blocks.specs.NodesFound.{told}
 use Rattle.qg_space.specs.Holding.{is_free_slot}
-use Rattle.qg_ground.specs.declared.ground.Ground.{Ground}
-use Rattle.qg_ground.specs.Changes.{Makes, node_at}
-use Rattle.qg_ground.specs.Land.{IsDrafted, Rests}
-use Rattle.qg_ground.proofs.Lands.{Takes-made, told-fresh_at}
+use Rattle.qg_node_alloc.specs.declared.ground.Ground.{Ground}
+use Rattle.qg_node_alloc.specs.Changes.{Makes, node_at}
+use Rattle.qg_node_alloc.specs.Land.{IsDrafted, Rests}
+use Rattle.qg_node_alloc.proofs.Lands.{Takes-made, told-fresh_at}
 use Rattle.qg_tree_edits.specs.declared.instead.Instead.{Instead}
 use Rattle.qg_tree_edits.specs.Editing.{IsCutThere, IsPlacedBehind, alone, with_owner}
 use Rattle.qg_tree_edits.proofs.Placed.{fresh-taken}

@@ -7,9 +7,9 @@ use Rattle.std.proofs.lemmas.Bool.Decides.{eqb_tells}
 use Rattle.std.proofs.lemmas.List.Elements.{All-from_recursion}
 use Rattle.qg_node.specs.declared.node.Node.{Node}
 use Rattle.qg_space.specs.Holding.{is_free_slot}
-use Rattle.qg_ground.specs.declared.ground.Ground.{Ground}
-use Rattle.qg_ground.specs.Tellings.Telling.{Made}
-use Rattle.qg_ground.proofs.Slots.{free-apart}
+use Rattle.qg_node_alloc.specs.declared.ground.Ground.{Ground}
+use Rattle.qg_node_alloc.specs.Tellings.Telling.{Made}
+use Rattle.qg_node_alloc.proofs.Slots.{free-apart}
 use Rattle.qg_tree_edits.specs.Counting.{IsAsWas, IsBare, IsTold, IsUnheld, copied_in, gains, made_in, one}
 use Rattle.qg_tree_edits.specs.Counting.{tellings_made}
 use Rattle.qg_tree_edits.specs.declared.instead.Instead.{Instead}

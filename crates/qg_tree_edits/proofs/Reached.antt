@@ -9,7 +9,7 @@ use Rattle.qg_node.specs.declared.pointer.Pointer.{Pointer}
 use Rattle.qg_node.specs.declared.node.Node.{Node}
 use Rattle.qg_node.specs.Nodes.{own_pointers}
 use Rattle.qg_tree_edits.specs.declared.instead.Instead.{Instead}
-use Rattle.qg_descent.specs.Tree.{Reaches}
+use Rattle.qg_tree_read.specs.Tree.{Reaches}
 use Rattle.qg_tree_edits.specs.Counting.{pointers_there, ways, ways_each, ways_instead, ways_more, ways_parts}
 use Rattle.qg_tree_edits.specs.Editing.{ReachesInstead, ReachesParts}
 use Rattle.qg_tree_edits.proofs.Spliced.{drop-get, take-get}

@@ -8,15 +8,15 @@ use Rattle.qg_num.specs.declared.fault.BlockFault.TheVariants.{NoMemory, Disk, I
 use Rattle.qg_node.specs.declared.pointer.Pointer.{Pointer}
 use Rattle.qg_node.specs.declared.node.Node.{Node}
 use Rattle.qg_node.specs.Nodes.{header_of}
-use Rattle.qg_image.specs.declared.tree.Tree.{Tree}
-use Rattle.qg_blocks.specs.Told.{BreaksNone, fresh_at}
+use Rattle.qg_image.specs.declared.tree.TreeKind.{TreeKind}
+use Rattle.qg_blocks.specs.NodesFound.{BreaksNone, fresh_at}
 use Rattle.qg_space.specs.Holding.{free_slots}
-use Rattle.qg_ground.specs.declared.ground.Ground.{Ground}
-use Rattle.qg_ground.specs.Land.{Rests}
-use Rattle.qg_ground.proofs.Lands.{fresh_at-told}
+use Rattle.qg_node_alloc.specs.declared.ground.Ground.{Ground}
+use Rattle.qg_node_alloc.specs.Land.{Rests}
+use Rattle.qg_node_alloc.proofs.Lands.{fresh_at-told}
 use Rattle.qg_tree_edits.specs.declared.instead.Instead.{Instead}
 use Rattle.qg_tree_edits.specs.declared.pairing.Pair.{Pair}
-use Rattle.qg_descent.specs.Tree.{Root}
+use Rattle.qg_tree_read.specs.Tree.{Root}
 use Rattle.qg_tree_edits.specs.Editing.{IsFreshOn, KeepsAbove, StandsInstead}
 use Rattle.qg_tree_edits.specs.Uniting.{AreUnited, IsPaired}
 use Rattle.qg_tree_edits.proofs.Paired.{IsThinAt, are-pair, pair-differ, pair-left, pair-right}
@@ -39,7 +39,7 @@ fresh-apart land high low at q node here levelled other below same =
     let equal : high ≡ low = sym levelled ∙ ap (λ (n : Node). (header_of n).level) one ∙ other.levelled in
     omega (arith, equal, below)
 
-module _ (tree : Tree) (root : Root) (land mid new : Ground) (history later last : History)
+module _ (tree : TreeKind) (root : Root) (land mid new : Ground) (history later last : History)
     (pointers : List Pointer) (to : Option Key) (level place child : ℕ) (pair : Pair) (instead : Instead)
     (is : IsPaired tree root land mid history pointers to level place child pair)
     (rests : Rests land mid later root.next) (fresh : IsFreshOn land level child) (thin : IsThinAt land child)

@@ -7,17 +7,17 @@ use Rattle.qg_num.specs.declared.key.Key.{Key}
 use Rattle.qg_node.specs.declared.item.Item.{Item}
 use Rattle.qg_node.specs.declared.pointer.Pointer.{Pointer}
 use Rattle.qg_node.specs.declared.node.Node.TheVariants.{Inner}
-use Rattle.qg_image.specs.declared.tree.Tree.{Tree}
-use Rattle.qg_blocks.specs.Told.{fresh_at, told}
-use Rattle.qg_ground.specs.declared.ground.Ground.{Ground}
-use Rattle.qg_ground.specs.Land.{IsDrafted, Rests}
+use Rattle.qg_image.specs.declared.tree.TreeKind.{TreeKind}
+use Rattle.qg_blocks.specs.NodesFound.{fresh_at, told}
+use Rattle.qg_node_alloc.specs.declared.ground.Ground.{Ground}
+use Rattle.qg_node_alloc.specs.Land.{IsDrafted, Rests}
 use Rattle.qg_tree_edits.specs.declared.instead.Instead.{Instead}
 use Rattle.qg_tree_edits.specs.declared.pairing.Pair.{Pair}
-use Rattle.qg_descent.specs.Tree.{Reaches, Root, super_of}
-use Rattle.qg_descent.specs.Branch.{AreBranches}
+use Rattle.qg_tree_read.specs.Tree.{Reaches, Root, super_of}
+use Rattle.qg_tree_read.specs.Branch.{AreBranches}
 use Rattle.qg_tree_edits.specs.Editing.{ArePair, CanLead, CanMake, IsFreshOn, IsUnsettled, alone}
 use Rattle.qg_tree_edits.specs.Uniting.{AreUnited, IsPaired}
-use Rattle.qg_descent.proofs.BranchFrames.{branches-same, reach-same}
+use Rattle.qg_tree_read.proofs.BranchFrames.{branches-same, reach-same}
 use Rattle.qg_tree_edits.proofs.Paired.{IsThinAt, are-pair, pair-differ}
 use Rattle.qg_tree_edits.proofs.PairedFrames.{pair-apart, pair-fills, pair-stays}
 use Rattle.qg_tree_edits.proofs.PairedHolds.{HoldPair, holds-pair}
@@ -26,7 +26,7 @@ use Rattle.qg_tree_edits.proofs.Served.{size-blocks}
 use Rattle.qg_tree_edits.proofs.Spliced.{drop-get, take-get}
 use Rattle.qg_tree_edits.proofs.UnitedHolds.{united-fills, united-holds, united-told}
 
-module _ (tree : Tree) (root : Root) (land mid new : Ground) (history later last : History) (level at : ℕ)
+module _ (tree : TreeKind) (root : Root) (land mid new : Ground) (history later last : History) (level at : ℕ)
     (to : Option Key) (place child : ℕ) (items : List Item)
     (un : IsUnsettled tree root land history level at to place (alone child) items) (pair : Pair) (instead : Instead)
     (is : IsPaired tree root land mid history un.pointers to level place child pair)

@@ -8,19 +8,19 @@ use Rattle.qg_node.specs.declared.item.Item.{Item}
 use Rattle.qg_node.specs.declared.pointer.Pointer.{Pointer}
 use Rattle.qg_node.specs.declared.node.Node.{Node}
 use Rattle.qg_node.specs.declared.node.Node.TheVariants.{Inner}
-use Rattle.qg_image.specs.declared.tree.Tree.{Tree}
-use Rattle.qg_blocks.specs.Told.{told}
+use Rattle.qg_image.specs.declared.tree.TreeKind.{TreeKind}
+use Rattle.qg_blocks.specs.NodesFound.{told}
 use Rattle.qg_space.specs.Holding.{Holding, is_free_slot}
-use Rattle.qg_ground.specs.declared.ground.Ground.{Ground}
-use Rattle.qg_ground.specs.Land.{IsDrafted, Rests}
+use Rattle.qg_node_alloc.specs.declared.ground.Ground.{Ground}
+use Rattle.qg_node_alloc.specs.Land.{IsDrafted, Rests}
 use Rattle.qg_tree_edits.specs.declared.instead.Instead.{Instead}
 use Rattle.qg_tree_edits.specs.declared.pairing.Pair.{Pair}
-use Rattle.qg_descent.specs.Tree.{Reaches, Root, super_of}
+use Rattle.qg_tree_read.specs.Tree.{Reaches, Root, super_of}
 use Rattle.qg_tree_edits.specs.Editing.{ArePair, CanMake, HasLed, IsCutThere, IsFreshOn, IsSettled, IsUnsettled}
 use Rattle.qg_tree_edits.specs.Editing.{ReachesInstead, ReachesParts, alone}
 use Rattle.qg_tree_edits.specs.Uniting.{AreUnited, IsPaired}
 use Rattle.qg_tree_edits.proofs.Beside.{other-branch}
-use Rattle.qg_descent.proofs.BranchFrames.{reach-same}
+use Rattle.qg_tree_read.proofs.BranchFrames.{reach-same}
 use Rattle.qg_tree_edits.proofs.Leading.{not-above}
 use Rattle.qg_tree_edits.proofs.Led.{led-comes}
 use Rattle.qg_tree_edits.proofs.Paired.{IsThinAt}
@@ -31,7 +31,7 @@ use Rattle.qg_tree_edits.proofs.RejoinedHolds.{rejoined-can, size}
 use Rattle.qg_tree_edits.proofs.Spliced.{spliced-get}
 use Rattle.qg_tree_edits.proofs.UnitedHolds.{united-free, united-gone, united-reach, united-told}
 
-module _ (tree : Tree) (root : Root) (land mid new end : Ground) (history later last : History)
+module _ (tree : TreeKind) (root : Root) (land mid new end : Ground) (history later last : History)
     (level at : ℕ) (to : Option Key) (place child : ℕ) (items : List Item) (rest : Option Node)
     (un : IsUnsettled tree root land history level at to place (alone child) items) (pair : Pair) (instead : Instead)
     (is : IsPaired tree root land mid history un.pointers to level place child pair)

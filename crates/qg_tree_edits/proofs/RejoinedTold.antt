@@ -7,23 +7,23 @@ use Rattle.qg_num.specs.declared.key.Key.{Key}
 use Rattle.qg_node.specs.declared.item.Item.{Item}
 use Rattle.qg_node.specs.declared.pointer.Pointer.{Pointer}
 use Rattle.qg_node.specs.declared.node.Node.{Node}
-use Rattle.qg_image.specs.declared.tree.Tree.{Tree}
-use Rattle.qg_blocks.specs.Told.{fresh_at, told}
+use Rattle.qg_image.specs.declared.tree.TreeKind.{TreeKind}
+use Rattle.qg_blocks.specs.NodesFound.{fresh_at, told}
 use Rattle.qg_space.specs.Holding.{is_free_slot}
-use Rattle.qg_ground.specs.declared.ground.Ground.{Ground}
-use Rattle.qg_ground.specs.Land.{IsDrafted, Rests}
-use Rattle.qg_ground.specs.Tellings.{Telling}
+use Rattle.qg_node_alloc.specs.declared.ground.Ground.{Ground}
+use Rattle.qg_node_alloc.specs.Land.{IsDrafted, Rests}
+use Rattle.qg_node_alloc.specs.Tellings.{Telling}
 use Rattle.qg_tree_edits.specs.declared.instead.Instead.{Instead}
 use Rattle.qg_tree_edits.specs.declared.pairing.Pair.{Pair}
-use Rattle.qg_descent.specs.Tree.{Reaches, Root, super_of}
-use Rattle.qg_descent.specs.Branch.{IsBranch}
+use Rattle.qg_tree_read.specs.Tree.{Reaches, Root, super_of}
+use Rattle.qg_tree_read.specs.Branch.{IsBranch}
 use Rattle.qg_tree_edits.specs.Editing.{CanMake, HasLed, IsFreshOn, IsUnsettled, ReachesBeside, ReachesParts, alone}
 use Rattle.qg_tree_edits.specs.Editing.{slots_for}
 use Rattle.qg_tree_edits.specs.Uniting.{AreUnited, IsPaired}
 use Rattle.qg_tree_edits.specs.Counting.{AreCommitted, IsSettledTold, IsTold, TellsUnited, tellings_owned, ways}
 use Rattle.qg_tree_edits.specs.Counting.{ways_each, ways_instead, ways_parts}
 use Rattle.qg_tree_edits.proofs.Beside.{beside-differs, other-branch}
-use Rattle.qg_descent.proofs.BranchFrames.{reach-top}
+use Rattle.qg_tree_read.proofs.BranchFrames.{reach-top}
 use Rattle.qg_tree_edits.proofs.Committed.{committed-after, committed-told, unheld-fresh}
 use Rattle.qg_tree_edits.proofs.Downward.{IsClosed, each-closed, plus-closed, ways-closed}
 use Rattle.qg_tree_edits.proofs.LedTold.{led-ways}
@@ -43,7 +43,7 @@ use Rattle.qg_tree_edits.proofs.UnitedHolds.{united-tells}
 use Rattle.qg_tree_edits.proofs.Ways.{ways-none, ways-same, ways_each-append, ways_each-cons, ways_each-none}
 use Rattle.qg_tree_edits.proofs.Ways.{ways_each-same}
 
-module _ (tree : Tree) (root : Root) (land mid new end : Ground) (history later last : History)
+module _ (tree : TreeKind) (root : Root) (land mid new end : Ground) (history later last : History)
     (level at : ℕ) (to : Option Key) (place child : ℕ) (items : List Item) (rest : Option Node)
     (un : IsUnsettled tree root land history level at to place (alone child) items) (pair : Pair) (instead : Instead)
     (is : IsPaired tree root land mid history un.pointers to level place child pair)

@@ -12,27 +12,27 @@ use Rattle.qg_num.specs.declared.key.Key.{Key}
 use Rattle.qg_node.specs.declared.item.Item.{Item}
 use Rattle.qg_node.specs.Nodes.{is_ascending}
 use Rattle.qg_super.specs.declared.sizes.Sizes.{Sizes}
-use Rattle.qg_blocks.specs.Told.{told}
+use Rattle.qg_blocks.specs.NodesFound.{told}
 use Rattle.qg_space.specs.Holding.{is_free_slot}
 use Rattle.qg_image.specs.declared.expected.Expected.{Expected}
-use Rattle.qg_image.specs.declared.tree.Tree.{Tree}
+use Rattle.qg_image.specs.declared.tree.TreeKind.{TreeKind}
 use Rattle.qg_image.specs.Walk.{root_expected}
-use Rattle.qg_ground.specs.declared.ground.Ground.{Ground}
-use Rattle.qg_ground.specs.Land.{IsDrafted, Rests}
-use Rattle.qg_ground.specs.Tellings.{Telling}
+use Rattle.qg_node_alloc.specs.declared.ground.Ground.{Ground}
+use Rattle.qg_node_alloc.specs.Land.{IsDrafted, Rests}
+use Rattle.qg_node_alloc.specs.Tellings.{Telling}
 use Rattle.qg_edit.specs.declared.edit.Edit.{Edit}
 use Rattle.qg_edit.specs.declared.edit.Change.{Change}
 use Rattle.qg_edit.specs.declared.edit.Change.TheVariants.{Clear}
 use Rattle.qg_edit.specs.Edits.{CanEdit, IsShort, changed, edited}
 use Rattle.qg_tree_edits.specs.declared.instead.Instead.{Instead}
-use Rattle.qg_descent.specs.Tree.{Reaches, Root, super_for, super_of}
+use Rattle.qg_tree_read.specs.Tree.{Reaches, Root, super_for, super_of}
 use Rattle.qg_tree_edits.specs.First.{first_leaf, least}
 use Rattle.qg_tree_edits.specs.Editing.{HoldInstead, IsPartEdited, IsPartFit, ReachesInstead}
 use Rattle.qg_tree_edits.specs.Counting.{IsPartTold, IsRootTold, IsTold, IsTreeTold, clean_at, committed_at, ways}
 use Rattle.qg_tree_edits.specs.Counting.{ways_instead}
 use Rattle.qg_tree_edits.specs.Rooting.{HasRoot, IsEdited, IsReplaced, IsRooted, StandsForRoot}
 use Rattle.qg_tree_edits.proofs.AroundEdited.{leaf-ascends, leaf-short}
-use Rattle.qg_descent.proofs.BranchOrder.{ascends-under, keys_of}
+use Rattle.qg_tree_read.proofs.BranchOrder.{ascends-under, keys_of}
 use Rattle.qg_tree_edits.proofs.Clean.{clean-same}
 use Rattle.qg_tree_edits.proofs.Committed.{committed-after, committed-are}
 use Rattle.qg_tree_edits.proofs.FirstLeaf.{none-less}
@@ -41,7 +41,7 @@ use Rattle.qg_tree_edits.proofs.ListEdited.{ClearsNone, leaf-whole}
 use Rattle.qg_tree_edits.proofs.PartBelow.{told-ascends}
 use Rattle.qg_tree_edits.proofs.Turning.{told-append, told-more, told-within}
 
-module _ (tree : Tree) (root : Root) (land : Ground) (history : History) (edit : Edit) (items : List Item)
+module _ (tree : TreeKind) (root : Root) (land : Ground) (history : History) (edit : Edit) (items : List Item)
     (rooted : IsRooted tree root land history items) (can : CanEdit edit items)
     (expected : Expected) (at : ℕ) (expects : expected ≡ root_expected (Some root.height) None)
     (there : at ≡ root.address) where
@@ -149,7 +149,7 @@ module _ (tree : Tree) (root : Root) (land : Ground) (history : History) (edit :
           (omega arith) (omega arith) (omega arith) all
 
 -- a root may get a node above it
-pub low-root : (tree : Tree) (root : Root) (land : Ground) (history : History) (items : List Item)
+pub low-root : (tree : TreeKind) (root : Root) (land : Ground) (history : History) (items : List Item)
     → IsDrafted land root.next → IsRooted tree root land history items → root.height < 7
 low-root tree root land history items drafted rooted =
     let low = height-low tree root land history items drafted rooted.tells in
@@ -158,7 +158,7 @@ low-root tree root land history items drafted rooted =
 -- ---- what that makes of all items
 
 -- an edit that clears no leaf
-pub replaced-whole : (tree : Tree) (before after : Root) (old new : Ground) (history : History)
+pub replaced-whole : (tree : TreeKind) (before after : Root) (old new : Ground) (history : History)
     (edit : Edit) (items : List Item) → ClearsNone edit.change
     → IsEdited tree before after old new history edit items
     → IsReplaced tree before after old new history (edited edit items)
@@ -178,7 +178,7 @@ none_in_front key (item ∷ front) is all =
     absurd cc
 
 -- and one that clears the first
-pub replaced-first : (tree : Tree) (before after : Root) (old new : Ground) (history : History)
+pub replaced-first : (tree : TreeKind) (before after : Root) (old new : Ground) (history : History)
     (edit : Edit) (items : List Item) → edit.key ≡ least → edit.change ≡ Clear
     → IsEdited tree before after old new history edit items
     → IsReplaced tree before after old new history

@@ -3,11 +3,11 @@ use Rattle.std.proofs.Common.{◌≡◌, ℕ, sym, subst, ◌∙◌}
 use Rattle.std.specs.Prelude.{Option, Some, Result, Ok, Err, IfOk}
 use Rattle.qg_num.specs.declared.fault.BlockFault.{BlockFault}
 use Rattle.qg_node.specs.declared.node.Node.{Node}
-use Rattle.qg_blocks.specs.Told.{fresh_at}
+use Rattle.qg_blocks.specs.NodesFound.{fresh_at}
 use Rattle.qg_edit.specs.Outcome.{IsCutOf, RestIsNode}
-use Rattle.qg_ground.specs.declared.ground.Ground.{Ground}
-use Rattle.qg_ground.proofs.Lands.{IsSome-is}
-use Rattle.qg_ground.proofs.Editing.{edited, edited-here}
+use Rattle.qg_node_alloc.specs.declared.ground.Ground.{Ground}
+use Rattle.qg_node_alloc.proofs.Lands.{IsSome-is}
+use Rattle.qg_node_alloc.proofs.Editing.{edited, edited-here}
 use Rattle.qg_tree_edits.specs.Editing.{IsCutThere}
 
 -- two nodes that one place holds are one

@@ -16,15 +16,15 @@ use Rattle.qg_super.specs.declared.superblock.Super.{Super}
 use Rattle.qg_super.specs.Places.{capacity}
 use Rattle.qg_image.specs.IsShaped.{is_shaped}
 use Rattle.qg_shape.specs.Pointing.{pointer_to}
-use Rattle.qg_image.specs.declared.tree.Tree.{Tree}
-use Rattle.qg_descent.specs.Tree.{IsTree}
-use Rattle.qg_descent.specs.Branch.{AreBranches, IsBranch, IsMember}
+use Rattle.qg_image.specs.declared.tree.TreeKind.{TreeKind}
+use Rattle.qg_tree_read.specs.Tree.{IsTree}
+use Rattle.qg_tree_read.specs.Branch.{AreBranches, IsBranch, IsMember}
 use Rattle.qg_tree_edits.specs.Editing.{HoldInstead, alone}
-use Rattle.qg_descent.proofs.BranchOrder.{keys_of}
-use Rattle.qg_descent.proofs.BranchRanges.{tree-branch}
+use Rattle.qg_tree_read.proofs.BranchOrder.{keys_of}
+use Rattle.qg_tree_read.proofs.BranchRanges.{tree-branch}
 use Rattle.qg_tree_edits.proofs.Leading.{two-lead}
 
-module _ (tree : Tree) (super : Super) (nodes : ℕ → Option Node) (size : IsNodeSize super.nodesize) where
+module _ (tree : TreeKind) (super : Super) (nodes : ℕ → Option Node) (size : IsNodeSize super.nodesize) where
   -- a node that fills its bytes has the shape of a root, too
   shaped_full : (node : Node) → nat_le (capacity super.nodesize) (4 * used_bytes node) ≡ true
       → is_shaped super.nodesize None node ≡ true

@@ -11,9 +11,9 @@ use Rattle.qg_super.specs.Places.{is_served}
 use Rattle.qg_shape.specs.Filled.{IsFilled, IsThin}
 use Rattle.qg_shape.specs.Parts.{IsInner, IsLeaf}
 use Rattle.qg_shape.proofs.Edited.{inner_above, leaf_at_zero}
-use Rattle.qg_blocks.specs.Told.{fresh_at}
-use Rattle.qg_ground.specs.declared.ground.Ground.{Ground}
-use Rattle.qg_ground.specs.Land.{IsDrafted}
+use Rattle.qg_blocks.specs.NodesFound.{fresh_at}
+use Rattle.qg_node_alloc.specs.declared.ground.Ground.{Ground}
+use Rattle.qg_node_alloc.specs.Land.{IsDrafted}
 use Rattle.qg_tree_edits.specs.declared.instead.Instead.{Instead}
 use Rattle.qg_tree_edits.specs.Editing.{IsFreshOn, IsNamed, OfEach, StandsInstead, slots_for}
 use Rattle.qg_tree_edits.specs.Steps.{HasNodeSize}

@@ -7,12 +7,12 @@ use Rattle.qg_num.specs.declared.key.Key.{Key}
 use Rattle.qg_node.specs.declared.item.Item.{Item}
 use Rattle.qg_node.specs.declared.pointer.Pointer.{Pointer}
 use Rattle.qg_node.specs.declared.node.Node.{Node}
-use Rattle.qg_image.specs.declared.tree.Tree.{Tree}
-use Rattle.qg_blocks.specs.Told.{told}
+use Rattle.qg_image.specs.declared.tree.TreeKind.{TreeKind}
+use Rattle.qg_blocks.specs.NodesFound.{told}
 use Rattle.qg_space.specs.Holding.{Holding, is_free_slot}
-use Rattle.qg_ground.specs.declared.ground.Ground.{Ground}
+use Rattle.qg_node_alloc.specs.declared.ground.Ground.{Ground}
 use Rattle.qg_tree_edits.specs.declared.instead.Instead.{Instead}
-use Rattle.qg_descent.specs.Tree.{Reaches, Root, super_of}
+use Rattle.qg_tree_read.specs.Tree.{Reaches, Root, super_of}
 use Rattle.qg_tree_edits.specs.Editing.{CanLead, HasLed, IsSettled, IsUnsettled, ReachesEach, ReachesParts, slots_for}
 use Rattle.qg_tree_edits.specs.Counting.{IsSettledTold, ways_each, ways_parts}
 use Rattle.qg_tree_edits.proofs.Beside.{other-branch}
@@ -21,7 +21,7 @@ use Rattle.qg_tree_edits.proofs.LedTold.{led-ways}
 use Rattle.qg_tree_edits.proofs.Spliced.{spliced-get}
 use Rattle.qg_tree_edits.proofs.Turning.{told-more, told-none}
 
-module _ (tree : Tree) (root : Root) (land new : Ground) (history : History) (level at : ℕ)
+module _ (tree : TreeKind) (root : Root) (land new : Ground) (history : History) (level at : ℕ)
     (to : Option Key) (place : ℕ) (child : Instead) (items : List Item) (rest : Option Node)
     (un : IsUnsettled tree root land history level at to place child items)
     (can : CanLead tree (super_of root land.blocks.draft) land history level at place (place + 1) child un.pointers

@@ -13,25 +13,25 @@ use Rattle.qg_node.specs.Nodes.{header_of}
 use Rattle.qg_node.specs.NodeText.{IsNode, IsNodeSize}
 use Rattle.qg_super.specs.declared.sizes.Sizes.{Sizes}
 use Rattle.qg_image.specs.IsShaped.{is_shaped}
-use Rattle.qg_blocks.specs.Told.{fresh_at, told}
+use Rattle.qg_blocks.specs.NodesFound.{fresh_at, told}
 use Rattle.qg_space.specs.Holding.{Holding, is_free_slot}
-use Rattle.qg_image.specs.declared.tree.Tree.{Tree}
-use Rattle.qg_ground.specs.declared.ground.Ground.{Ground}
-use Rattle.qg_ground.specs.Land.{IsDrafted, Rests}
-use Rattle.qg_ground.specs.Tellings.{LetsGo}
-use Rattle.qg_ground.specs.Tellings.Telling.{Left}
-use Rattle.qg_ground.proofs.Editing.{edited}
-use Rattle.qg_ground.proofs.Lands.{Takes-left, told-fresh_at}
+use Rattle.qg_image.specs.declared.tree.TreeKind.{TreeKind}
+use Rattle.qg_node_alloc.specs.declared.ground.Ground.{Ground}
+use Rattle.qg_node_alloc.specs.Land.{IsDrafted, Rests}
+use Rattle.qg_node_alloc.specs.Tellings.{LetsGo}
+use Rattle.qg_node_alloc.specs.Tellings.Telling.{Left}
+use Rattle.qg_node_alloc.proofs.Editing.{edited}
+use Rattle.qg_node_alloc.proofs.Lands.{Takes-left, told-fresh_at}
 use Rattle.qg_edit.specs.Outcome.{cleared}
 use Rattle.qg_edit.proofs.Leaves.{IsNodeFor-cleared}
-use Rattle.qg_descent.specs.Tree.{IsTree, Reaches, Root, super_of}
-use Rattle.qg_descent.specs.Branch.{AreBranches, IsBranch}
+use Rattle.qg_tree_read.specs.Tree.{IsTree, Reaches, Root, super_of}
+use Rattle.qg_tree_read.specs.Branch.{AreBranches, IsBranch}
 use Rattle.qg_tree_edits.specs.First.{leaves}
 use Rattle.qg_tree_edits.specs.Editing.{IsRewritten, ReachesInstead, alone}
 use Rattle.qg_tree_edits.specs.Counting.{IsRootTold, one, ways, ways_instead}
 use Rattle.qg_tree_edits.specs.Rooting.{HasRoot, StandsForRoot, lone_child, lone_of}
-use Rattle.qg_descent.proofs.BranchFrames.{reach-same, reach-top}
-use Rattle.qg_descent.proofs.Frames.{IsTree-same}
+use Rattle.qg_tree_read.proofs.BranchFrames.{reach-same, reach-top}
+use Rattle.qg_tree_read.proofs.Frames.{IsTree-same}
 use Rattle.qg_tree_edits.proofs.Committed.{committed-told, unheld-fresh}
 use Rattle.qg_tree_edits.proofs.Downward.{leads-none}
 use Rattle.qg_tree_edits.proofs.Leading.{not-above}
@@ -72,7 +72,7 @@ pub lone-high : (size : ℕ) (node : Node) (child : ℕ) → IsNode size node �
 lone-high size (Leaf header items) child sound is = absurd cc
 lone-high size (Inner header pointers) child sound is = sound.levelled.0
 
-module _ (tree : Tree) (root : Root) (land : Ground) (history : History) (now : ℕ) (items : List Item)
+module _ (tree : TreeKind) (root : Root) (land : Ground) (history : History) (now : ℕ) (items : List Item)
     (node : Node)
     (stands : StandsForRoot tree root land history (alone now) items) (drafted : IsDrafted land root.next)
     (here : fresh_at land.blocks.draft now ≡ Some node)

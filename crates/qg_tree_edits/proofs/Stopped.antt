@@ -11,11 +11,11 @@ use Rattle.qg_node.specs.declared.node.Node.{Node}
 use Rattle.qg_node.specs.Nodes.{own_pointers}
 use Rattle.qg_super.specs.declared.sizes.Sizes.{Sizes}
 use Rattle.qg_blocks.specs.Stopping.{IsLone, IsMisfit, StopsForCause}
-use Rattle.qg_blocks.specs.Told.{IsNodeAt, fresh_at}
+use Rattle.qg_blocks.specs.NodesFound.{IsNodeAt, fresh_at}
 use Rattle.qg_blocks.proofs.Stopping.{misfit-item, misfit-refs, stops-err, stops-same}
-use Rattle.qg_ground.specs.declared.ground.Ground.{Ground}
-use Rattle.qg_ground.specs.Calls.{LeavesBe}
-use Rattle.qg_ground.specs.Land.{IsDrafted}
+use Rattle.qg_node_alloc.specs.declared.ground.Ground.{Ground}
+use Rattle.qg_node_alloc.specs.Calls.{LeavesBe}
+use Rattle.qg_node_alloc.specs.Land.{IsDrafted}
 use Rattle.qg_edit.specs.declared.edit.Change.{Change}
 use Rattle.qg_edit.specs.Answering.{IsBrokenByChange, IsBrokenByMerge, IsBrokenUnless}
 use Rattle.qg_tree_edits.specs.Failing.{NamesOnly}

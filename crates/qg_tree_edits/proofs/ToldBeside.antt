@@ -6,22 +6,22 @@ use Rattle.qg_num.specs.declared.key.Key.{Key}
 use Rattle.qg_node.specs.declared.item.Item.{Item}
 use Rattle.qg_node.specs.declared.node.Node.{Node}
 use Rattle.qg_image.specs.declared.expected.Expected.{Expected}
-use Rattle.qg_image.specs.declared.tree.Tree.{Tree}
+use Rattle.qg_image.specs.declared.tree.TreeKind.{TreeKind}
 use Rattle.qg_walk.specs.Standing.{form_failure}
-use Rattle.qg_blocks.specs.Told.{told}
+use Rattle.qg_blocks.specs.NodesFound.{told}
 use Rattle.qg_space.specs.Holding.{is_free_slot}
-use Rattle.qg_ground.specs.declared.ground.Ground.{Ground}
-use Rattle.qg_ground.specs.Tellings.{Telling}
+use Rattle.qg_node_alloc.specs.declared.ground.Ground.{Ground}
+use Rattle.qg_node_alloc.specs.Tellings.{Telling}
 use Rattle.qg_tree_edits.specs.declared.child.Neighbour.{Neighbour}
-use Rattle.qg_descent.specs.Tree.{Root, super_of}
+use Rattle.qg_tree_read.specs.Tree.{Root, super_of}
 use Rattle.qg_tree_edits.specs.Editing.{IsBeside, IsOwned, IsUnsettled, alone}
 use Rattle.qg_tree_edits.specs.Uniting.{IsPaired}
 use Rattle.qg_tree_edits.specs.Counting.{tellings_owned}
 use Rattle.qg_tree_edits.proofs.Beside.{beside-differs}
-use Rattle.qg_descent.proofs.BranchFrames.{reach-top}
+use Rattle.qg_tree_read.proofs.BranchFrames.{reach-top}
 
 -- the neighbour is what the way to it leads to expect
-pub beside-judged : (tree : Tree) (root : Root) (land : Ground) (history : History) (level at : ℕ)
+pub beside-judged : (tree : TreeKind) (root : Root) (land : Ground) (history : History) (level at : ℕ)
     (to : Option Key) (place child : ℕ) (items : List Item)
     (un : IsUnsettled tree root land history level at to place (alone child) items) (beside : Neighbour)
     → (is : IsBeside un.pointers to level place beside)
@@ -38,7 +38,7 @@ beside-judged tree root land history level at to place child items un beside is 
           ∙ judged.2,
     )
 
-module _ (tree : Tree) (root : Root) (land new : Ground) (history : History) (level at : ℕ)
+module _ (tree : TreeKind) (root : Root) (land new : Ground) (history : History) (level at : ℕ)
     (to : Option Key) (place child : ℕ) (items : List Item)
     (un : IsUnsettled tree root land history level at to place (alone child) items) (beside : Neighbour) (now : ℕ)
     (is : IsBeside un.pointers to level place beside)

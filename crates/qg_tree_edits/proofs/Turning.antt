@@ -8,9 +8,9 @@ use Rattle.std.proofs.lemmas.List.Sums.{sum_by-append, sum_by-cons}
 use Rattle.qg_node.specs.declared.node.Node.{Node}
 use Rattle.qg_node.specs.Nodes.{header_of}
 use Rattle.qg_space.specs.Holding.{is_free_slot}
-use Rattle.qg_ground.specs.declared.ground.Ground.{Ground}
-use Rattle.qg_ground.specs.Tellings.{Telling}
-use Rattle.qg_ground.specs.Tellings.Telling.{Copied, Made, Left}
+use Rattle.qg_node_alloc.specs.declared.ground.Ground.{Ground}
+use Rattle.qg_node_alloc.specs.Tellings.{Telling}
+use Rattle.qg_node_alloc.specs.Tellings.Telling.{Copied, Made, Left}
 use Rattle.qg_tree_edits.specs.Counting.{IsAsWas, IsBare, IsTimely, IsTold, IsUnheld, Turns, copied_in, gains, left_in}
 use Rattle.qg_tree_edits.specs.Counting.{losses, made_in}
 use Rattle.qg_tree_edits.proofs.Downward.{IsClosed, downward-append, downward-framed, downward-same, lost-known}

@@ -14,19 +14,19 @@ use Rattle.qg_node.specs.Nodes.{header_of, own_pointers}
 use Rattle.qg_shape.specs.Places.{LeadsTo}
 use Rattle.qg_shape.specs.Pointing.{pointer_to}
 use Rattle.qg_image.specs.declared.expected.Expected.{Expected}
-use Rattle.qg_image.specs.declared.tree.Tree.{Tree}
+use Rattle.qg_image.specs.declared.tree.TreeKind.{TreeKind}
 use Rattle.qg_image.specs.Walk.{root_expected}
-use Rattle.qg_blocks.specs.Held.{Draft}
-use Rattle.qg_blocks.specs.Told.{found, fresh_at, held_at}
+use Rattle.qg_blocks.specs.NodesInMemory.{Draft}
+use Rattle.qg_blocks.specs.NodesFound.{found, fresh_at, held_at}
 use Rattle.qg_blocks.proofs.Telling.{fresh-held}
 use Rattle.qg_space.specs.Holding.{is_free_slot}
-use Rattle.qg_ground.specs.declared.ground.Ground.{Ground}
-use Rattle.qg_ground.specs.Land.{IsDrafted}
+use Rattle.qg_node_alloc.specs.declared.ground.Ground.{Ground}
+use Rattle.qg_node_alloc.specs.Land.{IsDrafted}
 use Rattle.qg_edit.specs.declared.edit.Edit.{Edit}
 use Rattle.qg_edit.specs.Answering.{CanSplice, IsBrokenByChange, IsBrokenUnless}
-use Rattle.qg_descent.specs.declared.way.Way.{Way}
-use Rattle.qg_descent.specs.Tree.{Root, super_of}
-use Rattle.qg_descent.specs.Way.{BreaksThere}
+use Rattle.qg_tree_read.specs.declared.way.Way.{Way}
+use Rattle.qg_tree_read.specs.Tree.{Root, super_of}
+use Rattle.qg_tree_read.specs.Way.{BreaksThere}
 use Rattle.qg_tree_edits.specs.declared.instead.Instead.{Instead}
 use Rattle.qg_tree_edits.specs.declared.pairing.Pair.{Pair}
 use Rattle.qg_tree_edits.specs.Editing.{IsFreshOn, IsNamed, IsOwned, IsPlacedBehind, IsRewritten, IsWayAt}
@@ -41,7 +41,8 @@ use Rattle.qg_tree_edits.proofs.United.{rewritten-fresh}
 -- ---- a node that is misread
 
 -- it is while fresh nodes are the same
-pub misread-same : (tree : Tree) (root : Root) (old new : Ground) (events : List Event) (expected : Expected) (at : ℕ)
+pub misread-same : (tree : TreeKind) (root : Root) (old new : Ground) (events : List Event) (expected : Expected)
+    (at : ℕ)
     (rule : Rule) (address : ℕ) → new.blocks.draft ≡ old.blocks.draft
     → IsMisread tree root old events expected at rule address → IsMisread tree root new events expected at rule address
 misread-same tree root old new events expected at rule address same bad = record {
@@ -53,7 +54,7 @@ misread-same tree root old new events expected at rule address same bad = record
 -- ---- where a node stands
 
 -- the neighbour of a fresh child is the child only where its pointer leads there
-pub beside-child : (tree : Tree) (root : Root) (old new : Ground) (history : History) (expected : Expected)
+pub beside-child : (tree : TreeKind) (root : Root) (old new : Ground) (history : History) (expected : Expected)
     (at now child level generation : ℕ) → IsDrafted old generation → IsFreshOn old level child
     → IsOwned tree root old new history expected at now → now ≡ child → at ≡ child
 beside-child tree root old new history expected at now child level generation drafted fresh owned same =
@@ -64,7 +65,7 @@ beside-child tree root old new history expected at now child level generation dr
     ]
 
 -- a node that is owned stands for the one that was
-pub owned-stands : (tree : Tree) (root : Root) (old new : Ground) (history : History) (expected : Expected)
+pub owned-stands : (tree : TreeKind) (root : Root) (old new : Ground) (history : History) (expected : Expected)
     (at now : ℕ) → IsOwned tree root old new history expected at now → StandsFor old at now
 owned-stands tree root old new history expected at now owned =
     elim owned.same [ inl kept ↦ inl kept.1 | inr copied ↦ inr copied.1 ]
@@ -181,7 +182,7 @@ module _ (old new : Ground) (at level : ℕ) (node : Node) (here : fresh_at old.
 
 -- ---- a child and the neighbour that was owned
 
-module _ (tree : Tree) (root : Root) (land mid : Ground) (history : History) (pointers : List Pointer)
+module _ (tree : TreeKind) (root : Root) (land mid : Ground) (history : History) (pointers : List Pointer)
     (to : Option Key) (level place child : ℕ) (pair : Pair)
     (is : IsPaired tree root land mid history pointers to level place child pair) where
   -- one of the two is the child
@@ -212,7 +213,7 @@ leads-down land now mine held again to level edit place way here held_is again_i
       (fresh-held land.blocks now mine again here again_is) is;
 }
 
-module _ (tree : Tree) (root : Root) (edit : Edit) (events : List Event) (expected : Expected) (at : ℕ)
+module _ (tree : TreeKind) (root : Root) (edit : Edit) (events : List Event) (expected : Expected) (at : ℕ)
     (old new : Ground) (rule : Rule) (address : ℕ) where
   -- its node is misread
   pub fails-read : (level : ℕ) → IsMisread tree root old events expected at rule address
@@ -278,7 +279,7 @@ module _ (tree : Tree) (root : Root) (edit : Edit) (events : List Event) (expect
 -- ---- a tree
 
 -- it is unfit where its root's part fails
-pub unfit-under : (tree : Tree) (root : Root) (edit : Edit) (events : List Event) (level : ℕ) (expected : Expected)
+pub unfit-under : (tree : TreeKind) (root : Root) (edit : Edit) (events : List Event) (level : ℕ) (expected : Expected)
     (at : ℕ) (old new : Ground) (rule : Rule) (address : ℕ) → level ≡ root.height
     → expected ≡ root_expected (Some root.height) None → at ≡ root.address
     → FailsUnder tree root edit events level expected at old new rule address

@@ -5,14 +5,14 @@ use Rattle.qg_device.specs.History.{History, Unrecorded}
 use Rattle.qg_num.specs.declared.fault.BlockFault.{BlockFault}
 use Rattle.qg_num.specs.declared.fault.BlockFault.TheVariants.{NoMemory, Disk, Image}
 use Rattle.qg_node.specs.declared.node.Node.{Node}
-use Rattle.qg_blocks.specs.Held.{Draft}
-use Rattle.qg_blocks.specs.Told.{Answers, BreaksNone, IsBacked, found, fresh_at, told}
+use Rattle.qg_blocks.specs.NodesInMemory.{Draft}
+use Rattle.qg_blocks.specs.NodesFound.{Answers, BreaksNone, IsBacked, found, fresh_at, told}
 use Rattle.qg_blocks.proofs.Backing.{IsBacked-set}
-use Rattle.qg_ground.specs.declared.ground.Ground.{Ground}
-use Rattle.qg_ground.specs.Land.{IsDrafted, Rests}
-use Rattle.qg_ground.specs.Tellings.{Spares}
-use Rattle.qg_ground.proofs.Editing.{edited-here, edited-others}
-use Rattle.qg_ground.proofs.Lands.{IsSome-is, Rests-after, fresh_at-told}
+use Rattle.qg_node_alloc.specs.declared.ground.Ground.{Ground}
+use Rattle.qg_node_alloc.specs.Land.{IsDrafted, Rests}
+use Rattle.qg_node_alloc.specs.Tellings.{Spares}
+use Rattle.qg_node_alloc.proofs.Editing.{edited-here, edited-others}
+use Rattle.qg_node_alloc.proofs.Lands.{IsSome-is, Rests-after, fresh_at-told}
 use Rattle.qg_tree_edits.specs.Editing.{ArePair, AreRewritten, IsRewritten}
 use Rattle.qg_tree_edits.proofs.Cutting.{rewritten-rests, rewritten-spares}
 

@@ -12,8 +12,8 @@ use Rattle.qg_node.specs.declared.node.Node.TheVariants.{Leaf, Inner}
 use Rattle.qg_node.specs.Nodes.{header_of, own_items, own_pointers, used_bytes}
 use Rattle.qg_super.specs.declared.superblock.Super.{Super}
 use Rattle.qg_super.specs.Places.{capacity}
-use Rattle.qg_image.specs.declared.tree.Tree.{Tree}
-use Rattle.qg_blocks.specs.Told.{fresh_at, told}
+use Rattle.qg_image.specs.declared.tree.TreeKind.{TreeKind}
+use Rattle.qg_blocks.specs.NodesFound.{fresh_at, told}
 use Rattle.qg_space.specs.Holding.{Holding, free_slots, is_free_slot}
 use Rattle.qg_shape.specs.declared.joining.Joined.{Joined}
 use Rattle.qg_shape.specs.declared.joining.Joined.TheVariants.{Whole, Parted}
@@ -22,22 +22,22 @@ use Rattle.qg_shape.specs.Outcomes.{IsParted}
 use Rattle.qg_shape.specs.Parts.{AreAlike, whole_of}
 use Rattle.qg_shape.proofs.Sides.{IsFilled-whole_of, header_of-parted}
 use Rattle.qg_shape.proofs.Together.{header_of-whole_of}
-use Rattle.qg_ground.specs.declared.ground.Ground.{Ground}
-use Rattle.qg_ground.specs.Tellings.{LetsGo, Telling}
-use Rattle.qg_ground.specs.Tellings.Telling.{Left}
-use Rattle.qg_ground.proofs.Lands.{Takes-left, fresh_at-told, told-fresh_at}
+use Rattle.qg_node_alloc.specs.declared.ground.Ground.{Ground}
+use Rattle.qg_node_alloc.specs.Tellings.{LetsGo, Telling}
+use Rattle.qg_node_alloc.specs.Tellings.Telling.{Left}
+use Rattle.qg_node_alloc.proofs.Lands.{Takes-left, fresh_at-told, told-fresh_at}
 use Rattle.qg_edit.proofs.Cuts.{alike-levels}
 use Rattle.qg_tree_edits.specs.declared.instead.Instead.{Instead}
-use Rattle.qg_descent.specs.Tree.{Reaches}
-use Rattle.qg_descent.specs.Branch.{AreBranches, IsBranch, IsMember, IsPointed}
+use Rattle.qg_tree_read.specs.Tree.{Reaches}
+use Rattle.qg_tree_read.specs.Branch.{AreBranches, IsBranch, IsMember, IsPointed}
 use Rattle.qg_tree_edits.specs.First.{leaves, leaves_joined, leaves_under}
 use Rattle.qg_tree_edits.specs.Editing.{ArePair, FillsThere, HoldInstead, IsFreshOn, IsJoinedThere, ReachesInstead}
 use Rattle.qg_tree_edits.specs.Editing.{StandsInstead, alone}
 use Rattle.qg_tree_edits.specs.Uniting.{AreUnited, EndsAs}
 use Rattle.qg_tree_edits.specs.Counting.{AreCommitted, IsTold, LeadsNone, TellsUnited, one, ways, ways_each}
 use Rattle.qg_tree_edits.specs.Counting.{ways_instead}
-use Rattle.qg_descent.proofs.Branches.{branch-top, each-append, each-get, each-join}
-use Rattle.qg_descent.proofs.BranchFrames.{branches-same, reach-same, reach-top}
+use Rattle.qg_tree_read.proofs.Branches.{branch-top, each-append, each-get, each-join}
+use Rattle.qg_tree_read.proofs.BranchFrames.{branches-same, reach-same, reach-top}
 use Rattle.qg_tree_edits.proofs.Committed.{committed-told}
 use Rattle.qg_tree_edits.proofs.Downward.{leads-none, leads-plus}
 use Rattle.qg_tree_edits.proofs.Leading.{not-above}
@@ -121,7 +121,7 @@ back_get [] ys i x is = (i, is)
 back_get (z ∷ xs) ys i x is = let later = back_get xs ys i x is in (suc later.0, later.1)
 
 -- both are leaves, and these are their items
-record AreLeaves (tree : Tree) (super : Super) (a b : Node) (lefts rights : List Item) : Type 0 where
+record AreLeaves (tree : TreeKind) (super : Super) (a b : Node) (lefts rights : List Item) : Type 0 where
   header : Header
   other : Header
   left_is : a ≡ Leaf header lefts
@@ -130,7 +130,7 @@ record AreLeaves (tree : Tree) (super : Super) (a b : Node) (lefts rights : List
   member_other : IsMember tree super zero other
 
 -- both have pointers, and these are the items under them
-record AreInners (tree : Tree) (super : Super) (nodes : ℕ → Option Node) (level : ℕ) (a b : Node)
+record AreInners (tree : TreeKind) (super : Super) (nodes : ℕ → Option Node) (level : ℕ) (a b : Node)
     (lefts rights : List Item) : Type 0 where
   header : Header
   other : Header
@@ -248,7 +248,7 @@ module _ (old new : Ground) (left right : ℕ) (instead : Instead) (differ : lef
 
   -- ---- items
 
-  module _ (tree : Tree) (super : Super) (history : History) where
+  module _ (tree : TreeKind) (super : Super) (history : History) where
     -- an address is reached below one of the two
     IsBelow : ℕ → ℕ → Type 0
     IsBelow level q = (q ≢ left) × (q ≢ right)

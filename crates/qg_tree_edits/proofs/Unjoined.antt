@@ -6,20 +6,20 @@ use Rattle.qg_num.specs.declared.key.Key.{Key}
 use Rattle.qg_node.specs.declared.item.Item.{Item}
 use Rattle.qg_node.specs.declared.node.Node.{Node}
 use Rattle.qg_node.specs.NodeText.{IsNode}
-use Rattle.qg_image.specs.declared.tree.Tree.{Tree}
+use Rattle.qg_image.specs.declared.tree.TreeKind.{TreeKind}
 use Rattle.qg_shape.specs.Filled.{IsThin}
-use Rattle.qg_blocks.specs.Told.{fresh_at, told}
-use Rattle.qg_ground.specs.declared.ground.Ground.{Ground}
-use Rattle.qg_ground.specs.Land.{IsDrafted}
-use Rattle.qg_ground.proofs.Lands.{told-fresh_at}
+use Rattle.qg_blocks.specs.NodesFound.{fresh_at, told}
+use Rattle.qg_node_alloc.specs.declared.ground.Ground.{Ground}
+use Rattle.qg_node_alloc.specs.Land.{IsDrafted}
+use Rattle.qg_node_alloc.proofs.Lands.{told-fresh_at}
 use Rattle.qg_tree_edits.specs.declared.instead.Instead.{Instead}
-use Rattle.qg_descent.specs.Tree.{Root, super_of}
-use Rattle.qg_descent.specs.Branch.{IsBranch}
+use Rattle.qg_tree_read.specs.Tree.{Root, super_of}
+use Rattle.qg_tree_read.specs.Branch.{IsBranch}
 use Rattle.qg_tree_edits.specs.Editing.{CanLead, FillsThere, IsFreshOn, IsUnsettled, StandsInstead}
 use Rattle.qg_tree_edits.proofs.Served.{filled-not_thin, node-drafted, size-blocks}
 
 -- the node in the child's place is full enough: it is not thin, or has one behind it
-full_there : (tree : Tree) (root : Root) (land : Ground) (history : History) (level generation : ℕ)
+full_there : (tree : TreeKind) (root : Root) (land : Ground) (history : History) (level generation : ℕ)
     (child : Instead) (rest : List Item) → IsDrafted land generation → IsFreshOn land level child.now
     → (child.more ≡ None → (node : Node) → fresh_at land.blocks.draft child.now ≡ Some node
     → IsThin land.blocks.draft.sizes.nodesize node → ⊥)
@@ -45,7 +45,7 @@ full_there tree root land history level generation child rest drafted fresh full
             (node-drafted land generation child.now fresh.node drafted fresh.here)) (full is fresh.node fresh.here);
       }
 
-pub can-lead : (tree : Tree) (root : Root) (land : Ground) (history : History) (level at generation : ℕ)
+pub can-lead : (tree : TreeKind) (root : Root) (land : Ground) (history : History) (level at generation : ℕ)
     (to : Option Key) (place : ℕ) (child : Instead) (items : List Item)
     → IsDrafted land generation → StandsInstead land level child
     → (child.more ≡ None → (node : Node) → fresh_at land.blocks.draft child.now ≡ Some node

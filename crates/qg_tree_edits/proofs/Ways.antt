@@ -10,7 +10,7 @@ use Rattle.qg_node.specs.declared.node.Header.{Header}
 use Rattle.qg_node.specs.declared.node.Node.{Node}
 use Rattle.qg_node.specs.declared.node.Node.TheVariants.{Inner}
 use Rattle.qg_node.specs.Nodes.{own_pointers}
-use Rattle.qg_descent.specs.Tree.{Reaches}
+use Rattle.qg_tree_read.specs.Tree.{Reaches}
 use Rattle.qg_tree_edits.specs.Counting.{one, pointers_there, ways, ways_each}
 use Rattle.qg_tree_edits.proofs.Spliced.{drop-there}
 

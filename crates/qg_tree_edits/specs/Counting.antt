@@ -9,14 +9,14 @@ use Rattle.qg_node.specs.declared.pointer.Pointer.{Pointer}
 use Rattle.qg_node.specs.declared.node.Header.{Header}
 use Rattle.qg_node.specs.declared.node.Node.{Node}
 use Rattle.qg_node.specs.Nodes.{header_of, own_items, own_pointers}
-use Rattle.qg_image.specs.declared.tree.Tree.{Tree}
-use Rattle.qg_blocks.specs.Told.{fresh_at, told}
+use Rattle.qg_image.specs.declared.tree.TreeKind.{TreeKind}
+use Rattle.qg_blocks.specs.NodesFound.{fresh_at, told}
 use Rattle.qg_space.specs.Holding.{is_free_slot}
-use Rattle.qg_ground.specs.declared.ground.Ground.{Ground}
-use Rattle.qg_ground.specs.Tellings.{Telling}
-use Rattle.qg_ground.specs.Tellings.Telling.{Copied, Made, Left}
+use Rattle.qg_node_alloc.specs.declared.ground.Ground.{Ground}
+use Rattle.qg_node_alloc.specs.Tellings.{Telling}
+use Rattle.qg_node_alloc.specs.Tellings.Telling.{Copied, Made, Left}
 use Rattle.qg_tree_edits.specs.declared.instead.Instead.{Instead}
-use Rattle.qg_descent.specs.Tree.{Reaches, Root}
+use Rattle.qg_tree_read.specs.Tree.{Reaches, Root}
 use Rattle.qg_tree_edits.specs.Editing.{IsSettled, ReachesBeside, ReachesInstead, ReachesParts, slots_for}
 
 -- ---- ways
@@ -200,7 +200,7 @@ AreCommitted land history clean =
 -- the pointers of a node were set to what stands in the place of the child at an index, and this was told meanwhile:
 -- a neighbour may have been copied, and left, where nothing was cut off the node. What was copied was not fresh and is
 -- what stood there, and so it is for any nodes that tell the same of the other children where they are not fresh
-pub record IsSettledTold (tree : Tree) (root : Root) (old new : Ground) (history : History)
+pub record IsSettledTold (tree : TreeKind) (root : Root) (old new : Ground) (history : History)
     (level at place : ℕ) (child : Instead) (pointers : List Pointer) (header : Header) (items : List Item)
     (rest : Option Node) (tellings : List Telling) : Type 0 where
   pub settled : IsSettled tree root old new history level at place child pointers header items rest

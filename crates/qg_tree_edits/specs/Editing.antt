@@ -17,16 +17,16 @@ use Rattle.qg_super.specs.declared.superblock.Super.{Super}
 use Rattle.qg_super.specs.Places.{second_place}
 use Rattle.qg_image.specs.Below.{items_below}
 use Rattle.qg_blocks.specs.Lending.{with_fresh}
-use Rattle.qg_blocks.specs.Told.{IsBacked, IsNodeAt, fresh_at, told}
+use Rattle.qg_blocks.specs.NodesFound.{IsBacked, IsNodeAt, fresh_at, told}
 use Rattle.qg_space.specs.Holding.{free_slots, is_free_slot}
 use Rattle.qg_image.specs.declared.expected.Expected.{Expected}
-use Rattle.qg_image.specs.declared.tree.Tree.{Tree}
+use Rattle.qg_image.specs.declared.tree.TreeKind.{TreeKind}
 use Rattle.qg_image.specs.Walk.{is_owner, walk_failure}
 use Rattle.qg_walk.specs.Standing.{expected_below, form_failure}
-use Rattle.qg_ground.specs.declared.ground.Ground.{Ground}
-use Rattle.qg_ground.specs.Changes.{Makes}
-use Rattle.qg_ground.specs.Land.{IsDrafted}
-use Rattle.qg_ground.specs.Tellings.{node_copy}
+use Rattle.qg_node_alloc.specs.declared.ground.Ground.{Ground}
+use Rattle.qg_node_alloc.specs.Changes.{Makes}
+use Rattle.qg_node_alloc.specs.Land.{IsDrafted}
+use Rattle.qg_node_alloc.specs.Tellings.{node_copy}
 use Rattle.qg_edit.specs.declared.edit.Edit.{Edit}
 use Rattle.qg_edit.specs.Edits.{CanEdit, edited}
 use Rattle.qg_edit.specs.Outcome.{IsCutOf, IsNodeFor, RestIsNode, cleared}
@@ -36,10 +36,10 @@ use Rattle.qg_shape.specs.declared.joining.Joined.TheVariants.{Whole, Parted}
 use Rattle.qg_shape.specs.Filled.{IsFilled, IsThin}
 use Rattle.qg_shape.specs.Outcomes.{IsParted, IsWhole}
 use Rattle.qg_shape.specs.Parts.{emptied}
-use Rattle.qg_descent.specs.Tree.{Reaches, Root, found_in, super_of}
-use Rattle.qg_descent.specs.declared.way.Way.{Way}
+use Rattle.qg_tree_read.specs.Tree.{Reaches, Root, found_in, super_of}
+use Rattle.qg_tree_read.specs.declared.way.Way.{Way}
 use Rattle.qg_tree_edits.specs.declared.child.Neighbour.{Neighbour}
-use Rattle.qg_descent.specs.Branch.{AreBranches, IsBranch, IsMember}
+use Rattle.qg_tree_read.specs.Branch.{AreBranches, IsBranch, IsMember}
 use Rattle.qg_tree_edits.specs.First.{first_leaf, least, leaves, leaves_joined, leaves_under}
 
 -- ---- what an edit asks, over any disk
@@ -52,7 +52,7 @@ pub record IsEditable (land : Ground) (history : History) (bytes generation : �
   pub room : second_place ≤ bytes
 
 -- the nodes that are made for the tree are such as it may have
-pub record CanMake (tree : Tree) (root : Root) : Type 0 where
+pub record CanMake (tree : TreeKind) (root : Root) : Type 0 where
   pub owner : IsTrue (is_owner tree root.owner)
   pub next : 0 < root.next
 
@@ -93,7 +93,7 @@ pub record IsCutThere (nodesize : ℕ) (new : Ground) (at : ℕ) (before whole :
 
 -- a node that the way leads to expect was judged, and is or was copied to a fresh one, which has the same items or
 -- pointers. A fresh one stays where it is. All other nodes are told as before
-pub record IsOwned (tree : Tree) (root : Root) (old new : Ground) (history : History) (expected : Expected)
+pub record IsOwned (tree : TreeKind) (root : Root) (old new : Ground) (history : History) (expected : Expected)
     (at now : ℕ) : Type 0 where
   pub node : Node
   pub formed : form_failure tree (super_of root old.blocks.draft) expected at node ≡ None
@@ -137,7 +137,7 @@ pub record FillsThere (nodesize : ℕ) (nodes : ℕ → Option Node) (at : ℕ) 
   pub filled : IsFilled nodesize node
 
 -- these are the items under what stands there. Where two nodes do, both are full enough
-pub record HoldInstead (tree : Tree) (super : Super) (nodes : ℕ → Option Node) (level : ℕ) (instead : Instead)
+pub record HoldInstead (tree : TreeKind) (super : Super) (nodes : ℕ → Option Node) (level : ℕ) (instead : Instead)
     (items : List Item) : Type 0 where
   pub mine : List Item
   pub rest : List Item
@@ -151,7 +151,7 @@ pub record HoldInstead (tree : Tree) (super : Super) (nodes : ℕ → Option Nod
 
 -- a part of a tree that an edit may be done to: the walk meets no failure there, no free slot is reached, bodies are
 -- short, and the edit finds what it relies on
-pub record IsPartFit (tree : Tree) (root : Root) (land : Ground) (history : History) (level : ℕ)
+pub record IsPartFit (tree : TreeKind) (root : Root) (land : Ground) (history : History) (level : ℕ)
     (expected : Expected) (at : ℕ) (edit : Edit) (items : List Item) : Type 0 where
   pub levelled : expected.level ≡ Some level
   pub walked : walk_failure (form_failure tree (super_of root land.blocks.draft))
@@ -174,7 +174,7 @@ pub record IsLeafEdited (edit : Edit) (old new : List Item) : Type 0 where
 -- what an edit leaves of a part of a tree: what stands in its place holds the items once those of one leaf are edited,
 -- the first one where the key is the least; it reaches what was reached before, and slots that were free; only these
 -- are told otherwise, whatever a disk tells, only these get free, and no free slot is reached
-pub record IsPartEdited (tree : Tree) (root : Root) (old new : Ground) (history : History) (level at : ℕ)
+pub record IsPartEdited (tree : TreeKind) (root : Root) (old new : Ground) (history : History) (level at : ℕ)
     (edit : Edit) (items : List Item) (instead : Instead) : Type 0 where
   pub items_new : List Item
   pub edits : IsLeafEdited edit items items_new
@@ -303,7 +303,7 @@ ReachesEach nodes level pointers q = (i : ℕ) × (pointer : Pointer) × (slice_
 
 -- The child at a place of a fresh node was edited. These are the items under it and the other children. The other
 -- children are what the way to them leads to expect; no two of all reach the same address, and none a free slot
-pub record IsUnsettled (tree : Tree) (root : Root) (land : Ground) (history : History) (level at : ℕ)
+pub record IsUnsettled (tree : TreeKind) (root : Root) (land : Ground) (history : History) (level at : ℕ)
     (to : Option Key) (place : ℕ) (child : Instead) (items : List Item) : Type 0 where
   pub header : Header
   pub pointers : List Pointer
@@ -339,7 +339,7 @@ pub record IsUnsettled (tree : Tree) (root : Root) (land : Ground) (history : Hi
 -- Its pointers were set: they lead to the same items. Where the node has too much, it holds a front of them. What they
 -- reach was reached before or is a slot that was free; only these and the node itself are told otherwise, whatever a
 -- disk tells, only these get free, and no free slot is reached
-pub record IsSettled (tree : Tree) (root : Root) (old new : Ground) (history : History) (level at place : ℕ)
+pub record IsSettled (tree : TreeKind) (root : Root) (old new : Ground) (history : History) (level at place : ℕ)
     (child : Instead) (pointers : List Pointer) (header : Header) (items : List Item) (rest : Option Node) : Type
     0 where
   pub pointers_new : List Pointer
@@ -359,7 +359,7 @@ pub record IsSettled (tree : Tree) (root : Root) (old new : Ground) (history : H
 -- ---- pointers that are set
 
 -- what is known where pointers of a fresh node are set: what they and the others lead to, and that all items ascend
-pub record CanLead (tree : Tree) (super : Super) (land : Ground) (history : History) (level at from to : ℕ)
+pub record CanLead (tree : TreeKind) (super : Super) (land : Ground) (history : History) (level at from to : ℕ)
     (instead : Instead) (pointers : List Pointer) (header : Header) (items : List Item) : Type 0 where
   pub here : fresh_at land.blocks.draft at ≡ Some (Inner header pointers)
   pub member : IsMember tree super (suc level) header
@@ -375,7 +375,7 @@ pub record CanLead (tree : Tree) (super : Super) (land : Ground) (history : Hist
   pub ascending : IsTrue (is_ascending (map (λ item. item.key) items))
 
 -- they are set: these lead to the same items. Nothing but the node is told otherwise, whatever a disk tells
-pub record HasLed (tree : Tree) (super : Super) (old new : Ground) (history : History)
+pub record HasLed (tree : TreeKind) (super : Super) (old new : Ground) (history : History)
     (level at from to : ℕ) (instead : Instead) (pointers : List Pointer) (header : Header) (items : List Item)
     (rest : Option Node) : Type 0 where
   pub now : Pointer

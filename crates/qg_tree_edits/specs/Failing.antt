@@ -16,16 +16,16 @@ use Rattle.qg_node.specs.Nodes.{header_of, own_pointers}
 use Rattle.qg_shape.specs.Places.{LeadsTo}
 use Rattle.qg_shape.specs.Pointing.{pointer_to}
 use Rattle.qg_image.specs.declared.expected.Expected.{Expected}
-use Rattle.qg_image.specs.declared.tree.Tree.{Tree}
+use Rattle.qg_image.specs.declared.tree.TreeKind.{TreeKind}
 use Rattle.qg_image.specs.Walk.{root_expected}
-use Rattle.qg_blocks.specs.Told.{found, fresh_at}
+use Rattle.qg_blocks.specs.NodesFound.{found, fresh_at}
 use Rattle.qg_space.specs.Holding.{is_free_slot}
-use Rattle.qg_ground.specs.declared.ground.Ground.{Ground}
+use Rattle.qg_node_alloc.specs.declared.ground.Ground.{Ground}
 use Rattle.qg_edit.specs.declared.edit.Edit.{Edit}
 use Rattle.qg_edit.specs.Answering.{CanSplice, IsBrokenByChange, IsBrokenByMerge}
-use Rattle.qg_descent.specs.declared.way.Way.{Way}
-use Rattle.qg_descent.specs.Tree.{Root, super_of}
-use Rattle.qg_descent.specs.Way.{BreaksThere}
+use Rattle.qg_tree_read.specs.declared.way.Way.{Way}
+use Rattle.qg_tree_read.specs.Tree.{Root, super_of}
+use Rattle.qg_tree_read.specs.Way.{BreaksThere}
 use Rattle.qg_tree_edits.specs.declared.child.Neighbour.{Neighbour}
 use Rattle.qg_tree_edits.specs.declared.instead.Instead.{Instead}
 use Rattle.qg_tree_edits.specs.Editing.{IsBeside, IsFreshOn, IsOwned, IsWayAt, StandsInstead}
@@ -41,14 +41,15 @@ NamesOnly IsSo (Err NoMemory) = ⊤
 
 -- What is found at the address that a way has come to breaks a rule: there is no node, or it is none such as the way
 -- leads to expect
-pub record IsMisread (tree : Tree) (root : Root) (land : Ground) (events : List Event) (expected : Expected) (at : ℕ)
+pub record IsMisread (tree : TreeKind) (root : Root) (land : Ground) (events : List Event) (expected : Expected)
+    (at : ℕ)
     (rule : Rule) (address : ℕ) : Type 0 where
   pub there : address ≡ at
   pub breaks : BreaksThere tree (super_of root land.blocks.draft) expected at rule
       (found land.blocks.draft (content events) at)
 
 -- and no fresh node is changed by then
-abbrev pub IsRefused : Tree → Root → Ground → Ground → List Event → Expected → ℕ → Rule → ℕ → Type 0
+abbrev pub IsRefused : TreeKind → Root → Ground → Ground → List Event → Expected → ℕ → Rule → ℕ → Type 0
 IsRefused tree root old new events expected at rule address =
     IsMisread tree root old events expected at rule address × (new.blocks.draft ≡ old.blocks.draft)
 
@@ -56,7 +57,8 @@ IsRefused tree root old new events expected at rule address =
 
 -- A child that was edited has no neighbour to be joined with: its node has no other pointer, or what the pointer beside
 -- leads to is misread, or that pointer leads to the child itself
-abbrev pub LacksNeighbour : Tree → Root → Ground → List Event → Node → ℕ → Option Key → ℕ → ℕ → ℕ → Rule → ℕ → Type 0
+abbrev pub LacksNeighbour : TreeKind → Root → Ground → List Event → Node → ℕ → Option Key → ℕ → ℕ → ℕ → Rule → ℕ
+    → Type 0
 LacksNeighbour tree root land events node at to level place child rule address =
     ((length (own_pointers node) ≡ 1) × (rule ≡ Shape) × (address ≡ at))
     ⊎ ((beside : Neighbour) × IsBeside (own_pointers node) to level place beside
@@ -109,7 +111,7 @@ pub record CantLead (land : Ground) (node : Node) (level place : ℕ) (rule : Ru
   pub misled : IsMisled land node from to instead rule address
 
 -- what stands in the place of the child at an index does not fit its node, for one of these reasons
-abbrev pub CantSettle : Tree → Root → Ground → List Event → Node → ℕ → Option Key → ℕ → ℕ → ℕ → Rule → ℕ → Type 0
+abbrev pub CantSettle : TreeKind → Root → Ground → List Event → Node → ℕ → Option Key → ℕ → ℕ → ℕ → Rule → ℕ → Type 0
 CantSettle tree root land events node at to level place child rule address =
     LacksNeighbour tree root land events node at to level place child rule address
     ⊎ (CantJoin land level child rule address ⊎ CantLead land node level place rule address)
@@ -128,7 +130,7 @@ StandsFor land at now = (now ≡ at) ⊎ IsTrue (is_free_slot land.space now)
 -- A node that an edit has come to by its key does not fit. It is misread. Or it is owned, and is a leaf that is not
 -- what the change relies on, or that can't be cut. Or it is owned, and so it is with the node that its pointer leads on
 -- to, or with what stands in that one's place once it is edited
-unfoldable pub FailsUnder : Tree → Root → Edit → List Event → ℕ → Expected → ℕ → Ground → Ground → Rule → ℕ → Type 0
+unfoldable pub FailsUnder : TreeKind → Root → Edit → List Event → ℕ → Expected → ℕ → Ground → Ground → Rule → ℕ → Type 0
 FailsUnder tree root edit events zero expected at old new rule address =
     IsMisread tree root old events expected at rule address
     ⊎ ((mid : Ground) × (now : ℕ) × (owned : IsOwned tree root old mid (Recorded events) expected at now)
@@ -155,7 +157,7 @@ pub record CantGrow (root : Root) (land : Ground) (rule : Rule) (address : ℕ) 
 
 -- A tree that is edited over a disk that tells breaks a rule at an address: on the way that the edit's key leads down
 -- from the root a node does not fit, or no root fits above what stands in the root's place then
-pub record IsUnfit (tree : Tree) (root : Root) (edit : Edit) (old new : Ground) (events : List Event) (rule : Rule)
+pub record IsUnfit (tree : TreeKind) (root : Root) (edit : Edit) (old new : Ground) (events : List Event) (rule : Rule)
     (address : ℕ) : Type 0 where
   pub is : FailsUnder tree root edit events root.height (root_expected (Some root.height) None) root.address old new
       rule address ⊎ CantGrow root new rule address

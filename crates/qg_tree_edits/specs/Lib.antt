@@ -1,9 +1,9 @@
-pub use Rattle.qg_descent.specs.Branch
-pub use Rattle.qg_descent.specs.Tree
+pub use Rattle.qg_tree_read.specs.Branch
+pub use Rattle.qg_tree_read.specs.Tree
 pub use Rattle.qg_edit.specs.Edits
-pub use Rattle.qg_ground.specs.Calls as GroundCalls
-pub use Rattle.qg_ground.specs.Land
-pub use Rattle.qg_ground.specs.Tellings
+pub use Rattle.qg_node_alloc.specs.Calls as NodeAllocCalls
+pub use Rattle.qg_node_alloc.specs.Land
+pub use Rattle.qg_node_alloc.specs.Tellings
 pub mod First
 pub mod Editing
 pub mod Uniting

@@ -7,13 +7,13 @@ use Rattle.qg_node.specs.declared.pointer.Pointer.{Pointer}
 use Rattle.qg_node.specs.declared.node.Node.{Node}
 use Rattle.qg_node.specs.declared.node.Node.TheVariants.{Leaf, Inner}
 use Rattle.qg_node.specs.Nodes.{is_ascending}
-use Rattle.qg_blocks.specs.Told.{told}
+use Rattle.qg_blocks.specs.NodesFound.{told}
 use Rattle.qg_space.specs.Holding.{free_slots, is_free_slot}
-use Rattle.qg_image.specs.declared.tree.Tree.{Tree}
-use Rattle.qg_ground.specs.declared.ground.Ground.{Ground}
+use Rattle.qg_image.specs.declared.tree.TreeKind.{TreeKind}
+use Rattle.qg_node_alloc.specs.declared.ground.Ground.{Ground}
 use Rattle.qg_edit.specs.declared.edit.Edit.{Edit}
 use Rattle.qg_tree_edits.specs.declared.instead.Instead.{Instead}
-use Rattle.qg_descent.specs.Tree.{Reaches, Root, TellsTree, super_of}
+use Rattle.qg_tree_read.specs.Tree.{Reaches, Root, TellsTree, super_of}
 use Rattle.qg_tree_edits.specs.First.{first_leaf, least}
 use Rattle.qg_tree_edits.specs.Editing.{CanMake, HoldInstead, IsEditable, IsLeafEdited, ReachesInstead}
 
@@ -32,7 +32,7 @@ lone_child (Inner header pointers) = lone_of pointers
 
 -- A tree stands in nodes and space, and these are its items, from left to right: no free slot is reached, and no body
 -- has more than 1024 bytes
-pub record IsRooted (tree : Tree) (root : Root) (land : Ground) (history : History)
+pub record IsRooted (tree : TreeKind) (root : Root) (land : Ground) (history : History)
     (items : List Item) : Type 0 where
   pub tells : TellsTree tree root land.blocks.draft history items
   pub apart : (q : ℕ) → IsTrue (is_free_slot land.space q)
@@ -41,7 +41,7 @@ pub record IsRooted (tree : Tree) (root : Root) (land : Ground) (history : Histo
 
 -- What a call makes of a tree and of nodes and space: it stands with these items. It reaches what it reached before,
 -- and slots that were free; only these are told otherwise, and only these get free
-pub record IsReplaced (tree : Tree) (before after : Root) (old new : Ground) (history : History)
+pub record IsReplaced (tree : TreeKind) (before after : Root) (old new : Ground) (history : History)
     (items : List Item) : Type 0 where
   pub rooted : IsRooted tree after new history items
   pub reach : (q : ℕ) → Reaches (told new.blocks.draft history) after.height after.address q
@@ -53,7 +53,7 @@ pub record IsReplaced (tree : Tree) (before after : Root) (old new : Ground) (hi
       → IsTrue (is_free_slot old.space q) ⊎ Reaches (told old.blocks.draft history) before.height before.address q
 
 -- it is one with the items once those of one leaf are edited, the first one where the key is the least
-pub record IsEdited (tree : Tree) (before after : Root) (old new : Ground) (history : History) (edit : Edit)
+pub record IsEdited (tree : TreeKind) (before after : Root) (old new : Ground) (history : History) (edit : Edit)
     (items : List Item) : Type 0 where
   pub items_new : List Item
   pub edits : IsLeafEdited edit items items_new
@@ -64,7 +64,7 @@ pub record IsEdited (tree : Tree) (before after : Root) (old new : Ground) (hist
 
 -- what an edit asks: nodes and space in which a tree is edited by the generation to come, a number and a generation
 -- that nodes may have which are made for it, and free slots
-pub record IsReady (tree : Tree) (root : Root) (land : Ground) (history : History)
+pub record IsReady (tree : TreeKind) (root : Root) (land : Ground) (history : History)
     (bytes : ℕ) : Type 0 where
   pub editable : IsEditable land history bytes root.next
   pub makes : CanMake tree root
@@ -84,7 +84,7 @@ pub record Grows (most : ℕ) (before after : Root) (old new : Ground) : Type 0 
 -- ---- what stands in the place of a root
 
 -- this stands in the place of a tree's root, and these are the items under it; no free slot is reached
-pub record StandsForRoot (tree : Tree) (root : Root) (land : Ground) (history : History) (instead : Instead)
+pub record StandsForRoot (tree : TreeKind) (root : Root) (land : Ground) (history : History) (instead : Instead)
     (items : List Item) : Type 0 where
   pub holds : HoldInstead tree (super_of root land.blocks.draft) (told land.blocks.draft history) root.height instead
       items
@@ -95,7 +95,7 @@ pub record StandsForRoot (tree : Tree) (root : Root) (land : Ground) (history : 
 
 -- a tree of these items has its root: it reaches what stood there, and slots that were free; only these are told
 -- otherwise, and only these get free
-pub record HasRoot (tree : Tree) (before after : Root) (old new : Ground) (history : History)
+pub record HasRoot (tree : TreeKind) (before after : Root) (old new : Ground) (history : History)
     (instead : Instead) (items : List Item) : Type 0 where
   pub rooted : IsRooted tree after new history items
   pub reach : (q : ℕ) → Reaches (told new.blocks.draft history) after.height after.address q

@@ -15,20 +15,20 @@ use Rattle.qg_node.specs.Nodes.{own_pointers}
 use Rattle.qg_node.specs.NodeText.{IsNodeSize}
 use Rattle.qg_super.specs.declared.superblock.Super.{Super}
 use Rattle.qg_shape.specs.Filled.{HasShortBodies, IsThin}
-use Rattle.qg_blocks.specs.Told.{BreaksNone, fresh_at, told}
+use Rattle.qg_blocks.specs.NodesFound.{BreaksNone, fresh_at, told}
 use Rattle.qg_space.specs.Holding.{free_slots}
 use Rattle.qg_image.specs.declared.expected.Expected.{Expected}
-use Rattle.qg_image.specs.declared.tree.Tree.{Tree}
-use Rattle.qg_ground.specs.declared.ground.Ground.{Ground}
-use Rattle.qg_ground.specs.Changes.{IsOwnedBy}
-use Rattle.qg_ground.specs.Land.{Rests}
-use Rattle.qg_ground.specs.Tellings.{Telling}
+use Rattle.qg_image.specs.declared.tree.TreeKind.{TreeKind}
+use Rattle.qg_node_alloc.specs.declared.ground.Ground.{Ground}
+use Rattle.qg_node_alloc.specs.Changes.{IsOwnedBy}
+use Rattle.qg_node_alloc.specs.Land.{Rests}
+use Rattle.qg_node_alloc.specs.Tellings.{Telling}
 use Rattle.qg_edit.specs.declared.edit.Edit.{Edit}
 use Rattle.qg_edit.specs.declared.edit.Change.TheVariants.{Clear}
 use Rattle.qg_edit.specs.Edits.{growth_of}
 use Rattle.qg_edit.specs.Outcome.{IsInFront}
 use Rattle.qg_walk.specs.Standing.{form_failure}
-use Rattle.qg_descent.specs.Tree.{Root, super_of}
+use Rattle.qg_tree_read.specs.Tree.{Root, super_of}
 use Rattle.qg_tree_edits.specs.declared.instead.Instead.{Instead}
 use Rattle.qg_tree_edits.specs.declared.pairing.Pair.{Pair}
 use Rattle.qg_tree_edits.specs.First.{least, leaves, leaves_behind}
@@ -45,7 +45,7 @@ use Rattle.qg_tree_edits.specs.Failing.{LacksNeighbour, NamesOnly, StandsFor}
 
 -- what a step asks over any disk: nodes and space in which a tree is edited by the generation to come, a number and a
 -- generation that nodes may have which are made for it, and so many free slots
-pub record IsReadyFor (many : ℕ) (tree : Tree) (root : Root) (land : Ground) (history : History) (bytes : ℕ)
+pub record IsReadyFor (many : ℕ) (tree : TreeKind) (root : Root) (land : Ground) (history : History) (bytes : ℕ)
     : Type 0 where
   pub editable : IsEditable land history bytes root.next
   pub makes : CanMake tree root
@@ -55,7 +55,7 @@ pub record IsReadyFor (many : ℕ) (tree : Tree) (root : Root) (land : Ground) (
 
 -- Over any disk: the node is owned that the way leads to expect. At most one slot fewer is free, and each fresh node
 -- has the tree's number as owner, or the owner that the fresh node at its address had
-pub record OwnsNode (tree : Tree) (root : Root) (expected : Expected) (at : ℕ) (old new : Ground)
+pub record OwnsNode (tree : TreeKind) (root : Root) (expected : Expected) (at : ℕ) (old new : Ground)
     (history : History) (result : Result ℕ BlockFault) : Type 0 where
   pub is : IfOk result (λ now. IsOwned tree root old new history expected at now)
   pub count : OnOk result (free_slots old.space ≤ 1 + free_slots new.space)
@@ -63,7 +63,7 @@ pub record OwnsNode (tree : Tree) (root : Root) (expected : Expected) (at : ℕ)
 
 -- No rule is named where such a node is told, and over a disk that tells only where it is misread. `Disk` is answered
 -- exactly where the disk met a fault
-pub record FailsToOwn (tree : Tree) (root : Root) (expected : Expected) (at : ℕ) (old new : Ground)
+pub record FailsToOwn (tree : TreeKind) (root : Root) (expected : Expected) (at : ℕ) (old new : Ground)
     (history : History) (before now : ℕ) (result : Result ℕ BlockFault) : Type 0 where
   pub sound : (node : Node) → told old.blocks.draft history at ≡ Some node
       → form_failure tree (super_of root old.blocks.draft) expected at node ≡ None → BreaksNone result
@@ -101,7 +101,7 @@ pub record SetsRoot {T : Type 0} (levels slots : ℕ) (before after : Root) (old
 
 -- Where these are the items under what stands in the place of the root: the tree has them. Where one node stands there,
 -- each leaf keeps its items. And the book is told what becomes of the ways
-pub record RootsItems {B T : Type 0} (follows : B → List Telling → B → Type 0) (tree : Tree) (before after : Root)
+pub record RootsItems {B T : Type 0} (follows : B → List Telling → B → Type 0) (tree : TreeKind) (before after : Root)
     (old new : Ground) (history : History) (instead : Instead) (items : List Item) (book later : B)
     (result : Result T BlockFault) : Type 0 where
   pub rooted : OnOk result (HasRoot tree before after old new history instead items)
@@ -114,7 +114,7 @@ pub record RootsItems {B T : Type 0} (follows : B → List Telling → B → Typ
 
 -- Over a disk that tells no rule is named where the items ascend and the tree may get higher, and else only where no
 -- root fits. `Disk` is answered exactly where the disk met a fault
-pub record FailsToRoot {T : Type 0} (tree : Tree) (root : Root) (old new : Ground) (history : History)
+pub record FailsToRoot {T : Type 0} (tree : TreeKind) (root : Root) (old new : Ground) (history : History)
     (instead : Instead) (before now : ℕ) (result : Result T BlockFault) : Type 0 where
   pub sound : (events : List Event) → history ≡ Recorded events → (items : List Item)
       → StandsForRoot tree root old history instead items → root.height < 7 → BreaksNone result
@@ -137,7 +137,7 @@ pub record EditsPart (edit : Edit) (owner level at : ℕ) (old new : Ground) (re
 
 -- Where the edit may be done to a part of a tree with these items: it is edited. Where the first leaf is cleared, each
 -- other leaf keeps its items. And the book is told what becomes of the ways
-pub record EditsItems {B : Type 0} (follows : B → List Telling → B → Type 0) (tree : Tree) (root : Root)
+pub record EditsItems {B : Type 0} (follows : B → List Telling → B → Type 0) (tree : TreeKind) (root : Root)
     (edit : Edit) (level at : ℕ) (old new : Ground) (history : History) (items : List Item)
     (book later : B) (result : Result Instead BlockFault) : Type 0 where
   pub edited : IfOk result (λ instead. IsPartEdited tree root old new history level at edit items instead)
@@ -150,7 +150,7 @@ pub record EditsItems {B : Type 0} (follows : B → List Telling → B → Type 
 
 -- Over a disk that tells no rule is named where the edit may be done to a part of a tree, and else only where something
 -- does not fit there. `Disk` is answered exactly where the disk met a fault
-pub record FailsToEdit (tree : Tree) (root : Root) (edit : Edit) (level : ℕ) (expected : Expected) (at : ℕ)
+pub record FailsToEdit (tree : TreeKind) (root : Root) (edit : Edit) (level : ℕ) (expected : Expected) (at : ℕ)
     (old new : Ground) (history : History) (before now : ℕ) (result : Result Instead BlockFault)
     : Type 0 where
   pub sound : (events : List Event) → history ≡ Recorded events → (items : List Item)
@@ -178,7 +178,7 @@ pub record FailsInPlace {T : Type 0} (land : Ground) (at : ℕ) (IsSuch : Node �
 -- pointers would not ascend. `Disk` is never answered
 pub record FailsToLead {T : Type 0} (land : Ground) (at from to : ℕ) (instead : Instead)
     (result : Result T BlockFault) : Type 0 where
-  pub sound : (tree : Tree) (super : Super) (history : History) (level : ℕ) (pointers : List Pointer)
+  pub sound : (tree : TreeKind) (super : Super) (history : History) (level : ℕ) (pointers : List Pointer)
       (header : Header) (items : List Item)
       → CanLead tree super land history level at from to instead pointers header items → BreaksNone result
   pub broken : (node : Node) → fresh_at land.blocks.draft at ≡ Some node
@@ -226,7 +226,7 @@ pub record IsThinOn (land : Ground) (level at : ℕ) : Type 0 where
 -- Over any disk: the neighbour of the child at an index of a node is owned, and the pair is these two. At most one slot
 -- fewer is free, and each fresh node has the tree's number as owner, or the owner that the fresh node at its address
 -- had
-pub record OwnsNeighbour (tree : Tree) (root : Root) (level at : ℕ) (to : Option Key) (place child : ℕ)
+pub record OwnsNeighbour (tree : TreeKind) (root : Root) (level at : ℕ) (to : Option Key) (place child : ℕ)
     (old new : Ground) (history : History) (result : Result Pair BlockFault) : Type 0 where
   pub is : (node : Node) → fresh_at old.blocks.draft at ≡ Some node
       → IfOk result (λ pair. IsPaired tree root old new history (own_pointers node) to level place child pair)
@@ -236,7 +236,7 @@ pub record OwnsNeighbour (tree : Tree) (root : Root) (level at : ℕ) (to : Opti
 -- No rule is named where the child at an index of a node of a tree was edited, and over a disk that tells only where it
 -- has no neighbour, or that one is misread, or is the child. `Disk` is answered exactly where the disk met a
 -- fault
-pub record FailsToPair (tree : Tree) (root : Root) (level at : ℕ) (to : Option Key) (place child : ℕ)
+pub record FailsToPair (tree : TreeKind) (root : Root) (level at : ℕ) (to : Option Key) (place child : ℕ)
     (old new : Ground) (history : History) (before now : ℕ) (result : Result Pair BlockFault)
     : Type 0 where
   pub sound : (items : List Item) → IsUnsettled tree root old history level at to place (alone child) items
@@ -260,7 +260,7 @@ pub record SetsPointers (root : Root) (level at : ℕ) (child : Instead) (old ne
 -- Where the child at an index of a node of a tree was edited, and these are the items under the node: its pointers lead
 -- to them. Where the first child stands alone, each leaf below keeps its items, and a child that was an empty leaf is
 -- gone. And the book is told what becomes of the ways
-pub record SettlesItems {B : Type 0} (follows : B → List Telling → B → Type 0) (tree : Tree) (root : Root)
+pub record SettlesItems {B : Type 0} (follows : B → List Telling → B → Type 0) (tree : TreeKind) (root : Root)
     (level at place : ℕ) (child : Instead) (old new : Ground) (history : History)
     (pointers : List Pointer) (header : Header) (items : List Item) (book later : B)
     (result : Result (Option Node) BlockFault) : Type 0 where
@@ -274,7 +274,7 @@ pub record SettlesItems {B : Type 0} (follows : B → List Telling → B → Typ
 
 -- Over a disk that tells no rule is named where the child at an index of a node of a tree was edited, and else only
 -- where something does not fit there. `Disk` is answered exactly where the disk met a fault
-pub record FailsToSettle (tree : Tree) (root : Root) (level at : ℕ) (to : Option Key) (place : ℕ) (child : Instead)
+pub record FailsToSettle (tree : TreeKind) (root : Root) (level at : ℕ) (to : Option Key) (place : ℕ) (child : Instead)
     (old new : Ground) (history : History) (before now : ℕ) (result : Result (Option Node) BlockFault)
     : Type 0 where
   pub sound : (events : List Event) → history ≡ Recorded events → (items : List Item)

@@ -1,2 +1,2 @@
 -- Types of the crates below that this crate passes on.
-pub use Rattle.qg_ground.specs.declared.ground.Ground.{Ground}
+pub use Rattle.qg_node_alloc.specs.declared.ground.Ground.{Ground}

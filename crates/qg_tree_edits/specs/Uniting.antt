@@ -3,15 +3,15 @@ use Rattle.std.specs.Prelude.{◌≡◌, ◌⊎◌, ◌≢◌, ℕ, ◌+◌, Lis
 use Rattle.qg_device.specs.History.{History}
 use Rattle.qg_num.specs.declared.key.Key.{Key}
 use Rattle.qg_node.specs.declared.pointer.Pointer.{Pointer}
-use Rattle.qg_image.specs.declared.tree.Tree.{Tree}
-use Rattle.qg_ground.specs.declared.ground.Ground.{Ground}
-use Rattle.qg_ground.specs.Tellings.{LetsGo}
+use Rattle.qg_image.specs.declared.tree.TreeKind.{TreeKind}
+use Rattle.qg_node_alloc.specs.declared.ground.Ground.{Ground}
+use Rattle.qg_node_alloc.specs.Tellings.{LetsGo}
 use Rattle.qg_shape.specs.declared.joining.Joined.{Joined}
 use Rattle.qg_shape.specs.declared.joining.Joined.TheVariants.{Whole, Parted}
 use Rattle.qg_tree_edits.specs.declared.instead.Instead.{Instead}
 use Rattle.qg_tree_edits.specs.declared.pairing.Pair.{Pair}
 use Rattle.qg_tree_edits.specs.declared.child.Neighbour.{Neighbour}
-use Rattle.qg_descent.specs.Tree.{Root}
+use Rattle.qg_tree_read.specs.Tree.{Root}
 use Rattle.qg_tree_edits.specs.Editing.{AreRewritten, IsBeside, IsJoinedThere, IsOwned, alone}
 
 -- ---- what becomes of both
@@ -32,7 +32,7 @@ pub record AreUnited (old new : Ground) (left right : ℕ) (instead : Instead) :
 -- ---- the neighbour that a child is joined with
 
 -- the child at a place and the neighbour that was owned, from left to right
-pub record IsPaired (tree : Tree) (root : Root) (old new : Ground) (history : History)
+pub record IsPaired (tree : TreeKind) (root : Root) (old new : Ground) (history : History)
     (pointers : List Pointer) (to : Option Key) (level place child : ℕ) (pair : Pair) : Type 0 where
   pub beside : Neighbour
   pub now : ℕ

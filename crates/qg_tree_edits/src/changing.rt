@@ -2,9 +2,9 @@
 ghost use Rattle.std.specs.Prelude.{◌≡◌, ◌+◌, ◌*◌, ◌≤◌, ℕ, List, MatchResult, OnOk, IsTrue, drop, length, not};
 ghost use Rattle.qg_node.specs.declared.item.Item.{Item as ItemValue};
 ghost use Rattle.qg_blocks.specs.Stopping.{StopsForCause};
-ghost use Rattle.qg_blocks.specs.Told.{told};
-ghost use Rattle.qg_ground.specs.Changes.{IsOwnedBy};
-ghost use Rattle.qg_ground.specs.Calls.{KeepsBook, LeavesBe};
+ghost use Rattle.qg_blocks.specs.NodesFound.{told};
+ghost use Rattle.qg_node_alloc.specs.Changes.{IsOwnedBy};
+ghost use Rattle.qg_node_alloc.specs.Calls.{KeepsBook, LeavesBe};
 ghost use Rattle.qg_edit.specs.declared.edit.Change.TheVariants as edit_change;
 ghost use Rattle.qg_edit.specs.Edits.{CanEdit, IsShort, growth_of, has_key, with_item, without_key};
 ghost use Rattle.qg_tree_edits.specs.Calls.{EditsTree, FailsToEditTree, ReplacesItems};
@@ -13,13 +13,13 @@ ghost use Rattle.qg_tree_edits.specs.Rooting.{Grows, IsReady, IsRooted};
 
 use crate::editing::edit_under;
 use crate::rooting::set_root;
-use qg_descent::Tree;
 use qg_disk::Disk;
 use qg_edit::{Change, Edit};
-use qg_ground::{Book, Ground};
 use qg_node::Body;
+use qg_node_alloc::{Book, Ground};
 use qg_num::{BlockFault, Key, Steps};
-use qg_parts::TreePart;
+use qg_tree_items::TreePart;
+use qg_tree_read::Tree;
 use std::alloc::Global;
 use std::sync::ledger::Ledger;
 

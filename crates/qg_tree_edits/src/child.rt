@@ -5,10 +5,10 @@ ghost use Rattle.qg_shape.specs.Places.{LeadsTo};
 ghost use Rattle.qg_node.specs.Nodes.{is_ascending, own_pointers};
 ghost use Rattle.qg_tree_edits.specs.Editing.{IsBeside, IsWayAt};
 
-use qg_descent::Way;
 use qg_node::{Node, Pointer};
 use qg_num::Key;
 use qg_shape::child_for;
+use qg_tree_read::Way;
 use qg_walk::expected_below;
 
 // Where a neighbour lies: the index of the first of the pair, and the way to the neighbour.

@@ -5,7 +5,7 @@ ghost use Rattle.qg_blocks.specs.Stopping.{StopsForCause};
 ghost use Rattle.qg_edit.specs.declared.edit.Change.TheVariants as edit_change;
 ghost use Rattle.qg_edit.specs.Edits.{IsShort};
 ghost use Rattle.qg_tree_edits.specs.Editing.{IsPartFit};
-ghost use Rattle.qg_ground.specs.Calls.{KeepsBook, LeavesBe};
+ghost use Rattle.qg_node_alloc.specs.Calls.{KeepsBook, LeavesBe};
 ghost use Rattle.qg_tree_edits.specs.Steps.{EditsItems, EditsPart, FailsToEdit, IsReadyFor};
 
 use crate::child::{place_for, way_at};
@@ -14,12 +14,12 @@ use crate::owning::own;
 use crate::rewriting::rewrite_leaf;
 use crate::settling::settle;
 use crate::standing::place_rest;
-use qg_descent::{Tree, Way};
 use qg_disk::Disk;
 use qg_edit::Edit;
-use qg_ground::{Book, Ground};
+use qg_node_alloc::{Book, Ground};
 use qg_num::{BlockFault, Steps};
-use qg_parts::TreePart;
+use qg_tree_items::TreePart;
+use qg_tree_read::{Tree, Way};
 use std::alloc::Global;
 use std::sync::ledger::Ledger;
 

@@ -14,5 +14,5 @@ mod settling;
 mod standing;
 
 pub use changing::{drop_first_leaf, insert, remove, replace};
-pub use qg_descent as descent;
-pub use qg_ground as ground;
+pub use qg_node_alloc as node_alloc;
+pub use qg_tree_read as tree_read;

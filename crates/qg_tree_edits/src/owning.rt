@@ -2,19 +2,19 @@
 ghost use Rattle.std.specs.Prelude.{◌≡◌, ◌+◌, ◌<◌, ◌≤◌, false, ℕ, List, ◌++◌, Some, IfOk};
 ghost use Rattle.qg_node.specs.declared.node.Node.{Node as NodeValue};
 ghost use Rattle.qg_blocks.specs.Stopping.{StopsForCause};
-ghost use Rattle.qg_blocks.specs.Told.{told};
+ghost use Rattle.qg_blocks.specs.NodesFound.{told};
 ghost use Rattle.qg_space.specs.Holding.{free_slots, is_free_slot};
-ghost use Rattle.qg_ground.specs.Tellings.{Telling};
-ghost use Rattle.qg_ground.specs.Calls.{KeepsBook, LeavesBe};
+ghost use Rattle.qg_node_alloc.specs.Tellings.{Telling};
+ghost use Rattle.qg_node_alloc.specs.Calls.{KeepsBook, LeavesBe};
 ghost use Rattle.qg_tree_edits.specs.Editing.{IsEditable};
 ghost use Rattle.qg_tree_edits.specs.Counting.{tellings_owned};
 ghost use Rattle.qg_tree_edits.specs.Steps.{FailsToOwn, OwnsNode};
 
-use qg_descent::{Tree, Way};
 use qg_disk::Disk;
-use qg_ground::{Book, Ground, own_node};
+use qg_node_alloc::{Book, Ground, cow_node};
 use qg_num::{Address, BlockFault, Steps};
-use qg_parts::TreePart;
+use qg_tree_items::TreePart;
+use qg_tree_read::{Tree, Way};
 use std::alloc::Global;
 use std::sync::ledger::Ledger;
 
@@ -46,7 +46,7 @@ pub(crate) fn own<P: TreePart, D: Disk, L: Ledger, B: Book<D, L>>(
     ensures reads { (most : ℕ) → ((book : B) (q : ℕ) → B.to_read book q ≤ most) → reads.new ≤ reads.old + (2 + most) }
 {
     tree.visit::<P, D, L>(&mut land.blocks, disk, way, reads)?;
-    own_node(
+    cow_node(
         alloc,
         land,
         disk,

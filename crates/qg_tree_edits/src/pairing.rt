@@ -4,8 +4,8 @@ ghost use Rattle.qg_node.specs.declared.item.Item.{Item as ItemValue};
 ghost use Rattle.qg_num.specs.declared.fault.BlockFault.TheVariants as block;
 ghost use Rattle.qg_blocks.specs.Stopping.{StopsForCause};
 ghost use Rattle.qg_space.specs.Holding.{free_slots};
-ghost use Rattle.qg_ground.specs.Tellings.{Telling};
-ghost use Rattle.qg_ground.specs.Calls.{KeepsBook, LeavesBe};
+ghost use Rattle.qg_node_alloc.specs.Tellings.{Telling};
+ghost use Rattle.qg_node_alloc.specs.Calls.{KeepsBook, LeavesBe};
 ghost use Rattle.qg_tree_edits.specs.Editing.{IsEditable, IsUnsettled, alone};
 ghost use Rattle.qg_tree_edits.specs.Uniting.{IsPaired};
 ghost use Rattle.qg_tree_edits.specs.Counting.{tellings_owned};
@@ -13,11 +13,11 @@ ghost use Rattle.qg_tree_edits.specs.Steps.{FailsToPair, HasPlace, OwnsNeighbour
 
 use crate::child::neighbour_of;
 use crate::owning::own;
-use qg_descent::Tree;
 use qg_disk::Disk;
-use qg_ground::{Book, Ground};
+use qg_node_alloc::{Book, Ground};
 use qg_num::{Address, BlockFault, Key, Rule, Steps};
-use qg_parts::TreePart;
+use qg_tree_items::TreePart;
+use qg_tree_read::Tree;
 use std::alloc::Global;
 use std::sync::ledger::Ledger;
 

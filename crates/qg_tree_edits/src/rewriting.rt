@@ -6,7 +6,7 @@ ghost use Rattle.qg_node.specs.Nodes.{own_items, own_pointers};
 ghost use Rattle.qg_node.specs.NodeText.{IsNode};
 ghost use Rattle.qg_shape.specs.Filled.{HasShortBodies};
 ghost use Rattle.qg_shape.specs.Parts.{IsInner, IsLeaf, with_items, with_pointers};
-ghost use Rattle.qg_blocks.specs.Told.{fresh_at};
+ghost use Rattle.qg_blocks.specs.NodesFound.{fresh_at};
 ghost use Rattle.qg_edit.specs.Edits.{CanEdit, IsShort, edited, growth_of};
 ghost use Rattle.qg_edit.specs.Answering.{CanSplice, IsBrokenByChange, IsBrokenUnless};
 ghost use Rattle.qg_edit.specs.Outcome.{spliced};
@@ -14,8 +14,8 @@ ghost use Rattle.qg_tree_edits.specs.Editing.{IsCutThere, IsRewritten};
 ghost use Rattle.qg_tree_edits.specs.Steps.{FailsInPlace, HasNodeSize};
 
 use qg_edit::{Edit, edit_leaf, splice};
-use qg_ground::Ground;
 use qg_node::{Node, Pointer};
+use qg_node_alloc::Ground;
 use qg_num::{Address, BlockFault};
 
 /// Edits the fresh leaf at an address.

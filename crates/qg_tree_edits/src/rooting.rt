@@ -10,23 +10,23 @@ ghost use Rattle.qg_node.specs.declared.node.Node.TheVariants as node;
 ghost use Rattle.qg_node.specs.NodeText.{IsNode, IsNodeSize};
 ghost use Rattle.qg_shape.specs.Pointing.{pointer_to};
 ghost use Rattle.qg_blocks.specs.Stopping.{StopsForCause};
-ghost use Rattle.qg_blocks.specs.Told.{BreaksNone, fresh_at};
+ghost use Rattle.qg_blocks.specs.NodesFound.{BreaksNone, fresh_at};
 ghost use Rattle.qg_edit.specs.Outcome.{cleared};
 ghost use Rattle.qg_tree_edits.specs.Editing.{IsEditable, IsFreshOn, IsRewritten, StandsInstead, alone};
 ghost use Rattle.qg_tree_edits.specs.Failing.{NamesOnly};
-ghost use Rattle.qg_ground.specs.Calls.{FailsByDisk, KeepsBook, LeavesBe};
+ghost use Rattle.qg_node_alloc.specs.Calls.{FailsByDisk, KeepsBook, LeavesBe};
 ghost use Rattle.qg_tree_edits.specs.Rooting.{StandsForRoot, levels_for, lone_child};
 ghost use Rattle.qg_tree_edits.specs.Steps.{FailsToRoot, IsReadyFor, RootsItems, SetsRoot};
 
 use crate::instead::Instead;
-use qg_descent::Tree;
 use qg_disk::Disk;
 use qg_edit::clear;
-use qg_ground::{Book, Ground, leave_node, make_node};
 use qg_node::{Header, Node, Pointers};
+use qg_node_alloc::{Book, Ground, leave_node, make_node};
 use qg_num::{Address, BlockFault, Rule, Steps};
-use qg_parts::TreePart;
 use qg_shape::pointer_to;
+use qg_tree_items::TreePart;
+use qg_tree_read::Tree;
 use std::alloc::Global;
 use std::sync::ledger::Ledger;
 

@@ -1,19 +1,19 @@
 // The rest of a node that was cut gets a place of its own.
 ghost use Rattle.std.specs.Prelude.{◌≡◌, ◌+◌, ◌<◌, ◌≤◌, ℕ, List, ◌++◌, Option, None, Some, IfOk};
-ghost use Rattle.qg_blocks.specs.Told.{BreaksNone};
+ghost use Rattle.qg_blocks.specs.NodesFound.{BreaksNone};
 ghost use Rattle.qg_space.specs.Holding.{free_slots};
-ghost use Rattle.qg_ground.specs.Tellings.{Telling};
-ghost use Rattle.qg_ground.specs.Calls.{FailsByDisk, KeepsBook, LeavesBe};
+ghost use Rattle.qg_node_alloc.specs.Tellings.{Telling};
+ghost use Rattle.qg_node_alloc.specs.Calls.{FailsByDisk, KeepsBook, LeavesBe};
 ghost use Rattle.qg_tree_edits.specs.Editing.{IsEditable, with_owner};
 ghost use Rattle.qg_tree_edits.specs.Counting.{tellings_made};
 ghost use Rattle.qg_tree_edits.specs.Steps.{HasRest, PlacesRest};
 
 use crate::instead::Instead;
-use qg_descent::Tree;
 use qg_disk::Disk;
-use qg_ground::{Book, Ground, make_node};
 use qg_node::{Header, Node};
+use qg_node_alloc::{Book, Ground, make_node};
 use qg_num::{Address, BlockFault, RootId, Steps};
+use qg_tree_read::Tree;
 use std::sync::ledger::Ledger;
 
 // The node, with a tree as owner.

@@ -16,7 +16,7 @@ use Rattle.qg_node.specs.declared.node.Node.TheVariants.{Leaf, Inner}
 use Rattle.qg_node.specs.Nodes.{header_of, own_items, own_keys, own_pointers}
 use Rattle.qg_super.specs.declared.superblock.Super.{Super}
 use Rattle.qg_image.specs.declared.failure.Failure.{Failure}
-use Rattle.qg_image.specs.declared.tree.Tree.{Tree}
+use Rattle.qg_image.specs.declared.tree.TreeKind.{TreeKind}
 use Rattle.qg_image.specs.declared.expected.Expected.{Expected}
 use Rattle.qg_image.specs.Failure.{first_failure, unless}
 use Rattle.qg_image.specs.Walk.{begins_at, deepest, ends_before, found_failure, is_generation, is_item_of, is_owner}
@@ -89,7 +89,7 @@ pub record IsFormed (expected : Expected) (node : Node) : Type 0 where
   pub begins : begins_at expected.from (own_keys node) ≡ true
   pub ends : ends_before expected.to (own_keys node) ≡ true
 
-pub IsFormed-way : (tree : Tree) (super : Super) (expected : Expected) (address : ℕ) (node : Node)
+pub IsFormed-way : (tree : TreeKind) (super : Super) (expected : Expected) (address : ℕ) (node : Node)
     → way_failure tree super expected address node ≡ None → IsFormed expected node
 unfolding way_failure
 IsFormed-way tree super expected address node none =
@@ -100,14 +100,14 @@ IsFormed-way tree super expected address node none =
     let parts = and_parts begins ends both.1 in
     record { level = both.0; begins = parts.0; ends = parts.1 }
 
-pub IsFormed-form : (tree : Tree) (super : Super) (expected : Expected) (address : ℕ) (node : Node)
+pub IsFormed-form : (tree : TreeKind) (super : Super) (expected : Expected) (address : ℕ) (node : Node)
     → form_failure tree super expected address node ≡ None → IsFormed expected node
 IsFormed-form tree super expected address node none =
     IsFormed-way tree super expected address node
     (neither (way_failure tree super expected address node) (shape_failure super.nodesize expected address node)
     none).0
 
-pub node_failure-formed : (tree : Tree) (super : Super) (expected : Expected) (address : ℕ) (node : Node)
+pub node_failure-formed : (tree : TreeKind) (super : Super) (expected : Expected) (address : ℕ) (node : Node)
     → form_failure tree super expected address node ≡ None
     → node_failure tree super expected address node
     ≡ unless (list_all (is_item_of tree super.generation) (own_items node)) rule.Item address
@@ -116,7 +116,7 @@ node_failure-formed tree super expected address node none =
     third_alone (way_failure tree super expected address node) (shape_failure super.nodesize expected address node)
     (unless (list_all (is_item_of tree super.generation) (own_items node)) rule.Item address) none
 
-pub node_failure-form : (tree : Tree) (super : Super) (expected : Expected) (address : ℕ) (node : Node)
+pub node_failure-form : (tree : TreeKind) (super : Super) (expected : Expected) (address : ℕ) (node : Node)
     (failure : Failure)
     → form_failure tree super expected address node ≡ Some failure
     → node_failure tree super expected address node ≡ Some failure
@@ -133,7 +133,7 @@ level_within (Some told) level depth is low h = let same = eqb-true told level i
 
 -- ---- the walk at one node
 
-found-standing : (tree : Tree) (super : Super) (walk : Expected → ℕ → Option Failure) (expected : Expected)
+found-standing : (tree : TreeKind) (super : Super) (walk : Expected → ℕ → Option Failure) (expected : Expected)
     (address : ℕ) (found : Result Node Failure) (failure : Failure)
     → standing_failure tree super expected address found ≡ Some failure
     → found_failure (node_failure tree super) walk expected address found ≡ Some failure
@@ -141,7 +141,8 @@ found-standing tree super walk expected address (Err other) failure is = is
 found-standing tree super walk expected address (Ok node) failure is =
     rw (node_failure-form tree super expected address node failure is) refl
 
-pub walk-standing : (tree : Tree) (super : Super) (found : ℕ → Result Node Failure) (depth : ℕ) (expected : Expected)
+pub walk-standing : (tree : TreeKind) (super : Super) (found : ℕ → Result Node Failure) (depth : ℕ)
+    (expected : Expected)
     (address : ℕ) (failure : Failure)
     → standing_failure tree super expected address (found address) ≡ Some failure
     → walk_failure (node_failure tree super) found depth expected address ≡ Some failure
@@ -152,7 +153,8 @@ walk-standing tree super found (suc depth) expected address failure is =
     found-standing tree super (walk_failure (node_failure tree super) found depth) expected address
     (found address) failure is
 
-found-leaf : (tree : Tree) (super : Super) (walk : Expected → ℕ → Option Failure) (expected : Expected) (address : ℕ)
+found-leaf : (tree : TreeKind) (super : Super) (walk : Expected → ℕ → Option Failure) (expected : Expected)
+    (address : ℕ)
     (found : Result Node Failure) (header : Header) (items : List Item)
     → found ≡ Ok (Leaf header items) → form_failure tree super expected address (Leaf header items) ≡ None
     → found_failure (node_failure tree super) walk expected address found
@@ -164,7 +166,7 @@ found-leaf tree super walk expected address found header items is none =
       first_alone None = refl
       first_alone (Some failure) = refl
 
-pub walk-leaf : (tree : Tree) (super : Super) (found : ℕ → Result Node Failure) (depth : ℕ) (expected : Expected)
+pub walk-leaf : (tree : TreeKind) (super : Super) (found : ℕ → Result Node Failure) (depth : ℕ) (expected : Expected)
     (address : ℕ) (header : Header) (items : List Item)
     → found address ≡ Ok (Leaf header items) → form_failure tree super expected address (Leaf header items) ≡ None
     → walk_failure (node_failure tree super) found depth expected address
@@ -176,7 +178,7 @@ walk-leaf tree super found (suc depth) expected address header items is none =
     found-leaf tree super (walk_failure (node_failure tree super) found depth) expected address
     (found address) header items is none
 
-pub walk-inner : (tree : Tree) (super : Super) (found : ℕ → Result Node Failure) (depth : ℕ) (expected : Expected)
+pub walk-inner : (tree : TreeKind) (super : Super) (found : ℕ → Result Node Failure) (depth : ℕ) (expected : Expected)
     (address : ℕ) (header : Header) (pointers : List Pointer)
     → found address ≡ Ok (Inner header pointers) → form_failure tree super expected address (Inner header pointers)
     ≡ None
@@ -207,7 +209,8 @@ pub record IsPassed (expected : Expected) (found : Result Node Failure) : Type 0
   pub is : found ≡ Ok node
   pub level : is_told expected.level (header_of node).level ≡ true
 
-found-passed : (tree : Tree) (super : Super) (walk : Expected → ℕ → Option Failure) (expected : Expected) (address : ℕ)
+found-passed : (tree : TreeKind) (super : Super) (walk : Expected → ℕ → Option Failure) (expected : Expected)
+    (address : ℕ)
     (found : Result Node Failure)
     → found_failure (node_failure tree super) walk expected address found ≡ None → IsPassed expected found
 unfolding node_failure
@@ -224,7 +227,7 @@ found-passed tree super walk expected address (Ok node) none =
       level = (IsFormed-way tree super expected address node (first_none way shape items at_node)).level;
     }
 
-pub walk-passed : (tree : Tree) (super : Super) (found : ℕ → Result Node Failure) (depth : ℕ) (expected : Expected)
+pub walk-passed : (tree : TreeKind) (super : Super) (found : ℕ → Result Node Failure) (depth : ℕ) (expected : Expected)
     (address : ℕ)
     → walk_failure (node_failure tree super) found depth expected address ≡ None → IsPassed expected (found address)
 unfolding walk_failure
@@ -244,7 +247,7 @@ pub level_no_higher : (told : Option ℕ) (level : ℕ) → is_told told level �
 level_no_higher None level is low = low
 level_no_higher (Some told) level is low = let same = eqb-true told level is in omega arith
 
-pub walk-told : (tree : Tree) (super : Super) (found : ℕ → Result Node Failure) (depth : ℕ) (expected : Expected)
+pub walk-told : (tree : TreeKind) (super : Super) (found : ℕ → Result Node Failure) (depth : ℕ) (expected : Expected)
     (address : ℕ) (fault : OpenFault)
     → TellsFailure fault (standing_failure tree super expected address (found address))
     → TellsFailure fault (walk_failure (node_failure tree super) found depth expected address)
@@ -253,7 +256,7 @@ walk-told tree super found depth expected address fault tells =
     (λ failure is. walk-standing tree super found depth expected address failure is)
 
 -- the walk fails as the leaf's items do
-pub FailsAs-leaf : (tree : Tree) (super : Super) (found : ℕ → Result Node Failure) (depth : ℕ) (expected : Expected)
+pub FailsAs-leaf : (tree : TreeKind) (super : Super) (found : ℕ → Result Node Failure) (depth : ℕ) (expected : Expected)
     (address : ℕ) (header : Header) (items : List Item)
     (result : Result Unit OpenFault) → found address ≡ Ok (Leaf header items)
     → form_failure tree super expected address (Leaf header items) ≡ None
@@ -263,7 +266,8 @@ FailsAs-leaf tree super found depth expected address header items result is none
     rw (walk-leaf tree super found depth expected address header items is none) fails
 
 -- the walk fails as the one below an inner node's pointers does
-pub FailsAs-inner : (tree : Tree) (super : Super) (found : ℕ → Result Node Failure) (depth : ℕ) (expected : Expected)
+pub FailsAs-inner : (tree : TreeKind) (super : Super) (found : ℕ → Result Node Failure) (depth : ℕ)
+    (expected : Expected)
     (address : ℕ) (header : Header) (pointers : List Pointer)
     (result : Result Unit OpenFault) → found address ≡ Ok (Inner header pointers)
     → form_failure tree super expected address (Inner header pointers) ≡ None

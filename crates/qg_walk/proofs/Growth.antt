@@ -21,7 +21,7 @@ use Rattle.qg_super.specs.declared.superblock.Super.{Super}
 use Rattle.qg_super.specs.Places.{is_slot}
 use Rattle.qg_super.specs.SuperText.{sizes_of}
 use Rattle.qg_image.specs.Below.{items_below, joined, nodes_below}
-use Rattle.qg_image.specs.declared.tree.Tree.{Tree}
+use Rattle.qg_image.specs.declared.tree.TreeKind.{TreeKind}
 use Rattle.qg_image.specs.declared.expected.Expected.{Expected}
 use Rattle.qg_image.specs.Failure.{unless}
 use Rattle.qg_image.specs.Walk.{is_item_of, next_key, node_found}
@@ -63,7 +63,7 @@ inner_stands super image address level header pointers items nodes is above own 
 
 -- ---- one node
 
-pub HasAdded-leaf : {P N : Type 0} (tree : Tree) (meaning : Item → Option P) (keeps : N → List Node
+pub HasAdded-leaf : {P N : Type 0} (tree : TreeKind) (meaning : Item → Option P) (keeps : N → List Node
     → Type 0) (super : Super) (history : History) (expected : Expected) (address : ℕ)
     (header : Header) (items : List Item) (old new : Found P N)
     → IsJudged tree super expected address (Leaf header items)
@@ -95,7 +95,7 @@ HasAdded-leaf tree meaning keeps super history expected address header items old
           (leaf_stands super (content events) address header items (found events told) stands.sound.levelled).1;
     }
 
-pub HasAdded-inner : {P N : Type 0} (tree : Tree) (meaning : Item → Option P) (keeps : N → List Node
+pub HasAdded-inner : {P N : Type 0} (tree : TreeKind) (meaning : Item → Option P) (keeps : N → List Node
     → Type 0) (super : Super) (history : History) (expected : Expected) (address : ℕ)
     (header : Header) (pointers : List Pointer) (old middle new : Found P N)
     → IsJudged tree super expected address (Inner header pointers)
@@ -136,7 +136,7 @@ HasAdded-inner tree meaning keeps super history expected address header pointers
 -- ---- the nodes that pointers lead to
 
 -- those in front of the rest were walked
-pub record HasPassed {P N : Type 0} (tree : Tree) (meaning : Item → Option P) (keeps : N → List Node
+pub record HasPassed {P N : Type 0} (tree : TreeKind) (meaning : Item → Option P) (keeps : N → List Node
     → Type 0) (super : Super) (history : History) (from to : Option Key) (level : ℕ)
     (pointers rest : List Pointer) (old new : Found P N) : Type 0 where
   pub front : List Pointer
@@ -167,7 +167,7 @@ joined-more under (next ∷ front) pointer first more h k =
     both_lists-more (under next) (joined under front) (joined under (front ++ pointer ∷ [])) first more
     (λ own is. joined-more under front pointer own more is k) h
 
-pub HasPassed-none : {P N : Type 0} (tree : Tree) (meaning : Item → Option P) (keeps : N → List Node
+pub HasPassed-none : {P N : Type 0} (tree : TreeKind) (meaning : Item → Option P) (keeps : N → List Node
     → Type 0) (super : Super) (history : History) (from to : Option Key) (level : ℕ)
     (pointers : List Pointer) (old : Found P N)
     → HasPassed tree meaning keeps super history from to level pointers pointers old old
@@ -190,7 +190,7 @@ HasPassed-none tree meaning keeps super history from to level pointers old = rec
   };
 }
 
-pub HasPassed-more : {P N : Type 0} (tree : Tree) (meaning : Item → Option P) (keeps : N → List Node
+pub HasPassed-more : {P N : Type 0} (tree : TreeKind) (meaning : Item → Option P) (keeps : N → List Node
     → Type 0) (super : Super) (history : History) (from to : Option Key) (level : ℕ)
     (pointers : List Pointer)
     (pointer : Pointer) (others : List Pointer) (old middle new : Found P N)
@@ -236,7 +236,7 @@ HasPassed-more tree meaning keeps super history from to level pointers pointer o
       };
     }
 
-pub HasPassed-all : {P N : Type 0} (tree : Tree) (meaning : Item → Option P) (keeps : N → List Node
+pub HasPassed-all : {P N : Type 0} (tree : TreeKind) (meaning : Item → Option P) (keeps : N → List Node
     → Type 0) (super : Super) (history : History) (from to : Option Key) (level : ℕ)
     (pointers rest : List Pointer) (old new : Found P N)
     → rest ≡ [] → HasPassed tree meaning keeps super history from to level pointers rest old new
@@ -249,7 +249,7 @@ HasPassed-all tree meaning keeps super history from to level pointers rest old n
     (below_pointers super level passed.front) old new) end passed.added)
 
 -- where a leaf's items were said and none broke its rule
-pub HasAdded-said : {P N : Type 0} (tree : Tree) (meaning : Item → Option P) (keeps : N → List Node
+pub HasAdded-said : {P N : Type 0} (tree : TreeKind) (meaning : Item → Option P) (keeps : N → List Node
     → Type 0) (super : Super) (history : History) (expected : Expected) (address : ℕ)
     (header : Header) (items : List Item) (old new : Found P N) (result : Result Unit OpenFault)
     → IsJudged tree super expected address (Leaf header items)

@@ -15,7 +15,7 @@ use Rattle.qg_num.specs.declared.key.Key.{Key}
 use Rattle.qg_num.proofs.KeyOrder.{key_cmp_total}
 use Rattle.qg_node.specs.declared.pointer.Pointer.{Pointer}
 use Rattle.qg_node.specs.Nodes.{ascends_from, is_ascending}
-use Rattle.qg_parts.proofs.Parts.{and-false}
+use Rattle.qg_tree_items.proofs.Parts.{and-false}
 use Rattle.qg_image.specs.IsShaped.{same_key}
 use Rattle.qg_image.specs.Walk.{begins_at, ends_before, next_key}
 use Rattle.qg_walk.specs.Added.{is_from, is_to, AreSpaced, AreWithin}

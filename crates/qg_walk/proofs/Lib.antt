@@ -3,4 +3,4 @@ pub mod Found
 pub mod KeyRanges
 pub mod Failures
 pub mod Growth
-pub mod Whole
+pub mod WholeTree

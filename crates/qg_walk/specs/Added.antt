@@ -14,7 +14,7 @@ use Rattle.qg_super.specs.declared.superblock.Super.{Super}
 use Rattle.qg_super.specs.Places.{is_slot}
 use Rattle.qg_super.specs.SuperText.{sizes_of}
 use Rattle.qg_image.specs.Below.{items_below, joined, nodes_below}
-use Rattle.qg_image.specs.declared.tree.Tree.{Tree}
+use Rattle.qg_image.specs.declared.tree.TreeKind.{TreeKind}
 use Rattle.qg_image.specs.Walk.{ends_before, is_item_of, next_key, node_found}
 use Rattle.qg_image.specs.ItemsUnder.{nodes_of}
 use Rattle.qg_image.specs.ImageState.{level_in}
@@ -81,7 +81,7 @@ found_by list walked = record { parts = list walked.parts; nodes = walked.nodes 
 -- What was found grew by what some items say, which the tree may hold, whose bodies are bytes and whose keys ascend
 -- within a range, and by what is kept of some nodes, which lie in slots. Where the disk tells what it holds, those are
 -- the items and nodes that stand there
-pub record HasAdded {P N : Type 0} (tree : Tree) (meaning : Item → Option P) (keeps : N → List Node
+pub record HasAdded {P N : Type 0} (tree : TreeKind) (meaning : Item → Option P) (keeps : N → List Node
     → Type 0) (super : Super) (history : History) (from to : Option Key) (below : List ℕ
     → Below) (old new : Found P N) : Type 0 where
   pub items : List Item

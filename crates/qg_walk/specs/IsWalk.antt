@@ -5,7 +5,7 @@ use Rattle.qg_num.specs.Fields.{IsBytes}
 use Rattle.qg_node.specs.declared.item.Item.{Item}
 use Rattle.qg_node.specs.declared.node.Node.{Node}
 use Rattle.qg_super.specs.declared.superblock.Super.{Super}
-use Rattle.qg_image.specs.declared.tree.Tree.{Tree}
+use Rattle.qg_image.specs.declared.tree.TreeKind.{TreeKind}
 use Rattle.qg_image.specs.declared.expected.Expected.{Expected}
 use Rattle.qg_image.specs.Walk.{is_item_of, node_found, tree_failure}
 use Rattle.qg_image.specs.ItemsUnder.{items_under, nodes_under}
@@ -13,7 +13,7 @@ use Rattle.qg_image.specs.ImageState.{level_in, tree_items, tree_nodes}
 
 -- In an image the walk of a tree meets no failure. What was found is what the tree's items say, from left to right, and
 -- what is kept of its nodes, each before those below it
-pub record IsWalk {P N : Type 0} (tree : Tree) (meaning : Item → Option P) (keeps : N → List Node
+pub record IsWalk {P N : Type 0} (tree : TreeKind) (meaning : Item → Option P) (keeps : N → List Node
     → Type 0) (super : Super) (image : List ℕ) (expected : Expected) (root : ℕ) (parts : List P)
     (nodes : N) : Type 0 where
   pub sound : tree_failure tree super image expected root ≡ None

@@ -2,4 +2,4 @@ pub mod Fault
 pub mod IsWalk
 pub mod Standing
 pub mod Added
-pub mod Held
+pub mod WalkKeeps

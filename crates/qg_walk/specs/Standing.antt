@@ -9,7 +9,7 @@ use Rattle.qg_super.specs.declared.superblock.Super.{Super}
 use Rattle.qg_super.specs.Places.{is_slot}
 use Rattle.qg_super.specs.SuperText.{sizes_of}
 use Rattle.qg_image.specs.declared.failure.Failure.{Failure}
-use Rattle.qg_image.specs.declared.tree.Tree.{Tree}
+use Rattle.qg_image.specs.declared.tree.TreeKind.{TreeKind}
 use Rattle.qg_image.specs.declared.expected.Expected.{Expected}
 use Rattle.qg_image.specs.Failure.{first_failure}
 use Rattle.qg_image.specs.Walk.{next_key, way_failure, shape_failure, deepest}
@@ -32,19 +32,19 @@ pub record StandsAt (super : Super) (address : ℕ) (node : Node) : Type 0 where
 
 -- the rules from `depth` to `shape`, in their order; `node_failure` has rule `item` behind them (lemmas
 -- `node_failure-form` and `node_failure-formed`)
-abbrev pub form_failure : Tree → Super → Expected → ℕ → Node → Option Failure
+abbrev pub form_failure : TreeKind → Super → Expected → ℕ → Node → Option Failure
 form_failure tree super expected address node =
     first_failure (way_failure tree super expected address node ∷ shape_failure super.nodesize expected address node
     ∷ [])
 
 -- the rules from `slot` to `shape`, in their order, where this was found at an address: a walk from there fails so
 -- first (lemma `walk-standing`)
-abbrev pub standing_failure : Tree → Super → Expected → ℕ → Result Node Failure → Option Failure
+abbrev pub standing_failure : TreeKind → Super → Expected → ℕ → Result Node Failure → Option Failure
 standing_failure tree super expected address (Err failure) = Some failure
 standing_failure tree super expected address (Ok node) = form_failure tree super expected address node
 
 -- a node was read at an address, and is none that the way to it rules out
-pub record IsJudged (tree : Tree) (super : Super) (expected : Expected) (address : ℕ) (node : Node) : Type 0 where
+pub record IsJudged (tree : TreeKind) (super : Super) (expected : Expected) (address : ℕ) (node : Node) : Type 0 where
   pub stands : StandsAt super address node
   pub formed : form_failure tree super expected address node ≡ None
 

@@ -10,8 +10,8 @@ use crate::keys;
 use qg_image::{Expected, Failure};
 use qg_node::{HEADER_BYTES, Node, Pointer};
 use qg_num::{Address, Generation, Key, Rule};
-use qg_parts::TreePart;
 use qg_super::Super;
+use qg_tree_items::TreePart;
 
 /// What is expected of the node of a level that a pointer leads to. `others` are the pointers behind it, `to` the next
 /// key on the way to its own node.

@@ -11,7 +11,7 @@ ghost use Rattle.qg_walk.specs.Added.{AddsSaid};
 use crate::OpenFault;
 use qg_node::Item;
 use qg_num::{Address, Generation, Rule};
-use qg_parts::{PartList, TreePart};
+use qg_tree_items::{PartList, TreePart};
 
 /// Puts what the items of the leaf at an address say behind what others said, where the tree may hold each.
 pub fn add_said<P: TreePart, L: PartList<P>>(

@@ -20,7 +20,7 @@ pub trait NodeList: Sized + Drop {
 
 /// Where nodes lie, in bytes.
 impl NodeList for Sequence<Address> {
-    ghost use Rattle.qg_walk.specs.Held.{AreAddressesOf};
+    ghost use Rattle.qg_walk.specs.WalkKeeps.{AreAddressesOf};
 
     ghost keeps = { AreAddressesOf };
 

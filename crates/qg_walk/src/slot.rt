@@ -5,13 +5,12 @@ ghost use Rattle.qg_device.specs.History.{Event, Recorded, content};
 ghost use Rattle.qg_super.specs.Places.{is_served, total_bytes};
 ghost use Rattle.qg_super.specs.SuperText.{sizes_of};
 ghost use Rattle.qg_image.specs.Walk.{node_found};
-ghost use Rattle.qg_image.specs.Failure.{rule_of};
 ghost use Rattle.qg_walk.specs.Fault.{FindsAs};
 ghost use Rattle.qg_walk.specs.Standing.{StandsAt};
 
 use crate::OpenFault;
 use qg_disk::Disk;
-use qg_node::{Node, NodeFault, ReadFault, read_node};
+use qg_node::{Node, ReadFault, read_node};
 use qg_num::{Address, Rule};
 use qg_super::Super;
 use std::alloc::Global;
@@ -44,24 +43,9 @@ pub(crate) fn node_at<D: Disk>(
     match read_node(alloc, buffer, address) {
         Ok(node) => Ok(node),
         Err(ReadFault::Bad(fault)) => Err(OpenFault::Broken {
-            rule: rule_of(fault),
+            rule: fault.rule(),
             address,
         }),
         Err(ReadFault::NoMemory) => Err(OpenFault::NoMemory),
-    }
-}
-
-/// The rule that bytes break as a node.
-fn rule_of(fault: NodeFault) -> Rule
-    ensures { result ≡ rule_of fault }
-{
-    match fault {
-        NodeFault::Csum => Rule::Csum,
-        NodeFault::Place => Rule::Place,
-        NodeFault::Level => Rule::Level,
-        NodeFault::Empty => Rule::Empty,
-        NodeFault::Bounds => Rule::Bounds,
-        NodeFault::Order => Rule::Order,
-        NodeFault::Slack => Rule::Slack,
     }
 }

@@ -16,8 +16,8 @@ use qg_disk::Disk;
 use qg_image::Expected;
 use qg_node::Node;
 use qg_num::Address;
-use qg_parts::TreePart;
 use qg_super::Super;
+use qg_tree_items::TreePart;
 use std::alloc::Global;
 
 /// Reads the node at an address, judges it by all rules but those on its items, and keeps what is wanted of it.

@@ -5,9 +5,9 @@ ghost use Rattle.qg_device.specs.History.{Event, Recorded, content};
 ghost use Rattle.qg_super.specs.Places.{is_served, total_bytes};
 ghost use Rattle.qg_super.specs.SuperText.{sizes_of};
 ghost use Rattle.qg_image.specs.Walk.{node_failure, node_found, pointers_failure, tree_failure, walk_failure};
-ghost use Rattle.qg_parts.specs.Said.{AreSaid};
+ghost use Rattle.qg_tree_items.specs.Said.{AreSaid};
 ghost use Rattle.qg_walk.specs.Fault.{FailsAs, TellsFailure};
-ghost use Rattle.qg_walk.specs.Held.{AreHeld, AreInSlots};
+ghost use Rattle.qg_walk.specs.WalkKeeps.{AreHeld, AreInSlots};
 ghost use Rattle.qg_walk.specs.IsWalk.{IsWalk};
 ghost use Rattle.qg_walk.specs.Standing.{levels_below};
 ghost use Rattle.qg_walk.specs.Added.{AreSpaced, HasAdded, below_node, below_pointers, found_by};
@@ -20,8 +20,8 @@ use qg_disk::Disk;
 use qg_image::Expected;
 use qg_node::{Node, Pointer};
 use qg_num::Address;
-use qg_parts::{PartList, TreePart};
 use qg_super::Super;
+use qg_tree_items::{PartList, TreePart};
 use std::alloc::Global;
 
 /// Reads the tree under a root: each node once, judged by all rules in their order before those below it (this

@@ -19,7 +19,7 @@ use Rattle.qg_image.specs.Record.{Record, RootOf, ExtentOf, NodeOf, ReferenceTo,
 use Rattle.qg_image.specs.Record.{same_record, same_reference}
 use Rattle.qg_image.specs.State.{Layout, Placed}
 use Rattle.qg_image.proofs.Contained.{contains_cases, contains_here, contains_later, none_contained}
-use Rattle.qg_home.proofs.Reaching.{entry_of_value, value_of_entry}
+use Rattle.qg_owner_rule.proofs.Reaching.{entry_of_value, value_of_entry}
 use Rattle.qg_extents.specs.Types.{Counted}
 use Rattle.qg_extents.specs.Types.{What}
 use Rattle.qg_extents.specs.Types.{Kept}

@@ -5,4 +5,4 @@ pub mod Hyphens
 pub mod Line
 pub mod OneForm
 pub mod Steps
-pub mod Told
+pub mod FormsOfMatches

@@ -1,14 +1,14 @@
 // What no clause says: that calls succeed with ample memory, over a disk and with room for one node. What is expected
 // was worked out by hand.
 ghost use Rattle.std.specs.Prelude.{◌≡◌, ◌<◌, ◌≤◌, IfOk};
-ghost use Rattle.qg_descent.specs.Way.{IsReadable};
+ghost use Rattle.qg_tree_read.specs.Way.{IsReadable};
 
 use qg_blocks::Blocks;
-use qg_descent::Tree;
 use qg_disk::{Disk, MemDisk};
 use qg_image::FilePart;
 use qg_node::{Body, Header, Item, Items, Node, Pointer, Pointers, write_node};
 use qg_num::{Address, BlockFault, Generation, Key, NoMemory, RootId, Rule, Steps};
+use qg_tree_read::Tree;
 use std::alloc::Global;
 use std::marker::Brand;
 use std::process::Abort;

@@ -2,7 +2,7 @@
 ghost use Rattle.std.specs.Prelude.{◌≡◌, IfOk};
 ghost use Rattle.qg_files.specs.Apart.{AreApart};
 
-use qg_exchange::{Step, steps_between};
+use qg_file_edits::{Step, steps_between};
 use qg_num::{Address, Generation, NoMemory, Piece, Pieces};
 use std::alloc::Global;
 use std::test::Fail;

@@ -2,12 +2,12 @@
 // back slots. Addresses and counts were worked out by hand.
 ghost use Rattle.std.specs.Prelude.{◌≡◌, ◌<◌, ℕ, List, IfOk};
 ghost use Rattle.qg_device.specs.History.{History};
-ghost use Rattle.qg_blocks.specs.Told.{IsBacked};
-ghost use Rattle.qg_ground.specs.Land.{IsDrafted};
+ghost use Rattle.qg_blocks.specs.NodesFound.{IsBacked};
+ghost use Rattle.qg_node_alloc.specs.Land.{IsDrafted};
 
 use qg_disk::{Disk, MemDisk};
-use qg_ground::{Ground, SlotBook, leave_node, make_node, own_node};
 use qg_node::{Header, Items, Node, write_node};
+use qg_node_alloc::{Ground, SlotBook, cow_node, leave_node, make_node};
 use qg_num::{Address, Generation, RootId, Steps};
 use qg_super::Sizes;
 use std::alloc::Global;
@@ -85,7 +85,7 @@ fn own<D: Disk, L: Ledger>(
         return Err(Fail::from("no slot is free"));
     }
     let (owner, next) = (RootId::new(256), Generation::new(2));
-    Ok(own_node(alloc, land, disk, book, at, owner, next, reads)?)
+    Ok(cow_node(alloc, land, disk, book, at, owner, next, reads)?)
 }
 
 // The first slot was told once, and is free again but for the last commit.

@@ -1,10 +1,9 @@
 // What no clause says: that calls succeed with ample memory, and what is answered of items that are those of no file.
 // What is expected was worked out by hand.
 ghost use Rattle.std.specs.Prelude.{◌≡◌, ◌<◌, IfOk};
-ghost use Rattle.qg_descent.specs.Way.{IsReadable};
+ghost use Rattle.qg_tree_read.specs.Way.{IsReadable};
 
 use qg_blocks::Blocks;
-use qg_descent::Tree;
 use qg_disk::{Disk, MemDisk};
 use qg_image::File;
 use qg_inodes::{file_of, inode_of, pieces_meeting};
@@ -16,6 +15,7 @@ use qg_node::{Body, Header, Item, Items, Node, write_node};
 use qg_num::{
     Address, BlockFault, Generation, Ino, Key, NoMemory, Piece, Pieces, RootId, Rule, Steps,
 };
+use qg_tree_read::Tree;
 use std::alloc::Global;
 use std::marker::Brand;
 use std::process::Abort;

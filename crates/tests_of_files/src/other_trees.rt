@@ -7,9 +7,9 @@ use qg_image::{Group, Quota};
 use qg_items::RootItem;
 use qg_node::{Item, Node};
 use qg_num::{Address, Counters, Generation, GroupId, NoMemory, RootId, Sequence};
-use qg_other_trees::{OtherTrees, Told, lay_other_trees, stamp_after};
+use qg_other_trees::{OtherTrees, TreeContents, lay_other_trees, stamp_after};
 use qg_super::Sizes;
-use qg_tree::Built;
+use qg_tree_layout::Built;
 use std::alloc::Global;
 use std::test::Fail;
 
@@ -96,7 +96,7 @@ fn lay_seventh(alloc: Global) -> Result<OtherTrees, NoMemory> {
     let roots = own_roots();
     let group = one_group(alloc)?;
     let quota = Some(group);
-    let told = Told {
+    let told = TreeContents {
         roots: &roots,
         book: &book,
         quota: &quota,
@@ -109,7 +109,7 @@ fn lay_without_quota(alloc: Global) -> Result<OtherTrees, NoMemory> {
     let book = fresh_records(alloc, sizes(), Address::new(ROOT))?;
     let roots = own_roots();
     let quota = None;
-    let told = Told {
+    let told = TreeContents {
         roots: &roots,
         book: &book,
         quota: &quota,

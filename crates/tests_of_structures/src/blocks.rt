@@ -3,8 +3,8 @@
 ghost use Rattle.std.specs.Prelude.{◌≡◌, ◌<◌, IfOk, IsSome, IsTrue, List, OnOk, Some};
 ghost use Rattle.qg_device.specs.History.{History};
 ghost use Rattle.qg_node.specs.declared.node.Node.{Node as NodeValue};
-ghost use Rattle.qg_blocks.specs.Held.{nothing_fresh, slots_of};
-ghost use Rattle.qg_blocks.specs.Told.{IsBacked, IsNodeAt, fresh_at};
+ghost use Rattle.qg_blocks.specs.NodesInMemory.{nothing_fresh, slots_of};
+ghost use Rattle.qg_blocks.specs.NodesFound.{IsBacked, IsNodeAt, fresh_at};
 ghost use Rattle.qg_blocks.specs.Writing.{HasWritten, IsPlaced};
 
 mod flip;

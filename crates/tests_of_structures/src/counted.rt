@@ -1,9 +1,8 @@
 ghost use Rattle.std.specs.Prelude.{◌≡◌, ◌<◌, length, IfOk};
 
-use qg_counted::{Portion, group_counters};
-use qg_home::Linked;
 use qg_num::{Address, Counters, NoMemory, RootId, Sequence};
-use qg_reached::{Reached, SetId, reached_from};
+use qg_owner_rule::Linked;
+use qg_qgroup_counts::{Portion, Reached, SetId, group_counters, reached_from};
 use std::alloc::Global;
 use std::test::Fail;
 
@@ -46,7 +45,7 @@ fn places(alloc: Global, told: &[usize]) -> Result<Sequence<usize>, NoMemory>
 }
 
 // The counters of three groups by one node alone: two of one subvolume each, and one above both.
-#[tactic(auto, using(qg_counted::proofs::Weights::one_small))]
+#[tactic(auto, using(qg_qgroup_counts::proofs::SetWeights::one_small))]
 fn grouped_alone(
     alloc: Global,
     reached: &Reached,

@@ -1,10 +1,10 @@
 ghost use Rattle.std.specs.Prelude.{◌≡◌, IfOk};
 
-use qg_direct::{Surveyed, group_counts};
-use qg_hier::{HierFault, Hierarchy};
-use qg_home::Linked;
 use qg_image::Element;
 use qg_num::{Address, Counters, GroupId, NoMemory, RootId, Sequence};
+use qg_owner_rule::Linked;
+use qg_qgroup_counts::{Surveyed, group_counts};
+use qg_qgroups::{HierFault, Hierarchy};
 use std::alloc::Global;
 use std::test::Fail;
 

@@ -1,7 +1,7 @@
-use qg_file_parts::FileRow;
 use qg_image::FilePart;
 use qg_items::InodeItem;
 use qg_num::{Address, Generation, Ino, Piece};
+use qg_tree_items::FileRow;
 use std::test::Fail;
 
 fn file(ino: u64, size: u64, nbytes: u64) -> FilePart {

@@ -1,6 +1,6 @@
-use qg_home::linked_of;
 use qg_node::{Header, Node, Pointer, Pointers};
 use qg_num::{Address, Generation, Key, RootId};
+use qg_owner_rule::linked_of;
 use std::test::Fail;
 
 #[test]

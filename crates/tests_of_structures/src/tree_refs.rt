@@ -2,20 +2,19 @@
 // Addresses are in bytes.
 ghost use Rattle.std.specs.Prelude.{◌≡◌, ◌<◌, ℕ, List, IfOk};
 ghost use Rattle.qg_device.specs.History.{History};
-ghost use Rattle.qg_refs.specs.Counts.{greatest_count};
-ghost use Rattle.qg_blocks.specs.Told.{IsBacked};
-ghost use Rattle.qg_ground.specs.Land.{IsDrafted};
+ghost use Rattle.qg_blocks.specs.NodesFound.{IsBacked};
+ghost use Rattle.qg_node_alloc.specs.Land.{IsDrafted};
 
 use qg_disk::{Disk, MemDisk};
 use qg_extents::Extents;
-use qg_ground::{Ground, leave_node, own_node};
 use qg_items::kind::EXTENT_DATA;
 use qg_items::{EXTENT_DATA_BYTES, ExtentData, Reference, write_extent_data};
 use qg_node::{Body, Header, Item, Items, Node, write_node};
+use qg_node_alloc::{Ground, cow_node, leave_node};
 use qg_num::{Address, Generation, Ino, Key, NoMemory, RootId, Steps};
-use qg_refs::What;
+use qg_refs::{What, greatest_count};
 use qg_super::Sizes;
-use qg_tree_refs::TreeRefs;
+use qg_tree_backrefs::TreeRefs;
 use qg_weighed::Weighed;
 use std::alloc::Global;
 use std::marker::Brand;
@@ -114,16 +113,6 @@ fn from_root() -> Reference {
     }
 }
 
-// The greatest count of a reference: a node's is there once.
-fn greatest_count(reference: &Reference) -> u32
-    ensures { result ≡ greatest_count reference.now }
-{
-    match reference {
-        Reference::KeyedBlock { .. } | Reference::SharedBlock { .. } => 1,
-        Reference::KeyedData { .. } | Reference::SharedData { .. } => u32::MAX,
-    }
-}
-
 // One reference more, to a leaf or to an extent.
 fn put(refs: &mut Extents, at: u64, level: Option<u8>, reference: Reference) -> Result<(), Fail> {
     let what = What {
@@ -161,7 +150,7 @@ fn own<D: Disk, L: Ledger>(
         return Err(Fail::from("no slot is free"));
     }
     let (root, owner, next) = (Address::new(ROOT), RootId::new(5), Generation::new(2));
-    Ok(own_node(alloc, land, disk, book, root, owner, next, reads)?)
+    Ok(cow_node(alloc, land, disk, book, root, owner, next, reads)?)
 }
 
 fn book_of(refs: Weighed, tree: u64) -> TreeRefs {

@@ -2,7 +2,7 @@
 // too; this is to show that the definitions say what they mean, that nodes of all levels are cut and joined on the way,
 // and that no slot is lost, which none says.
 ghost use Rattle.std.specs.Prelude.{◌≡◌, ◌≤◌, ◌<◌};
-ghost use Rattle.qg_blocks.specs.Held.{most_clean};
+ghost use Rattle.qg_blocks.specs.NodesInMemory.{most_clean};
 
 use crate::plain::{Entry, Plain, all_items, are, bytes_of, empty_tree, put, take};
 use qg_disk::{Disk, SureDisk};

@@ -1,6 +1,6 @@
 // A plain sorted list, which says what a tree holds that was edited as the list was.
 ghost use Rattle.std.specs.Prelude.{◌≡◌, ◌≤◌, ◌<◌, length};
-ghost use Rattle.qg_blocks.specs.Held.{most_clean};
+ghost use Rattle.qg_blocks.specs.NodesInMemory.{most_clean};
 
 use qg_disk::Disk;
 use qg_node::{Body, Item, Items};

@@ -11,19 +11,19 @@ use Rattle.qg_node.specs.NodeText.{IsNodeSize}
 use Rattle.qg_super.specs.Places.{is_served, second_place}
 use Rattle.qg_super.proofs.Served.{SizesFit-is_served}
 use Rattle.qg_space.specs.Holding.{free_slots}
-use Rattle.qg_blocks.specs.Held.{Draft, Held, nothing_fresh}
-use Rattle.qg_blocks.specs.Told.{IsBacked}
+use Rattle.qg_blocks.specs.NodesInMemory.{Draft, Held, nothing_fresh}
+use Rattle.qg_blocks.specs.NodesFound.{IsBacked}
 use Rattle.qg_image.specs.ItemMeaning.{is_subvolume_number}
-use Rattle.qg_image.specs.declared.tree.Tree.TheVariants.{Files}
-use Rattle.qg_ground.specs.declared.ground.Ground.{Ground}
-use Rattle.qg_ground.specs.Land.{IsDrafted, IsGround, Rests}
-use Rattle.qg_ground.proofs.Editing.{ArePlaced-drafted}
-use Rattle.qg_ground.proofs.Lands.{IsDrafted-none, Rests-draft}
-use Rattle.qg_descent.specs.Tree.{Root}
+use Rattle.qg_image.specs.declared.tree.TreeKind.TheVariants.{Files}
+use Rattle.qg_node_alloc.specs.declared.ground.Ground.{Ground}
+use Rattle.qg_node_alloc.specs.Land.{IsDrafted, IsGround, Rests}
+use Rattle.qg_node_alloc.proofs.Editing.{ArePlaced-drafted}
+use Rattle.qg_node_alloc.proofs.Lands.{IsDrafted-none, Rests-draft}
+use Rattle.qg_tree_read.specs.Tree.{Root}
 use Rattle.qg_tree_edits.specs.Editing.{CanMake, IsEditable}
 use Rattle.qg_tree_edits.specs.Rooting.{Grows}
 use Rattle.qg_tree_build.specs.Building.{CanBuild, most_nodes}
-use Rattle.qg_descent.specs.Way.{HasRead, IsReadable}
+use Rattle.qg_tree_read.specs.Way.{HasRead, IsReadable}
 
 module _ (land : Ground) (history : History) (bytes generation : ℕ) where
   -- it is read

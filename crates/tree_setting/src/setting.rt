@@ -2,20 +2,20 @@
 ghost use Rattle.std.specs.Prelude.{◌≡◌, ◌+◌, ◌*◌, ◌<◌, ◌≤◌, IsTrue};
 ghost use Rattle.qg_node.specs.Nodes.{header_of};
 ghost use Rattle.qg_super.specs.Places.{is_served};
-ghost use Rattle.qg_blocks.specs.Held.{most_clean, slots_of};
+ghost use Rattle.qg_blocks.specs.NodesInMemory.{most_clean, slots_of};
 ghost use Rattle.qg_space.specs.Holding.{free_slots};
 
 use crate::buildable::is_buildable;
 use crate::writing::{empty_land, hold_first, lengthen, write_fresh};
-use qg_descent::Tree;
 use qg_disk::Disk;
-use qg_ground::{Ground, SlotBook, make_node};
 use qg_image::FilePart;
 use qg_node::{Body, Header, Item, Items, Node};
+use qg_node_alloc::{Ground, SlotBook, make_node};
 use qg_num::{Address, BlockFault, Generation, Key, RootId, Sequence, Steps};
 use qg_super::Sizes;
 use qg_tree_build::build;
 use qg_tree_edits::{drop_first_leaf, insert, remove, replace};
+use qg_tree_read::Tree;
 use std::alloc::Global;
 use std::marker::Model;
 use std::sync::ledger::{Blank, Ledger};
@@ -45,8 +45,8 @@ pub struct Setting<D: Disk + Drop, L: Ledger> {
 
 impl<D: Disk + Drop, L: Ledger> Model for Setting<D, L> {
     ghost use Rattle.std.specs.Prelude.{◌≡◌, ◌<◌, ⊤};
-    ghost use Rattle.qg_blocks.specs.Held.{slots_of};
-    ghost use Rattle.qg_image.specs.declared.tree.Tree.TheVariants.{Files};
+    ghost use Rattle.qg_blocks.specs.NodesInMemory.{slots_of};
+    ghost use Rattle.qg_image.specs.declared.tree.TreeKind.TheVariants.{Files};
     ghost use Rattle.qg_tree_edits.specs.Editing.{CanMake, IsEditable};
 
     ghost Value = { ⊤ };

@@ -2,15 +2,15 @@
 ghost use Rattle.std.specs.Prelude.{◌≡◌, ◌+◌, ◌<◌, ◌≤◌, ◌^◌, List, OnOk, IfOk, IsTrue, length};
 ghost use Rattle.qg_device.specs.History.{History, Wrote, with_event};
 ghost use Rattle.qg_super.specs.Places.{is_served, second_place};
-ghost use Rattle.qg_blocks.specs.Held.{most_clean, nothing_fresh, slots_of};
-ghost use Rattle.qg_blocks.specs.Told.{IsBacked, IsNodeAt};
+ghost use Rattle.qg_blocks.specs.NodesInMemory.{most_clean, nothing_fresh, slots_of};
+ghost use Rattle.qg_blocks.specs.NodesFound.{IsBacked, IsNodeAt};
 ghost use Rattle.qg_blocks.specs.Writing.{HasWritten, IsPlaced};
 ghost use Rattle.qg_space.specs.Holding.{nothing_held};
 
 use qg_blocks::{Blocks, has_slot};
 use qg_disk::{Disk, DiskFault};
-use qg_ground::Ground;
 use qg_node::{Node, write_node};
+use qg_node_alloc::Ground;
 use qg_num::{Address, BlockFault, NoMemory};
 use qg_space::Space;
 use qg_super::{SECOND_PLACE, Sizes};

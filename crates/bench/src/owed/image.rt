@@ -1,9 +1,9 @@
 // What is told of an image.
-use qg_home::Linked;
+use qg_backref_rule::{Kind, Owing, Thing};
 use qg_image::ExtentPart;
 use qg_items::{ExtentItem, Reference};
 use qg_num::{Address, BlockFault, Generation, Ino, RootId, Sequence};
-use qg_owed::{Kind, Owing, Thing};
+use qg_owner_rule::Linked;
 use std::alloc::{AllocError, Global};
 
 /// Where the first slot lies, in bytes.

@@ -4,7 +4,7 @@ use qg_extents::Extents;
 use qg_image::ExtentPart;
 use qg_node::Items;
 use qg_num::{BlockFault, Generation};
-use qg_parts::TreePart;
+use qg_tree_items::TreePart;
 use std::alloc::Global;
 
 /// The book that items of an extent tree tell: what each item says, and then the book.

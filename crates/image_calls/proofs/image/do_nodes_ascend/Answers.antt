@@ -1,6 +1,6 @@
 use Rattle.std.proofs.Common.{arith}
-use Rattle.qg_home.specs.declared.linked.Linked.{Linked}
-use Rattle.qg_gathered.proofs.Sorted.{numbers_rise}
+use Rattle.qg_owner_rule.specs.declared.linked.Linked.{Linked}
+use Rattle.qg_shared_walk.proofs.Sorted.{numbers_rise}
 use Rattle.image_calls.proofs.image.do_nodes_ascend.Goals as goal
 
 pub returns : goal.returns

@@ -1,5 +1,5 @@
 use Rattle.std.proofs.Common.{ℕ, arith}
-use Rattle.qg_gathered.proofs.Sorted.{numbers_rise}
+use Rattle.qg_shared_walk.proofs.Sorted.{numbers_rise}
 use Rattle.image_calls.proofs.image.do_roots_ascend.Goals as goal
 
 pub returns : goal.returns

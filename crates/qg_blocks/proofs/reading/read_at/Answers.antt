@@ -40,7 +40,7 @@ returns-in-Err-Bad-clause-found g c events told =
     let has = sym c.has_slot.ensures ∙ c.if-not-has_slot.false in
     let text = rw (c.value.ensures, c.requires.buffer) at (c.in-Ok.ensures.bytes events told) in
     let exact = rw c.in-Err-Bad.field-0-is at c.in-Err-Bad.ensures.exact in
-    rw (c.broken-in-Err-Bad.ensures, c.rule_of.ensures) (
+    rw (c.broken-in-Err-Bad.ensures, c.rule.ensures) (
       refl,
       standing-read c.args.sizes.now c.len.result c.args.address (content events) c.read.new.buf
           (Err c.in-Err-Bad.fault)
@@ -64,7 +64,7 @@ returns-then-not-has_slot-clause-broken g c =
 pub returns-in-Err-Bad-clause-broken : goal.returns-in-Err-Bad-clause-broken
 returns-in-Err-Bad-clause-broken g c =
     let exact = rw c.in-Err-Bad.field-0-is at c.in-Err-Bad.ensures.exact in
-    rw (c.broken-in-Err-Bad.ensures, c.rule_of.ensures) (
+    rw (c.broken-in-Err-Bad.ensures, c.rule.ensures) (
       refl,
       inr (record {
         bytes = c.read.new.buf;

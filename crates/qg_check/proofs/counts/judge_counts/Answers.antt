@@ -1,8 +1,8 @@
 use Rattle.std.proofs.Common.{Option, ap, subst, ◌∙◌}
 use Rattle.std.specs.Prelude.{IfSome}
 use Rattle.qg_image.specs.Verdict.{counts_failure}
-use Rattle.qg_groups.specs.declared.state.QuotaState.{QuotaState}
-use Rattle.qg_groups.specs.Tracked.{quota_of, IsTracked}
+use Rattle.qg_qgroups.specs.declared.state.QuotaState.{QuotaState}
+use Rattle.qg_qgroups.specs.Tracked.{quota_of, IsTracked}
 use Rattle.qg_check.proofs.Counters.{counts_none}
 use Rattle.qg_check.proofs.Staging.{fails_same}
 use Rattle.qg_check.proofs.counts.judge_counts.Goals as goal

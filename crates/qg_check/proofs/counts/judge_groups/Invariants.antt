@@ -4,7 +4,7 @@ use Rattle.qg_image.specs.declared.quota.Quota.{Quota}
 use Rattle.qg_image.specs.Members.{hierarchy_of}
 use Rattle.qg_image.specs.State.{Layout}
 use Rattle.qg_image.specs.Verdict.{group_failure}
-use Rattle.qg_direct.specs.Direct.{AreGroupCounts}
+use Rattle.qg_qgroup_counts.specs.Direct.{AreGroupCounts}
 use Rattle.qg_check.proofs.Counters.{HaveJudged}
 use Rattle.qg_check.proofs.counts.judge_groups.Given as goal
 

@@ -5,7 +5,7 @@ use Rattle.qg_image.specs.declared.quota.Group.{Group}
 use Rattle.qg_image.specs.Members.{Hierarchy, hierarchy_of}
 use Rattle.qg_image.specs.Failure.{first_failure}
 use Rattle.qg_image.specs.Verdict.{group_failure}
-use Rattle.qg_direct.specs.Direct.{AreGroupCounts}
+use Rattle.qg_qgroup_counts.specs.Direct.{AreGroupCounts}
 use Rattle.qg_check.proofs.Counters.{as_many, counts_judged}
 use Rattle.qg_check.proofs.Staging.{fails_same}
 use Rattle.qg_check.proofs.counts.judge_state.Goals as goal

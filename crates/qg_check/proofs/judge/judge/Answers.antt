@@ -6,10 +6,10 @@ use Rattle.qg_image.specs.declared.part.ExtentPart.{ExtentPart}
 use Rattle.qg_image.specs.Owed.{part_address}
 use Rattle.qg_image.specs.State.{layout_of}
 use Rattle.qg_image.specs.ImageState.{state_in}
-use Rattle.qg_direct.specs.declared.surveyed.Surveyed.{Surveyed}
+use Rattle.qg_qgroup_counts.specs.declared.surveyed.Surveyed.{Surveyed}
 use Rattle.qg_shared_walk.specs.Gathered.{root_at}
-use Rattle.qg_groups.specs.declared.state.QuotaState.{QuotaState}
-use Rattle.qg_groups.specs.Tracked.{IsTracked}
+use Rattle.qg_qgroups.specs.declared.state.QuotaState.{QuotaState}
+use Rattle.qg_qgroups.specs.Tracked.{IsTracked}
 use Rattle.qg_check.proofs.Judging.{AreNamedBy}
 use Rattle.qg_check.proofs.Staging.{tells_same, fails_handed}
 use Rattle.qg_check.proofs.Together.{bytes_small, counts_told, gathered_slices, numbers_up, references_told}

@@ -14,8 +14,8 @@ use Rattle.qg_image.specs.ImageState.{state_in}
 use Rattle.std.specs.Option.{option_map}
 use Rattle.qg_reach.specs.Sets.{HaveSame}
 use Rattle.qg_extents.specs.Table.{book_of}
-use Rattle.qg_extents.specs.Told.{IsTold, records_failure}
-use Rattle.qg_direct.specs.declared.surveyed.Surveyed.{Surveyed}
+use Rattle.qg_extents.specs.BookRecords.{IsTold, records_failure}
+use Rattle.qg_qgroup_counts.specs.declared.surveyed.Surveyed.{Surveyed}
 use Rattle.qg_check.specs.Trees.{AreFitParts}
 use Rattle.qg_check.specs.declared.trees.ExtentTree.{ExtentTree}
 use Rattle.qg_check.specs.declared.trees.Trees.{Trees}

@@ -7,7 +7,7 @@ use Rattle.qg_image.specs.Table.{keys_of}
 use Rattle.qg_image.specs.Failure.{first_failure}
 use Rattle.qg_image.specs.ImageState.{roots_in}
 use Rattle.qg_image.specs.Verdict.{subvolume_failure, together_failure}
-use Rattle.qg_groups.specs.Tracked.{quota_of}
+use Rattle.qg_qgroups.specs.Tracked.{quota_of}
 use Rattle.qg_check.specs.Editable.{AreGroupsOf}
 use Rattle.qg_check.specs.Trees.{AreFileTrees, AreNamed, AreTrees}
 use Rattle.qg_check.specs.declared.trees.QuotaTree.{QuotaTree}

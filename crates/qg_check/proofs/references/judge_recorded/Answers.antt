@@ -6,8 +6,8 @@ use Rattle.qg_walk.specs.declared.fault.OpenFault.TheVariants.{Disk}
 use Rattle.qg_walk.proofs.Failures.{TellsFailure-of, told-no_disk}
 use Rattle.std.specs.List.Sorted.{IsStrictlyIncreasing}
 use Rattle.qg_reach.specs.Sets.{HaveSame}
-use Rattle.qg_direct.specs.Surveyed.{AreSurveyed}
-use Rattle.qg_shared_walk.specs.Types.{Judged}
+use Rattle.qg_qgroup_counts.specs.Surveyed.{AreSurveyed}
+use Rattle.qg_shared_walk.specs.declared.judging.ReferenceVerdict.{ReferenceVerdict}
 use Rattle.qg_shared_walk.specs.Judged.{IfKept, failure_in}
 use Rattle.qg_check.proofs.references.judge_recorded.Goals as goal
 
@@ -27,18 +27,19 @@ returns-in-Keeps-clause-failure c = λ super bytes items roots are.
 
 pub returns-in-Keeps-clause-surveyed : goal.returns-in-Keeps-clause-surveyed
 returns-in-Keeps-clause-surveyed c = λ super bytes items roots are.
-    subst (λ (judged : Judged). IfKept judged
+    subst (λ (judged : ReferenceVerdict). IfKept judged
     (λ those. AreSurveyed (layout_of (state_in super bytes)) c.args.roots.now those super.nodesize
     c.args.extents.now))
     c.in-Keeps.is (c.in_ok-surveyed.ensures.surveyed super bytes items roots are)
 
 pub returns-in-Keeps-clause-ascending : goal.returns-in-Keeps-clause-ascending
 returns-in-Keeps-clause-ascending c =
-    subst (λ (judged : Judged). IfKept judged (λ those. IsStrictlyIncreasing (map (λ node. node.linked.address) those)))
+    subst (λ (judged : ReferenceVerdict). IfKept judged
+    (λ those. IsStrictlyIncreasing (map (λ node. node.linked.address) those)))
     c.in-Keeps.is c.in_ok-surveyed.ensures.ascending
 
 pub returns-in-Keeps-clause-same : goal.returns-in-Keeps-clause-same
 returns-in-Keeps-clause-same c =
-    subst (λ (judged : Judged). IfKept judged (λ those. HaveSame (map (λ node. node.linked.address) those)
+    subst (λ (judged : ReferenceVerdict). IfKept judged (λ those. HaveSame (map (λ node. node.linked.address) those)
     (map (λ node. node.linked.address) c.args.nodes.nodes.items)))
     c.in-Keeps.is c.in_ok-surveyed.ensures.same

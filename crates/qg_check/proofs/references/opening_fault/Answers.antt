@@ -3,7 +3,7 @@ use Rattle.std.specs.Option.{option_map}
 use Rattle.qg_num.specs.declared.rule.Rule.TheVariants as rule
 use Rattle.qg_image.specs.declared.failure.Failure.TheVariants.{Broken}
 use Rattle.qg_extents.specs.declared.fault.RefsFault.{RefsFault}
-use Rattle.qg_extents.specs.Told.{IsFault}
+use Rattle.qg_extents.specs.BookRecords.{IsFault}
 use Rattle.qg_check.proofs.references.opening_fault.Goals as goal
 
 pub returns-in-Broken-clause-told : goal.returns-in-Broken-clause-told

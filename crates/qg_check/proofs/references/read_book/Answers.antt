@@ -2,7 +2,7 @@ use Rattle.std.proofs.Common.{ap}
 use Rattle.std.specs.Option.{option_map}
 use Rattle.qg_num.specs.declared.rule.Rule.TheVariants as rule
 use Rattle.qg_image.specs.declared.failure.Failure.TheVariants.{Broken}
-use Rattle.qg_extents.specs.Told.{records_failure}
+use Rattle.qg_extents.specs.BookRecords.{records_failure}
 use Rattle.qg_check.proofs.Recorded.{in_order}
 use Rattle.qg_check.proofs.references.read_book.Goals as goal
 

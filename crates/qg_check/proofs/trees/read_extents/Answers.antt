@@ -5,8 +5,8 @@ use Rattle.qg_image.specs.declared.part.ExtentPart.{ExtentPart}
 use Rattle.qg_image.specs.ItemMeaning.{extent_part}
 use Rattle.qg_super.specs.SuperText.{sizes_of}
 use Rattle.qg_image.specs.declared.expected.Expected.{Expected}
-use Rattle.qg_image.specs.declared.tree.Tree.TheVariants.{Extents}
-use Rattle.qg_walk.specs.Held.{AreAddressesOf}
+use Rattle.qg_image.specs.declared.tree.TreeKind.TheVariants.{Extents}
+use Rattle.qg_walk.specs.WalkKeeps.{AreAddressesOf}
 use Rattle.qg_walk.specs.IsWalk.{IsWalk}
 use Rattle.qg_check.specs.Counts.{CountFits}
 use Rattle.qg_check.proofs.Passing.{extents_by}

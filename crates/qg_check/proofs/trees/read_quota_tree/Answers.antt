@@ -6,16 +6,16 @@ use Rattle.qg_image.specs.ItemMeaning.{quota_part}
 use Rattle.qg_super.specs.SuperText.{sizes_of}
 use Rattle.qg_image.specs.declared.quota.Quota.{Quota}
 use Rattle.qg_image.specs.Members.{hierarchy_of}
-use Rattle.qg_hier.specs.Groups.{IsSound}
-use Rattle.qg_image.specs.declared.tree.Tree.TheVariants.{Quotas}
+use Rattle.qg_qgroups.specs.Groups.{IsSound}
+use Rattle.qg_image.specs.declared.tree.TreeKind.TheVariants.{Quotas}
 use Rattle.qg_image.specs.ImageState.{quota_parts, quota_told}
 use Rattle.qg_image.specs.declared.expected.Expected.{Expected}
 use Rattle.qg_image.specs.Walk.{tree_failure}
 use Rattle.qg_walk.specs.Fault.{TellsFailure}
-use Rattle.qg_walk.specs.Held.{AreHeld, AreAddressesOf}
+use Rattle.qg_walk.specs.WalkKeeps.{AreHeld, AreAddressesOf}
 use Rattle.qg_walk.specs.IsWalk.{IsWalk}
-use Rattle.qg_parts.specs.Said.{AreSaid}
-use Rattle.qg_parts.proofs.Keys.{quotas_ascending}
+use Rattle.qg_tree_items.specs.Said.{AreSaid}
+use Rattle.qg_tree_items.proofs.KeysOfParts.{quotas_ascending}
 use Rattle.qg_quota.specs.declared.fault.QuotaFault.{QuotaFault}
 use Rattle.qg_quota.specs.Quota.{quota_rule, IfRule}
 use Rattle.qg_check.specs.Editable.{AreGroups}

@@ -4,12 +4,12 @@ use Rattle.std.proofs.lemmas.Bool.{le-leb, lt-leb}
 use Rattle.qg_device.specs.History.{content}
 use Rattle.qg_items.specs.declared.root.RootItem.{RootItem}
 use Rattle.qg_image.specs.ItemMeaning.{root_part}
-use Rattle.qg_image.specs.declared.tree.Tree.TheVariants.{Roots}
+use Rattle.qg_image.specs.declared.tree.TreeKind.TheVariants.{Roots}
 use Rattle.qg_image.specs.ImageState.{roots_in, subvolume_roots}
 use Rattle.qg_image.specs.Verdict.{are_roots}
-use Rattle.qg_parts.specs.Said.{AreSaid}
-use Rattle.qg_parts.proofs.Keys.{roots_ascending}
-use Rattle.qg_walk.specs.Held.{AreHeld}
+use Rattle.qg_tree_items.specs.Said.{AreSaid}
+use Rattle.qg_tree_items.proofs.KeysOfParts.{roots_ascending}
+use Rattle.qg_walk.specs.WalkKeeps.{AreHeld}
 use Rattle.qg_check.specs.Editable.{AreSubvolumes}
 use Rattle.qg_check.specs.Trees.{AreNamed}
 use Rattle.qg_check.proofs.Passing.{subvolumes_fit}

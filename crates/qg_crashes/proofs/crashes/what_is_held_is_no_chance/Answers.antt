@@ -1,4 +1,4 @@
-use Rattle.qg_crashes.proofs.Held.{holds_the_new, meets_the_premise}
+use Rattle.qg_crashes.proofs.NewBytesHeld.{holds_the_new, meets_the_premise}
 use Rattle.qg_crashes.proofs.crashes.what_is_held_is_no_chance.Goals as goal
 
 pub returns-clause-holds : goal.returns-clause-holds

@@ -1,8 +1,8 @@
 use Rattle.std.proofs.Common.{ℕ, ◌<◌, List, [], Some, arith, sym, subst}
 use Rattle.qg_items.specs.declared.extent.Reference.TheVariants.{KeyedBlock}
-use Rattle.qg_parts.specs.State.{layout_of}
-use Rattle.qg_parts.specs.Owed.{Agrees}
-use Rattle.qg_parts.specs.IsFresh.{fresh_state}
+use Rattle.qg_tree_items.specs.State.{layout_of}
+use Rattle.qg_tree_items.specs.Owed.{Agrees}
+use Rattle.qg_tree_items.specs.IsFresh.{fresh_state}
 use Rattle.qg_refs.specs.declared.kept.Kept.{Kept}
 use Rattle.qg_refs.specs.Book.{Adds, AgreesWithOwed, count_at}
 use Rattle.qg_refs.proofs.Counting.{count-nil}

@@ -1,10 +1,10 @@
 use Rattle.std.proofs.Common.{◌≡◌, ℕ, ◌+◌, List, [], take, drop, false, sym, subst, inl, inr, arith}
 use Rattle.std.proofs.lemmas.List.{take_all}
-use Rattle.qg_parts.specs.Types.{ExtentPart}
-use Rattle.qg_parts.specs.Owed.{reference_told}
+use Rattle.qg_tree_items.specs.Types.{ExtentPart}
+use Rattle.qg_tree_items.specs.Owed.{reference_told}
 use Rattle.qg_refs.specs.declared.counted.Counted.{Counted}
 use Rattle.qg_refs.specs.Counts.{IsRefList}
-use Rattle.qg_extents.specs.Told.{told_in}
+use Rattle.qg_extents.specs.BookRecords.{told_in}
 use Rattle.qg_extents.proofs.Telling.{IsSoFar, Told, add_up, part-refused, part-taken, so_far-none, so_far-short}
 use Rattle.qg_extents.proofs.Telling.{so_far-some, so_far-sound, told-cut, told-next}
 use Rattle.qg_extents.proofs.gather.read_references.Goals as goal

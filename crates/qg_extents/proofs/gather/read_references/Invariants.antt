@@ -1,5 +1,5 @@
 use Rattle.std.proofs.Common.{take}
-use Rattle.qg_extents.specs.Told.{told_in}
+use Rattle.qg_extents.specs.BookRecords.{told_in}
 use Rattle.qg_extents.proofs.Telling.{IsSoFar}
 use Rattle.qg_extents.proofs.gather.read_references.Given as goal
 

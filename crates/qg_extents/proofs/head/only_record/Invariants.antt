@@ -2,7 +2,7 @@ use Rattle.std.proofs.Common.{◌≡◌, ◌<◌, length, take}
 use Rattle.std.specs.Prelude.{IfSome, slice_get}
 use Rattle.std.specs.List.{filter}
 use Rattle.std.specs.Option.{option_and_then}
-use Rattle.qg_parts.specs.Owed.{is_record}
+use Rattle.qg_tree_items.specs.Owed.{is_record}
 use Rattle.qg_extents.proofs.Singles.{listed}
 use Rattle.qg_extents.proofs.head.only_record.Given as goal
 

@@ -1,6 +1,6 @@
 use Rattle.std.proofs.Common.{◌≡◌, ◌+◌, ◌<◌, ◌≤◌, ℕ, length, get_or}
-use Rattle.qg_parts.specs.Types.{ExtentPart}
-use Rattle.qg_parts.specs.Owed.{part_address}
+use Rattle.qg_tree_items.specs.Types.{ExtentPart}
+use Rattle.qg_tree_items.specs.Owed.{part_address}
 use Rattle.qg_extents.proofs.read.end_of_address.Given as goal
 
 abbrev pub invariant-loop-to : goal.invariant-loop-to

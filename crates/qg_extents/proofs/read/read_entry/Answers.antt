@@ -1,11 +1,11 @@
 use Rattle.std.proofs.Common.{◌≡◌, ℕ, List, Option, true, false, sym, ap, subst, ◌∙◌}
 use Rattle.std.specs.Prelude.{MatchOption, slice_get}
 use Rattle.std.specs.Option.{option_and_then}
-use Rattle.qg_parts.specs.Types.{ExtentPart}
-use Rattle.qg_parts.specs.ItemMeaning.{some_passes}
+use Rattle.qg_tree_items.specs.Types.{ExtentPart}
+use Rattle.qg_tree_items.specs.ItemMeaning.{some_passes}
 use Rattle.qg_refs.specs.declared.counted.Counted.{Counted}
 use Rattle.qg_refs.specs.declared.kept.Kept.{Kept}
-use Rattle.qg_extents.specs.Told.{tells_full, what_told}
+use Rattle.qg_extents.specs.BookRecords.{tells_full, what_told}
 use Rattle.qg_extents.specs.Reading.{IsGathered, adds_up}
 use Rattle.qg_extents.proofs.Singles.{good_entry, no_entry, short_entry, the_one, unsound_entry}
 use Rattle.qg_extents.proofs.Tables.{may_be}

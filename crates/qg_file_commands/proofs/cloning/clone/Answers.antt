@@ -1,31 +1,35 @@
-use Rattle.std.proofs.Common.{◌+◌, ◌<◌, ◌∙◌, ◌≤◌, ℕ, List, Option, ap, refl, rules, subst, sym}
+use Rattle.std.proofs.Common.{◌+◌, ◌<◌, ◌∙◌, ◌≤◌, ℕ, List, Option, ap, refl, rules, subst, sym, ◌≡◌, Some, true}
 use Rattle.std.specs.Prelude.{◌==◌, ◌&&◌}
 use Rattle.qg_num.specs.declared.command.Command.TheVariants.{Clone}
 use Rattle.qg_num.specs.declared.piece.Piece.{Piece}
 use Rattle.qg_num.specs.declared.refusal.Refusal.TheVariants as why
 use Rattle.qg_items.specs.declared.file.InodeItem.{InodeItem}
 use Rattle.qg_image.specs.declared.file.File.{File}
-use Rattle.qg_image.specs.Table.{value_at}
+use Rattle.qg_image.specs.State.{State}
+use Rattle.qg_image.specs.Table.{has_key, value_at}
 use Rattle.qg_machine.specs.FileChange.{pieces_meeting}
 use Rattle.qg_machine.specs.Refusals.{share_a_byte}
-use Rattle.qg_groups.specs.OnOrOff.{path_in, refusal_in}
-use Rattle.qg_groups.specs.Tracked.{quota_of}
-use Rattle.qg_kept.proofs.PiecesRead.{handed}
-use Rattle.qg_kept.proofs.Whole.{handed-sound}
-use Rattle.qg_kept.specs.Files.{pieces_of}
-use Rattle.qg_file_items.specs.Pieces.{pieces_met}
-use Rattle.qg_kept.specs.FsLawsKeeping.{other_names}
-use Rattle.qg_kept.specs.declared.kept.Kept.{Kept}
-use Rattle.qg_kept.specs.Editing.{clone_refusal}
+use Rattle.qg_qgroups.specs.OnOrOff.{path_in, refusal_in}
+use Rattle.qg_qgroups.specs.Tracked.{quota_of}
+use Rattle.qg_open_image.proofs.PiecesRead.{handed}
+use Rattle.qg_open_image.proofs.WholeFile.{handed-sound}
+use Rattle.qg_open_image.specs.Files.{HoldsFiles, pieces_of}
+use Rattle.qg_open_image.specs.Keeping.{IsKeptOf}
+use Rattle.qg_inodes.specs.PiecesWritten.{pieces_met}
+use Rattle.qg_open_image.specs.FsLawsKeeping.{other_names}
+use Rattle.qg_open_image.specs.declared.open_image.OpenImage.{OpenImage}
+use Rattle.qg_open_image.specs.Editing.{HasReadNodes, clone_refusal}
 use Rattle.qg_file_commands.proofs.Accepting.{judged-node, listed-still, path-still, path-told, quota-read}
 use Rattle.qg_file_commands.proofs.Cloned.{refuses-clone, refuses-limit, source-there, target-listed}
-use Rattle.qg_kept.proofs.Looked.{holds-looked, keeps-looked, looked-again, owner-read}
+use Rattle.qg_open_image.proofs.Looked.{holds-looked, keeps-looked, looked-again, owner-read}
 use Rattle.qg_file_commands.proofs.Reasons.{missing-clone, none-there, other-clone, other-target, overlap-clone}
 use Rattle.qg_file_commands.proofs.Reasons.{some-there}
-use Rattle.qg_kept.proofs.Turned.{same-read, same-then, unchanged-then}
+use Rattle.qg_open_image.proofs.Turned.{same-read, same-then, unchanged-then}
 use Rattle.qg_file_commands.proofs.Asked.{asked-then, source-pieces, source-read}
-use Rattle.qg_kept.proofs.Stopped.{stops-turned, turned-err}
+use Rattle.qg_open_image.proofs.Stopped.{stops-turned, turned-err}
+use Rattle.qg_file_commands.proofs.cloning.clone.Given.{Over}
 use Rattle.qg_file_commands.proofs.cloning.clone.Goals as goal
+use Rattle.qg_file_commands.proofs.cloning.clone.Goals.{In_ok-inode, In_ok-source}
 
 pub turn_to-requires : goal.turn_to-requires
 turn_to-requires g c = record { fitted = c.requires.kept.fitted }
@@ -95,33 +99,61 @@ returns-in_err-inode-clause-sound g c = λ state events told given.
     (handed c.from_residual.result _ c.from_residual.ensures.1)
     (c.in_err-inode.ensures.sound keeps.files keeps.keeps.holds)
 
+-- ---- what was read of the source, in a state that is kept
+
+module _ (g : Over) (c : In_ok-inode g) (state : State)
+    (given : IsKeptOf c.args.kept.now state (g.D.Disk.history c.args.disk.now)) where
+  abbrev turned : IsKeptOf c.turn_to-2.new.kept state (g.D.Disk.history c.args.disk.now)
+  turned =
+      c.turn_to-2.ensures.keeps state (g.D.Disk.history c.args.disk.now) (g.D.Disk.size c.args.disk.now)
+      (other_names state)
+      (c.turn_to.ensures.kept (g.D.Disk.history c.args.disk.now) (g.D.Disk.size c.args.disk.now) c.requires.kept)
+      (c.turn_to.ensures.keeps state (g.D.Disk.history c.args.disk.now) (g.D.Disk.size c.args.disk.now)
+      (other_names state) c.requires.kept given)
+
+  abbrev first-read : IsKeptOf c.inode_in.new.kept state (g.D.Disk.history c.inode_in.new.disk)
+  first-read =
+      keeps-looked c.turn_to-2.new.kept c.inode_in.new.kept (g.D.Disk.history c.args.disk.now)
+      (g.D.Disk.history c.inode_in.new.disk) (g.D.Disk.size c.args.disk.now) (g.D.Disk.size c.inode_in.new.disk) state
+      (other_names state) c.in_ok-inode.ensures.looked turned
+
+  first-held : HoldsFiles c.inode_in.new.kept.fs (g.D.Disk.history c.inode_in.new.disk) turned.files
+  first-held =
+      holds-looked c.turn_to-2.new.kept c.inode_in.new.kept _ _ _ _ turned.files c.in_ok-inode.ensures.looked
+      turned.keeps.holds
+
+  owner : c.args.sub ≡ c.inode_in.new.kept.fs.tree.owner
+  owner =
+      sym (c.turn_to-2.ensures.hand c.if-not-turn_to-2.false)
+      ∙ owner-read c.turn_to-2.new.kept c.inode_in.new.kept (g.D.Disk.history c.args.disk.now)
+      (g.D.Disk.history c.inode_in.new.disk) (g.D.Disk.size c.args.disk.now) (g.D.Disk.size c.inode_in.new.disk)
+      c.in_ok-inode.ensures.looked
+
+  target : has_key c.args.to_sub c.inode_in.new.kept.snapshots ≡ true
+  target =
+      target-listed c.args.kept.now c.inode_in.new.kept state (g.D.Disk.history c.args.disk.now)
+      (g.D.Disk.history c.inode_in.new.disk) given first-read c.args.to_sub
+      (sym c.turn_to.ensures.there ∙ c.if-not-turn_to.false)
+
+  owner-refuses : clone_refusal state c.args.sub c.args.ino c.args.off c.args.len c.args.to_sub c.args.to_ino
+      c.args.to_off
+      ≡ clone_refusal state c.inode_in.new.kept.fs.tree.owner c.args.ino c.args.off c.args.len c.args.to_sub
+      c.args.to_ino c.args.to_off
+  owner-refuses =
+      ap (λ (sub : ℕ). clone_refusal state sub c.args.ino c.args.off c.args.len c.args.to_sub c.args.to_ino
+      c.args.to_off) owner
+
 pub returns-in_default-clause-step : goal.returns-in_default-clause-step
 returns-in_default-clause-step g c = λ state given.
-    let kept = c.turn_to-2.new.kept in
-    let read = c.inode_in.new.kept in
-    let before = g.D.Disk.history c.args.disk.now in
-    let bytes = g.D.Disk.size c.args.disk.now in
-    let then = g.D.Disk.history c.inode_in.new.disk in
-    let left = g.D.Disk.size c.inode_in.new.disk in
-    let fits = c.turn_to.ensures.kept before bytes c.requires.kept in
-    let first = c.turn_to.ensures.keeps state before bytes (other_names state) c.requires.kept given in
-    let keeps = c.turn_to-2.ensures.keeps state before bytes (other_names state) fits first in
-    let looked = c.in_ok-inode.ensures.looked in
-    let still = keeps-looked kept read before then bytes left state (other_names state) looked keeps in
-    let told = sym c.in_default.is ∙ c.in_ok-inode.ensures.found keeps.files keeps.keeps.holds in
-    let hand = sym (c.turn_to-2.ensures.hand c.if-not-turn_to-2.false)
-    ∙ owner-read kept read before then bytes left looked
-    in
-    refuses-clone read state then c.args.sub c.args.ino c.args.off c.args.len c.args.to_sub c.args.to_ino c.args.to_off
-    _
-    still
-    (ap (λ (sub : ℕ). clone_refusal state sub c.args.ino c.args.off c.args.len c.args.to_sub c.args.to_ino
-    c.args.to_off)
-    hand
-    ∙ missing-clone read state then still c.args.ino c.args.off c.args.len c.args.to_sub c.args.to_ino c.args.to_off
-    (target-listed c.args.kept.now read state before then given still c.args.to_sub
-    (sym c.turn_to.ensures.there ∙ c.if-not-turn_to.false))
-    (none-there (value_at c.args.ino keeps.files) told))
+    let at = (goal.at.returns-in_default-clause-step g c).In_ok-inode in
+    let files = (turned g at state given).files in
+    let told = sym c.in_default.is ∙ c.in_ok-inode.ensures.found files (turned g at state given).keeps.holds in
+    refuses-clone c.inode_in.new.kept state (g.D.Disk.history c.inode_in.new.disk) c.args.sub c.args.ino c.args.off
+    c.args.len c.args.to_sub c.args.to_ino c.args.to_off _ (first-read g at state given)
+    (owner-refuses g at state given
+    ∙ missing-clone c.inode_in.new.kept state (g.D.Disk.history c.inode_in.new.disk) (first-read g at state given)
+    c.args.ino c.args.off c.args.len c.args.to_sub c.args.to_ino c.args.to_off (target g at state given)
+    (none-there (value_at c.args.ino files) told))
 
 pub returns-in_default-clause-unchanged : goal.returns-in_default-clause-unchanged
 returns-in_default-clause-unchanged g c = λ is.
@@ -131,35 +163,21 @@ returns-in_default-clause-unchanged g c = λ is.
 
 pub returns-in-Some-refusal_of_clone-clause-step : goal.returns-in-Some-refusal_of_clone-clause-step
 returns-in-Some-refusal_of_clone-clause-step g c = λ state given.
-    let kept = c.turn_to-2.new.kept in
+    let at = (goal.at.returns-in-Some-refusal_of_clone-clause-step g c).In_ok-inode in
     let read = c.inode_in.new.kept in
-    let before = g.D.Disk.history c.args.disk.now in
-    let bytes = g.D.Disk.size c.args.disk.now in
     let then = g.D.Disk.history c.inode_in.new.disk in
-    let left = g.D.Disk.size c.inode_in.new.disk in
-    let fits = c.turn_to.ensures.kept before bytes c.requires.kept in
-    let first = c.turn_to.ensures.keeps state before bytes (other_names state) c.requires.kept given in
-    let keeps = c.turn_to-2.ensures.keeps state before bytes (other_names state) fits first in
-    let looked = c.in_ok-inode.ensures.looked in
-    let still = keeps-looked kept read before then bytes left state (other_names state) looked keeps in
-    let told = sym c.in-Some.is ∙ c.in_ok-inode.ensures.found keeps.files keeps.keeps.holds in
-    let there = some-there (value_at c.args.ino keeps.files) c.in-Some.inode told in
-    let hand = sym (c.turn_to-2.ensures.hand c.if-not-turn_to-2.false)
-    ∙ owner-read kept read before then bytes left looked
-    in
-    refuses-clone read state then c.args.sub c.args.ino c.args.off c.args.len c.args.to_sub c.args.to_ino c.args.to_off
-    c.in-Some-refusal_of_clone.why still
-    (ap (λ (sub : ℕ). clone_refusal state sub c.args.ino c.args.off c.args.len c.args.to_sub c.args.to_ino
-    c.args.to_off)
-    hand
-    ∙ overlap-clone read state then still c.args.ino c.args.off c.args.len c.args.to_sub c.args.to_ino c.args.to_off
-    (target-listed c.args.kept.now read state before then given still c.args.to_sub
-    (sym c.turn_to.ensures.there ∙ c.if-not-turn_to.false))
-    c.in-Some.inode.size there.file there.is there.size c.do_overlap-overlap.result
+    let files = (turned g at state given).files in
+    let there = some-there (value_at c.args.ino files) c.in-Some.inode
+    (sym c.in-Some.is ∙ c.in_ok-inode.ensures.found files (turned g at state given).keeps.holds) in
+    let overlap = overlap-clone read state then (first-read g at state given) c.args.ino c.args.off c.args.len
+    c.args.to_sub c.args.to_ino c.args.to_off (target g at state given) c.in-Some.inode.size there.file there.is
+    there.size c.do_overlap-overlap.result
     (c.do_overlap-overlap.ensures
     ∙ ap (λ (sub : ℕ). (sub == c.args.to_sub) && (c.args.ino == c.args.to_ino)
-    && share_a_byte c.args.off c.args.to_off c.args.len) hand)
-    ∙ sym c.in-Some-refusal_of_clone.ensures.value)
+    && share_a_byte c.args.off c.args.to_off c.args.len) (owner g at state given)) in
+    refuses-clone read state then c.args.sub c.args.ino c.args.off c.args.len c.args.to_sub c.args.to_ino c.args.to_off
+    c.in-Some-refusal_of_clone.why (first-read g at state given)
+    (owner-refuses g at state given ∙ overlap ∙ sym c.in-Some-refusal_of_clone.ensures.value)
 
 pub returns-in-Some-refusal_of_clone-clause-unchanged : goal.returns-in-Some-refusal_of_clone-clause-unchanged
 returns-in-Some-refusal_of_clone-clause-unchanged g c = λ is.
@@ -181,37 +199,24 @@ judge-requires g c = record {
 
 pub returns-in-Over-clause-step : goal.returns-in-Over-clause-step
 returns-in-Over-clause-step g c = λ state given.
-    let kept = c.turn_to-2.new.kept in
+    let at = (goal.at.returns-in-Over-clause-step g c).In_ok-inode in
     let read = c.inode_in.new.kept in
-    let before = g.D.Disk.history c.args.disk.now in
-    let bytes = g.D.Disk.size c.args.disk.now in
     let then = g.D.Disk.history c.inode_in.new.disk in
-    let left = g.D.Disk.size c.inode_in.new.disk in
-    let fits = c.turn_to.ensures.kept before bytes c.requires.kept in
-    let first = c.turn_to.ensures.keeps state before bytes (other_names state) c.requires.kept given in
-    let keeps = c.turn_to-2.ensures.keeps state before bytes (other_names state) fits first in
-    let looked = c.in_ok-inode.ensures.looked in
-    let still = keeps-looked kept read before then bytes left state (other_names state) looked keeps in
-    let told = sym c.in-Some.is ∙ c.in_ok-inode.ensures.found keeps.files keeps.keeps.holds in
-    let there = some-there (value_at c.args.ino keeps.files) c.in-Some.inode told in
-    let hand = sym (c.turn_to-2.ensures.hand c.if-not-turn_to-2.false)
-    ∙ owner-read kept read before then bytes left looked
-    in
-    refuses-limit read state then c.args.sub c.args.ino c.args.off c.args.len c.args.to_sub c.args.to_ino c.args.to_off
-    (why.Quota c.in-Over.group c.in-Over.which) still
-    (ap (λ (sub : ℕ). clone_refusal state sub c.args.ino c.args.off c.args.len c.args.to_sub c.args.to_ino
-    c.args.to_off)
-    hand
-    ∙ overlap-clone read state then still c.args.ino c.args.off c.args.len c.args.to_sub c.args.to_ino c.args.to_off
-    (target-listed c.args.kept.now read state before then given still c.args.to_sub
-    (sym c.turn_to.ensures.there ∙ c.if-not-turn_to.false))
-    c.in-Some.inode.size there.file there.is there.size c.do_overlap-overlap.result
+    let files = (turned g at state given).files in
+    let there = some-there (value_at c.args.ino files) c.in-Some.inode
+    (sym c.in-Some.is ∙ c.in_ok-inode.ensures.found files (turned g at state given).keeps.holds) in
+    let overlap = overlap-clone read state then (first-read g at state given) c.args.ino c.args.off c.args.len
+    c.args.to_sub c.args.to_ino c.args.to_off (target g at state given) c.in-Some.inode.size there.file there.is
+    there.size c.do_overlap-overlap.result
     (c.do_overlap-overlap.ensures
     ∙ ap (λ (sub : ℕ). (sub == c.args.to_sub) && (c.args.ino == c.args.to_ino)
-    && share_a_byte c.args.off c.args.to_off c.args.len) hand)
-    ∙ sym c.in_default-refusal_of_clone.ensures.value)
-    (judged-node read state then still c.in_ok-inode.ensures.kept.fitted c.args.to_sub c.from.result
-    c.in_ok-judged.judged (c.in_ok-judged.ensures.value state (other_names state) then still) c.from.ensures
+    && share_a_byte c.args.off c.args.to_off c.args.len) (owner g at state given)) in
+    refuses-limit read state then c.args.sub c.args.ino c.args.off c.args.len c.args.to_sub c.args.to_ino c.args.to_off
+    (why.Quota c.in-Over.group c.in-Over.which) (first-read g at state given)
+    (owner-refuses g at state given ∙ overlap ∙ sym c.in_default-refusal_of_clone.ensures.value)
+    (judged-node read state then (first-read g at state given) c.in_ok-inode.ensures.kept.fitted c.args.to_sub
+    c.from.result c.in_ok-judged.judged (c.in_ok-judged.ensures.value state (other_names state) then
+    (first-read g at state given)) c.from.ensures
     ∙ ap refusal_in c.in-Over.is)
 
 pub returns-in-Over-clause-unchanged : goal.returns-in-Over-clause-unchanged
@@ -224,23 +229,17 @@ returns-in-Over-clause-unchanged g c = λ is.
 
 pub returns-in_err-source-clause-sound : goal.returns-in_err-source-clause-sound
 returns-in_err-source-clause-sound g c = λ state events told given.
-    let history = g.D.Disk.history c.args.disk.now in
-    let bytes = g.D.Disk.size c.args.disk.now in
-    let fits = c.turn_to.ensures.kept history bytes c.requires.kept in
-    let first = c.turn_to.ensures.keeps state history bytes (other_names state) c.requires.kept given in
-    let keeps = c.turn_to-2.ensures.keeps state history bytes (other_names state) fits first in
+    let at = (goal.at.returns-in_err-source-clause-sound g c).In_ok-inode in
     handed-sound (List Piece) c.from_residual-in_err-source.result _
     (handed c.from_residual-in_err-source.result _ c.from_residual-in_err-source.ensures.1)
-    (c.in_err-source.ensures.sound keeps.files
-    (holds-looked c.turn_to-2.new.kept c.inode_in.new.kept _ _ _ _ keeps.files c.in_ok-inode.ensures.looked
-    keeps.keeps.holds))
+    (c.in_err-source.ensures.sound (turned g at state given).files (first-held g at state given))
 
 pub clone_pieces-requires-clause-reserves : goal.clone_pieces-requires-clause-reserves
 clone_pieces-requires-clause-reserves g c =
     let read = c.inode_in.new.kept in
     let mid = c.pieces_in.new.kept in
     record {
-      few = subst (λ (kept : Kept). kept.pending < 65536) (sym c.in_ok-source.ensures.looked.same)
+      few = subst (λ (kept : OpenImage). kept.pending < 65536) (sym c.in_ok-source.ensures.looked.same)
           c.in_default-refusal_of_clone.ensures.few;
       path = path-still read.quota mid.quota c.args.to_sub c.args.to_sub c.as_slice.result.now
           (c.as_slice.ensures
@@ -257,68 +256,69 @@ clone_pieces-requires-clause-pieces g c = record {
   range = c.in_default-refusal_of_clone.ensures.clonable;
 }
 
+-- ---- the source's pieces, in a state that is kept
+
+module _ (g : Over) (c : In_ok-source g) (state : State)
+    (turned : IsKeptOf c.turn_to-2.new.kept state (g.D.Disk.history c.args.disk.now))
+    (held : HoldsFiles c.inode_in.new.kept.fs (g.D.Disk.history c.inode_in.new.disk) turned.files) where
+  looked : HasReadNodes c.turn_to-2.new.kept c.pieces_in.new.kept (g.D.Disk.history c.args.disk.now)
+      (g.D.Disk.history c.pieces_in.new.disk) (g.D.Disk.size c.args.disk.now) (g.D.Disk.size c.pieces_in.new.disk)
+  looked =
+      looked-again c.turn_to-2.new.kept c.inode_in.new.kept c.pieces_in.new.kept _ _ _ _ _ _
+      c.in_ok-inode.ensures.looked c.in_ok-source.ensures.looked
+
+  abbrev still : IsKeptOf c.pieces_in.new.kept state (g.D.Disk.history c.pieces_in.new.disk)
+  still =
+      keeps-looked c.turn_to-2.new.kept c.pieces_in.new.kept (g.D.Disk.history c.args.disk.now)
+      (g.D.Disk.history c.pieces_in.new.disk) (g.D.Disk.size c.args.disk.now) (g.D.Disk.size c.pieces_in.new.disk) state
+      (other_names state) looked turned
+
+  abbrev there : value_at c.args.sub state.subvolumes ≡ Some turned.mine
+  there =
+      source-there c.turn_to-2.new.kept state (g.D.Disk.history c.args.disk.now) turned c.args.sub
+      (c.turn_to-2.ensures.hand c.if-not-turn_to-2.false)
+
+  source-met : c.in_ok-source.source
+      ≡ pieces_met c.args.off (c.args.off + c.args.len) (pieces_of c.args.ino turned.mine.files)
+  source-met =
+      c.in_ok-source.ensures.found turned.files held
+      ∙ ap (λ (files : List (ℕ × File)). pieces_met c.args.off (c.args.off + c.args.len)
+      (pieces_of c.args.ino files)) (sym turned.keeps.are)
+
 pub returns-clause-sound : goal.returns-clause-sound
 returns-clause-sound g c = λ state events told given.
-    let kept = c.turn_to-2.new.kept in
-    let read = c.inode_in.new.kept in
-    let mid = c.pieces_in.new.kept in
-    let before = g.D.Disk.history c.args.disk.now in
-    let bytes = g.D.Disk.size c.args.disk.now in
-    let then = g.D.Disk.history c.inode_in.new.disk in
-    let between = g.D.Disk.history c.pieces_in.new.disk in
-    let left = g.D.Disk.size c.pieces_in.new.disk in
-    let fits = c.turn_to.ensures.kept before bytes c.requires.kept in
-    let first = c.turn_to.ensures.keeps state before bytes (other_names state) c.requires.kept given in
-    let keeps = c.turn_to-2.ensures.keeps state before bytes (other_names state) fits first in
-    let one = c.in_ok-inode.ensures.looked in
-    let looked = looked-again kept read mid before then between bytes _ left one c.in_ok-source.ensures.looked in
-    let still = keeps-looked kept mid before between bytes left state (other_names state) looked keeps in
-    let source = c.in_ok-source.ensures.found keeps.files
-    (holds-looked kept read before then bytes _ keeps.files one keeps.keeps.holds) in
-    c.clone_pieces.ensures.sound state events c.args.sub c.args.ino keeps.mine (looked.history ∙ told) still
-    (source-there kept state before keeps c.args.sub (c.turn_to-2.ensures.hand c.if-not-turn_to-2.false))
-    (source ∙ ap (λ (files : List (ℕ × File)). pieces_met c.args.off (c.args.off + c.args.len)
-    (pieces_of c.args.ino files)) (sym keeps.keeps.are))
+    let at = goal.at.returns-clause-sound g c in
+    let keeps = turned g at.In_ok-inode state given in
+    let held = first-held g at.In_ok-inode state given in
+    let source = at.In_ok-source in
+    c.clone_pieces.ensures.sound state events c.args.sub c.args.ino keeps.mine
+    ((looked g source state keeps held).history ∙ told) (still g source state keeps held)
+    (there g source state keeps held) (source-met g source state keeps held)
 
 pub returns-clause-step : goal.returns-clause-step
 returns-clause-step g c = λ state given.
-    let kept = c.turn_to-2.new.kept in
+    let around = goal.at.returns-clause-step g c in
+    let at = around.In_ok-inode in
+    let keeps = turned g at state given in
+    let held = first-held g at state given in
+    let source = around.In_ok-source in
     let read = c.inode_in.new.kept in
-    let mid = c.pieces_in.new.kept in
-    let before = g.D.Disk.history c.args.disk.now in
-    let bytes = g.D.Disk.size c.args.disk.now in
     let then = g.D.Disk.history c.inode_in.new.disk in
-    let between = g.D.Disk.history c.pieces_in.new.disk in
-    let left = g.D.Disk.size c.pieces_in.new.disk in
-    let fits = c.turn_to.ensures.kept before bytes c.requires.kept in
-    let first = c.turn_to.ensures.keeps state before bytes (other_names state) c.requires.kept given in
-    let keeps = c.turn_to-2.ensures.keeps state before bytes (other_names state) fits first in
-    let one = c.in_ok-inode.ensures.looked in
-    let looked = looked-again kept read mid before then between bytes _ left one c.in_ok-source.ensures.looked in
-    let still = keeps-looked kept mid before between bytes left state (other_names state) looked keeps in
-    let at_read = keeps-looked kept read before then bytes _ state (other_names state) one keeps in
-    let told = sym c.in-Some.is ∙ c.in_ok-inode.ensures.found keeps.files keeps.keeps.holds in
-    let there = some-there (value_at c.args.ino keeps.files) c.in-Some.inode told in
-    let source = c.in_ok-source.ensures.found keeps.files
-    (holds-looked kept read before then bytes _ keeps.files one keeps.keeps.holds) in
-    let hand = sym (c.turn_to-2.ensures.hand c.if-not-turn_to-2.false) ∙ owner-read kept read before then bytes _ one in
-    c.clone_pieces.ensures.step state c.args.sub c.args.ino keeps.mine still
-    (source-there kept state before keeps c.args.sub (c.turn_to-2.ensures.hand c.if-not-turn_to-2.false))
-    (source ∙ ap (λ (files : List (ℕ × File)). pieces_met c.args.off (c.args.off + c.args.len)
-    (pieces_of c.args.ino files)) (sym keeps.keeps.are))
-    (ap (λ (sub : ℕ). clone_refusal state sub c.args.ino c.args.off c.args.len c.args.to_sub c.args.to_ino
-    c.args.to_off)
-    hand
-    ∙ overlap-clone read state then at_read c.args.ino c.args.off c.args.len c.args.to_sub c.args.to_ino c.args.to_off
-    (target-listed c.args.kept.now read state before then given at_read c.args.to_sub
-    (sym c.turn_to.ensures.there ∙ c.if-not-turn_to.false))
-    c.in-Some.inode.size there.file there.is there.size c.do_overlap-overlap.result
+    let files = (turned g at state given).files in
+    let file-there = some-there (value_at c.args.ino files) c.in-Some.inode
+    (sym c.in-Some.is ∙ c.in_ok-inode.ensures.found files (turned g at state given).keeps.holds) in
+    let overlap = overlap-clone read state then (first-read g at state given) c.args.ino c.args.off c.args.len
+    c.args.to_sub c.args.to_ino c.args.to_off (target g at state given) c.in-Some.inode.size file-there.file
+    file-there.is file-there.size c.do_overlap-overlap.result
     (c.do_overlap-overlap.ensures
     ∙ ap (λ (sub : ℕ). (sub == c.args.to_sub) && (c.args.ino == c.args.to_ino)
-    && share_a_byte c.args.off c.args.to_off c.args.len) hand)
-    ∙ sym c.in_default-refusal_of_clone.ensures.value)
-    (judged-node read state then at_read c.in_ok-inode.ensures.kept.fitted c.args.to_sub c.from.result
-    c.in_ok-judged.judged (c.in_ok-judged.ensures.value state (other_names state) then at_read) c.from.ensures
+    && share_a_byte c.args.off c.args.to_off c.args.len) (owner g at state given)) in
+    c.clone_pieces.ensures.step state c.args.sub c.args.ino keeps.mine (still g source state keeps held)
+    (there g source state keeps held) (source-met g source state keeps held)
+    (owner-refuses g at state given ∙ overlap ∙ sym c.in_default-refusal_of_clone.ensures.value)
+    (judged-node read state then (first-read g at state given) c.in_ok-inode.ensures.kept.fitted c.args.to_sub
+    c.from.result c.in_ok-judged.judged (c.in_ok-judged.ensures.value state (other_names state) then
+    (first-read g at state given)) c.from.ensures
     ∙ ap refusal_in c.in-Path.is)
 
 pub returns-clause-unchanged : goal.returns-clause-unchanged
@@ -334,36 +334,23 @@ returns-clause-unchanged g c =
 
 pub returns-clause-reads : goal.returns-clause-reads
 returns-clause-reads g c =
+    let around = goal.at.returns-clause-reads g c in
     asked-then c.clone_pieces.result c.args.kept.now (g.D.Disk.history c.args.disk.now)
     (Clone c.args.sub c.args.ino c.args.off c.args.len c.args.to_sub c.args.to_ino c.args.to_off) c.args.reads.now
     c.pieces_in.new.reads c.clone_pieces.new.reads
     (λ state change given told.
-    let kept = c.turn_to-2.new.kept in
-    let read = c.inode_in.new.kept in
-    let mid = c.pieces_in.new.kept in
-    let before = g.D.Disk.history c.args.disk.now in
-    let bytes = g.D.Disk.size c.args.disk.now in
-    let then = g.D.Disk.history c.inode_in.new.disk in
-    let between = g.D.Disk.history c.pieces_in.new.disk in
-    let left = g.D.Disk.size c.pieces_in.new.disk in
-    let fits = c.turn_to.ensures.kept before bytes c.requires.kept in
-    let first = c.turn_to.ensures.keeps state before bytes (other_names state) c.requires.kept given in
-    let keeps = c.turn_to-2.ensures.keeps state before bytes (other_names state) fits first in
-    let one = c.in_ok-inode.ensures.looked in
-    let looked = looked-again kept read mid before then between bytes _ left one c.in_ok-source.ensures.looked in
-    let still = keeps-looked kept mid before between bytes left state (other_names state) looked keeps in
-    let at_read = holds-looked kept read before then bytes _ keeps.files one keeps.keeps.holds in
-    let source = c.in_ok-source.ensures.found keeps.files at_read in
-    let there = source-there kept state before keeps c.args.sub (c.turn_to-2.ensures.hand c.if-not-turn_to-2.false) in (
-      c.clone_pieces.ensures.reads state c.args.sub c.args.ino keeps.mine change still there
-          (source ∙ ap (λ (files : List (ℕ × File)). pieces_met c.args.off (c.args.off + c.args.len)
-          (pieces_of c.args.ino files)) (sym keeps.keeps.are)) told,
+    let keeps = turned g around.In_ok-inode state given in
+    let held = first-held g around.In_ok-inode state given in
+    let source = around.In_ok-source in
+    let sub = there g source state keeps held in (
+      c.clone_pieces.ensures.reads state c.args.sub c.args.ino keeps.mine change (still g source state keeps held) sub
+          (source-met g source state keeps held) told,
       source-read c.args.reads.now c.inode_in.new.reads c.pieces_in.new.reads
           (pieces_meeting c.args.off (c.args.off + c.args.len) (pieces_of c.args.ino keeps.files)) change.pieces
-          (c.in_ok-inode.ensures.reads keeps.files keeps.keeps.holds) (c.in_ok-source.ensures.reads keeps.files at_read)
+          (c.in_ok-inode.ensures.reads keeps.files keeps.keeps.holds) (c.in_ok-source.ensures.reads keeps.files held)
           (subst (λ (files : List (ℕ × File)). pieces_meeting c.args.off (c.args.off + c.args.len)
           (pieces_of c.args.ino files) ≤ change.pieces) keeps.keeps.are
-          (source-pieces state c.args.sub keeps.mine there c.args.ino c.args.off c.args.len c.args.to_sub c.args.to_ino
+          (source-pieces state c.args.sub keeps.mine sub c.args.ino c.args.off c.args.len c.args.to_sub c.args.to_ino
           c.args.to_off change told)),
     ))
 

@@ -1,25 +1,25 @@
 use Rattle.std.proofs.Common.{◌+◌, ◌*◌, ◌<◌, ◌∙◌, ◌≤◌, ℕ, subst, sym}
 use Rattle.qg_image.specs.Need.{file_copies}
 use Rattle.qg_space.specs.Holding.{free_slots}
-use Rattle.qg_kept.proofs.PiecesRead.{handed}
-use Rattle.qg_kept.proofs.Whole.{handed-sound}
-use Rattle.qg_kept.specs.Types.{Found}
-use Rattle.qg_kept.specs.Files.{pieces_of}
-use Rattle.qg_kept.specs.FsLawsKeeping.{other_names}
-use Rattle.qg_kept.specs.declared.kept.Kept.{Kept}
-use Rattle.qg_kept.specs.Keeping.{need_of}
+use Rattle.qg_open_image.proofs.PiecesRead.{handed}
+use Rattle.qg_open_image.proofs.WholeFile.{handed-sound}
+use Rattle.qg_open_image.specs.Types.{Found}
+use Rattle.qg_open_image.specs.Files.{pieces_of}
+use Rattle.qg_open_image.specs.FsLawsKeeping.{other_names}
+use Rattle.qg_open_image.specs.declared.open_image.OpenImage.{OpenImage}
+use Rattle.qg_open_image.specs.Keeping.{need_of}
 use Rattle.qg_file_commands.proofs.Accepting.{node-small, path-still, quota-read, quota-turned}
 use Rattle.qg_file_commands.proofs.Cloned.{cloned, lacks-slots, refuses-clone}
 use Rattle.qg_file_commands.proofs.Edited.{accepted-is, accepted-reserves, if-none, kept-accepted, kept-changed}
 use Rattle.qg_file_commands.proofs.Leaves.{copies-free}
-use Rattle.qg_kept.proofs.Looked.{is-subvolume, keeps-looked, node-size, owner-read}
+use Rattle.qg_open_image.proofs.Looked.{is-subvolume, keeps-looked, node-size, owner-read}
 use Rattle.qg_file_commands.proofs.Reasons.{other-target}
 use Rattle.qg_file_commands.proofs.Touched.{met-both}
-use Rattle.qg_kept.proofs.Turned.{same-read, source-tree}
+use Rattle.qg_open_image.proofs.Turned.{same-read, source-tree}
 use Rattle.qg_machine.specs.FileChange.{pieces_meeting}
 use Rattle.qg_file_commands.proofs.Asked.{clone-pieces, target-reads}
 use Rattle.std.proofs.Common.{refl}
-use Rattle.qg_kept.proofs.Stopped.{turned-err}
+use Rattle.qg_open_image.proofs.Stopped.{turned-err}
 use Rattle.qg_file_commands.proofs.cloning.clone_pieces.Goals as goal
 
 pub turn_to-requires : goal.turn_to-requires
@@ -135,8 +135,8 @@ accept-requires g c =
       fitted = (kept-changed mid c.clone_into.new.fs between (g.D.Disk.history c.clone_into.new.disk) left
           (g.D.Disk.size c.clone_into.new.disk) c.in_ok-found.ensures.kept c.in_ok-clone_into.ensures.leaves
           own).fitted;
-      few = subst (λ (k : Kept). k.pending < 65536) (sym looked.same)
-          (subst (λ (k : Kept). k.pending < 65536) (sym c.turn_to.ensures.same.rest) c.requires.reserves.few);
+      few = subst (λ (k : OpenImage). k.pending < 65536) (sym looked.same)
+          (subst (λ (k : OpenImage). k.pending < 65536) (sym c.turn_to.ensures.same.rest) c.requires.reserves.few);
       small = node-small mid c.in_ok-found.ensures.kept.fitted c.from-amount.result c.from-amount.ensures;
       path = path-still c.args.kept.now.quota mid.quota c.args.to_sub c.clone_into.new.fs.tree.owner c.args.path.now
           c.requires.reserves.path

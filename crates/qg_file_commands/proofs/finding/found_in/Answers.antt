@@ -1,14 +1,14 @@
 use Rattle.std.proofs.Common.{List}
 use Rattle.qg_num.specs.declared.piece.Piece.{Piece}
-use Rattle.qg_kept.proofs.PiecesRead.{handed}
-use Rattle.qg_kept.proofs.Whole.{handed-sound}
-use Rattle.qg_kept.proofs.Looked.{holds-looked}
+use Rattle.qg_open_image.proofs.PiecesRead.{handed}
+use Rattle.qg_open_image.proofs.WholeFile.{handed-sound}
+use Rattle.qg_open_image.proofs.Looked.{holds-looked}
 use Rattle.qg_machine.specs.FileChange.{pieces_meeting}
-use Rattle.qg_kept.specs.Files.{pieces_of}
+use Rattle.qg_open_image.specs.Files.{pieces_of}
 use Rattle.qg_file_commands.proofs.Asked.{found-read, inode-read}
 use Rattle.std.specs.Prelude.{Option}
 use Rattle.qg_items.specs.declared.file.InodeItem.{InodeItem}
-use Rattle.qg_kept.proofs.Stopped.{first-err, read-err}
+use Rattle.qg_open_image.proofs.Stopped.{first-err, read-err}
 use Rattle.qg_file_commands.proofs.finding.found_in.Goals as goal
 
 pub returns-in_err-met-clause-sound : goal.returns-in_err-met-clause-sound

@@ -1,6 +1,6 @@
-use Rattle.qg_kept.proofs.Looked.{is-near, is-readable, kept-read, tells-files}
+use Rattle.qg_open_image.proofs.Looked.{is-near, is-readable, kept-read, tells-files}
 use Rattle.qg_file_commands.proofs.Asked.{low, way-reads}
-use Rattle.qg_kept.proofs.InodesStopped.{stops-pieces}
+use Rattle.qg_open_image.proofs.InodesStopped.{stops-pieces}
 use Rattle.qg_file_commands.proofs.finding.inode_in.Goals as goal
 
 pub inode_of-requires : goal.inode_of-requires

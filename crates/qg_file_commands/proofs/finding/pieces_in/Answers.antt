@@ -1,7 +1,7 @@
-use Rattle.qg_kept.proofs.Looked.{is-near, is-readable, kept-read, tells-files}
-use Rattle.qg_kept.specs.Files.{pieces_of}
+use Rattle.qg_open_image.proofs.Looked.{is-near, is-readable, kept-read, tells-files}
+use Rattle.qg_open_image.specs.Files.{pieces_of}
 use Rattle.qg_file_commands.proofs.Asked.{low, pieces-read}
-use Rattle.qg_kept.proofs.InodesStopped.{stops-pieces}
+use Rattle.qg_open_image.proofs.InodesStopped.{stops-pieces}
 use Rattle.qg_file_commands.proofs.finding.pieces_in.Goals as goal
 
 pub pieces_meeting-requires : goal.pieces_meeting-requires

@@ -1,16 +1,16 @@
 use Rattle.std.proofs.Common.{refl, sym, ◌∙◌}
 use Rattle.std.specs.Prelude.{Option}
 use Rattle.qg_image.specs.declared.file.File.{File}
-use Rattle.qg_kept.proofs.PiecesRead.{handed}
-use Rattle.qg_kept.proofs.Whole.{handed-sound}
-use Rattle.qg_kept.specs.FsLawsKeeping.{other_names}
+use Rattle.qg_open_image.proofs.PiecesRead.{handed}
+use Rattle.qg_open_image.proofs.WholeFile.{handed-sound}
+use Rattle.qg_open_image.specs.FsLawsKeeping.{other_names}
 use Rattle.qg_file_commands.proofs.Listed.{lists, lists-no-file, lists-no-sub}
-use Rattle.qg_kept.proofs.Looked.{is-near, is-readable, keeps-looked, kept-read, looked-read, tells-files}
-use Rattle.qg_kept.proofs.Looked.{with_blocks}
-use Rattle.qg_kept.proofs.Turned.{looked-turned}
+use Rattle.qg_open_image.proofs.Looked.{is-near, is-readable, keeps-looked, kept-read, looked-read, tells-files}
+use Rattle.qg_open_image.proofs.Looked.{with_blocks}
+use Rattle.qg_open_image.proofs.Turned.{looked-turned}
 use Rattle.std.specs.Prelude.{Err}
-use Rattle.qg_kept.proofs.InodesStopped.{stops-pieces}
-use Rattle.qg_kept.proofs.Stopped.{turned-err}
+use Rattle.qg_open_image.proofs.InodesStopped.{stops-pieces}
+use Rattle.qg_open_image.proofs.Stopped.{turned-err}
 use Rattle.qg_file_commands.proofs.listing.list.Goals as goal
 
 pub file_of-requires : goal.file_of-requires

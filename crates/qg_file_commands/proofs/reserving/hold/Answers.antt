@@ -1,4 +1,4 @@
-use Rattle.qg_groups.specs.Tracked.{IsTracked}
+use Rattle.qg_qgroups.specs.Tracked.{IsTracked}
 use Rattle.qg_file_commands.proofs.ReservedBy.{ascends-on, fits-on, holds-off, holds-on, most-off, most-on, ok-anyway}
 use Rattle.qg_file_commands.proofs.ReservedBy.{quota-on}
 use Rattle.qg_file_commands.proofs.ReservedBy.{tracked-on}

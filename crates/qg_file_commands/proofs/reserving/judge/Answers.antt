@@ -1,9 +1,9 @@
 use Rattle.std.proofs.Common.{Option, ap, sym, ◌∙◌}
-use Rattle.qg_groups.specs.declared.state.QuotaState.{QuotaState}
-use Rattle.qg_groups.specs.OnOrOff.{path_in}
-use Rattle.qg_groups.specs.Tracked.{IsTracked, quota_of}
+use Rattle.qg_qgroups.specs.declared.state.QuotaState.{QuotaState}
+use Rattle.qg_qgroups.specs.OnOrOff.{path_in}
+use Rattle.qg_qgroups.specs.Tracked.{IsTracked, quota_of}
 use Rattle.qg_file_commands.proofs.ReservedBy.{group-there, judged-all, judged-off, judged-path, said-on}
-use Rattle.qg_kept.proofs.Tables.{key-listed}
+use Rattle.qg_open_image.proofs.Tables.{key-listed}
 use Rattle.qg_file_commands.proofs.reserving.judge.Goals as goal
 
 -- ---- quota is off

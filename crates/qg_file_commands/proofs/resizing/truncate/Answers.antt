@@ -1,28 +1,34 @@
-use Rattle.std.proofs.Common.{◌+◌, ◌*◌, ◌∙◌, ◌≤◌, ℕ, List, Option, ap, subst, sym}
+use Rattle.std.proofs.Common.{Some, ◌+◌, ◌*◌, ◌∙◌, ◌≤◌, ℕ, List, Option, ap, subst, sym, None, ◌≡◌}
+use Rattle.std.specs.Option.{option_map}
 use Rattle.qg_num.specs.declared.piece.Piece.{Piece}
 use Rattle.qg_items.specs.declared.file.InodeItem.{InodeItem}
+use Rattle.qg_root_items.specs.Written.{inode_of}
+use Rattle.qg_image.specs.State.{State}
 use Rattle.qg_image.specs.Table.{value_at}
 use Rattle.qg_image.specs.Need.{file_copies}
 use Rattle.qg_space.specs.Holding.{free_slots}
-use Rattle.qg_kept.proofs.PiecesRead.{handed}
-use Rattle.qg_kept.proofs.Whole.{handed-sound}
-use Rattle.qg_kept.specs.FsLawsKeeping.{other_names}
-use Rattle.qg_kept.specs.Editing.{size_refusal}
-use Rattle.qg_kept.specs.Keeping.{need_of}
+use Rattle.qg_open_image.proofs.PiecesRead.{handed}
+use Rattle.qg_open_image.proofs.WholeFile.{handed-sound}
+use Rattle.qg_open_image.specs.FsLawsKeeping.{other_names}
+use Rattle.qg_open_image.specs.Editing.{HasReadNodes, size_refusal}
+use Rattle.qg_open_image.specs.Keeping.{IsKeptOf, need_of}
 use Rattle.qg_file_commands.proofs.Edited.{if-none, kept-edited}
 use Rattle.qg_file_commands.proofs.Leaves.{copies-free}
-use Rattle.qg_kept.proofs.Looked.{holds-looked, is-subvolume, keeps-looked, looked-again, node-size, owner-read}
-use Rattle.qg_file_commands.proofs.Reasons.{missing-size, none-there, other-size, some-there, there-size}
+use Rattle.qg_open_image.proofs.Looked.{holds-looked, is-subvolume, keeps-looked, looked-again, node-size, owner-read}
+use Rattle.qg_file_commands.proofs.Reasons.{IsThere, missing-size, none-there, other-size, some-there, there-size}
 use Rattle.qg_file_commands.proofs.Sized.{lacks-slots, refuses-size, sized}
 use Rattle.qg_file_commands.proofs.Touched.{own-past}
-use Rattle.qg_kept.proofs.Turned.{same-read}
+use Rattle.qg_open_image.proofs.Turned.{same-read}
 use Rattle.qg_image.specs.FilesOf.{largest_size}
-use Rattle.qg_machine.specs.FileChange.{pieces_meeting}
-use Rattle.qg_kept.specs.Files.{pieces_of}
+use Rattle.qg_machine.specs.FileChange.{pieces_meeting, pieces_past}
+use Rattle.qg_inodes.specs.PiecesWritten.{pieces_met}
+use Rattle.qg_open_image.specs.Files.{HoldsFiles, pieces_of}
 use Rattle.qg_file_commands.proofs.Asked.{cut-pieces, own-reads, past-read}
 use Rattle.std.proofs.Common.{refl}
-use Rattle.qg_kept.proofs.Stopped.{turned-err}
+use Rattle.qg_open_image.proofs.Stopped.{turned-err}
+use Rattle.qg_file_commands.proofs.resizing.truncate.Given.{Over}
 use Rattle.qg_file_commands.proofs.resizing.truncate.Goals as goal
+use Rattle.qg_file_commands.proofs.resizing.truncate.Goals.{In_ok-why}
 
 pub no_nodes-requires : goal.no_nodes-requires
 no_nodes-requires g c = record { size = node-size c.pieces_in.new.kept c.in_ok-met.ensures.kept.fitted }
@@ -131,141 +137,128 @@ returns-in_err-met-clause-sound g c = λ state events told given.
     (holds-looked c.turn_to.new.kept c.inode_in.new.kept _ _ _ _ keeps.files c.in_ok-inode.ensures.looked
     keeps.keeps.holds))
 
+-- ---- what was read of the file, in a state that is kept
+
+module _ (g : Over) (c : In_ok-why g) (state : State)
+    (given : IsKeptOf c.args.kept.now state (g.D.Disk.history c.args.disk.now)) where
+  abbrev turned : IsKeptOf c.turn_to.new.kept state (g.D.Disk.history c.args.disk.now)
+  turned =
+      c.turn_to.ensures.keeps state (g.D.Disk.history c.args.disk.now) (g.D.Disk.size c.args.disk.now)
+      (other_names state) c.requires.kept given
+
+  inode-told : Some c.in-Some.inode ≡ option_map inode_of (value_at c.args.ino turned.files)
+  inode-told = sym c.in-Some.is ∙ c.in_ok-inode.ensures.found turned.files turned.keeps.holds
+
+  there : IsThere (value_at c.args.ino turned.files) c.in-Some.inode
+  there = some-there (value_at c.args.ino turned.files) c.in-Some.inode inode-told
+
+  first-held : HoldsFiles c.inode_in.new.kept.fs (g.D.Disk.history c.inode_in.new.disk) turned.files
+  first-held =
+      holds-looked c.turn_to.new.kept c.inode_in.new.kept _ _ _ _ turned.files c.in_ok-inode.ensures.looked
+      turned.keeps.holds
+
+  met-pieces : c.in_ok-met.met ≡ pieces_met c.args.size largest_size (pieces_of c.args.ino turned.files)
+  met-pieces = c.in_ok-met.ensures.found turned.files first-held
+
+  many-pieces : c.len.result ≡ pieces_past c.args.size there.file.pieces
+  many-pieces =
+      c.len.ensures
+      ∙ own-past c.args.ino there.file turned.files there.is c.args.size c.in_ok-met.met met-pieces
+      turned.keeps.holds.writable
+
+  looked : HasReadNodes c.turn_to.new.kept c.pieces_in.new.kept (g.D.Disk.history c.args.disk.now)
+      (g.D.Disk.history c.pieces_in.new.disk) (g.D.Disk.size c.args.disk.now) (g.D.Disk.size c.pieces_in.new.disk)
+  looked =
+      looked-again c.turn_to.new.kept c.inode_in.new.kept c.pieces_in.new.kept _ _ _ _ _ _
+      c.in_ok-inode.ensures.looked c.in_ok-met.ensures.looked
+
+  abbrev still : IsKeptOf c.pieces_in.new.kept state (g.D.Disk.history c.pieces_in.new.disk)
+  still =
+      keeps-looked c.turn_to.new.kept c.pieces_in.new.kept (g.D.Disk.history c.args.disk.now)
+      (g.D.Disk.history c.pieces_in.new.disk) (g.D.Disk.size c.args.disk.now) (g.D.Disk.size c.pieces_in.new.disk) state
+      (other_names state) looked turned
+
+  owner : c.args.sub ≡ c.pieces_in.new.kept.fs.tree.owner
+  owner =
+      sym (c.turn_to.ensures.hand c.if-not-turn_to.false)
+      ∙ owner-read c.turn_to.new.kept c.pieces_in.new.kept (g.D.Disk.history c.args.disk.now)
+      (g.D.Disk.history c.pieces_in.new.disk) (g.D.Disk.size c.args.disk.now) (g.D.Disk.size c.pieces_in.new.disk)
+      looked
+
+  passes : size_refusal state c.pieces_in.new.kept.fs.tree.owner c.args.ino c.args.size ≡ None
+  passes =
+      sym (ap (λ (sub : ℕ). size_refusal state sub c.args.ino c.args.size)
+      (owner-read c.inode_in.new.kept c.pieces_in.new.kept (g.D.Disk.history c.inode_in.new.disk)
+      (g.D.Disk.history c.pieces_in.new.disk) _ (g.D.Disk.size c.pieces_in.new.disk) c.in_ok-met.ensures.looked))
+      ∙ there-size c.inode_in.new.kept state (g.D.Disk.history c.inode_in.new.disk)
+      (keeps-looked c.turn_to.new.kept c.inode_in.new.kept (g.D.Disk.history c.args.disk.now)
+      (g.D.Disk.history c.inode_in.new.disk) (g.D.Disk.size c.args.disk.now) _ state (other_names state)
+      c.in_ok-inode.ensures.looked turned)
+      c.args.ino c.args.size there.file there.is ∙ sym c.in_default-refusal_of_size.ensures.value
+
 pub returns-in-Some-2-clause-step : goal.returns-in-Some-2-clause-step
 returns-in-Some-2-clause-step g c = λ state given.
-    let keeps = c.turn_to.ensures.keeps state (g.D.Disk.history c.args.disk.now) (g.D.Disk.size c.args.disk.now)
-    (other_names state) c.requires.kept given in
-    let kept = c.turn_to.new.kept in
-    let read = c.inode_in.new.kept in
-    let mid = c.pieces_in.new.kept in
-    let before = g.D.Disk.history c.args.disk.now in
-    let bytes = g.D.Disk.size c.args.disk.now in
-    let then = g.D.Disk.history c.inode_in.new.disk in
-    let between = g.D.Disk.history c.pieces_in.new.disk in
-    let left = g.D.Disk.size c.pieces_in.new.disk in
-    let first = c.in_ok-inode.ensures.looked in
-    let looked = looked-again kept read mid before then between bytes _ left first c.in_ok-met.ensures.looked in
-    let told = sym c.in-Some.is ∙ c.in_ok-inode.ensures.found keeps.files keeps.keeps.holds in
-    let there = some-there (value_at c.args.ino keeps.files) c.in-Some.inode told in
-    let met = c.in_ok-met.ensures.found keeps.files
-    (holds-looked kept read before then bytes _ keeps.files first keeps.keeps.holds) in
-    lacks-slots mid state between left c.args.sub c.args.ino c.args.size c.len.result there.file
-    c.in_ok-met.ensures.kept (keeps-looked kept mid before between bytes left state (other_names state) looked keeps)
-    c.in_ok-why.ensures.table
-    (sym (c.turn_to.ensures.hand c.if-not-turn_to.false) ∙ owner-read kept mid before between bytes left looked)
-    (sym (ap (λ (sub : ℕ). size_refusal state sub c.args.ino c.args.size)
-    (owner-read read mid then between _ left c.in_ok-met.ensures.looked))
-    ∙ there-size read state then (keeps-looked kept read before then bytes _ state (other_names state) first keeps)
-    c.args.ino c.args.size
-    there.file there.is ∙ sym c.in_default-refusal_of_size.ensures.value)
-    there.is
-    (c.len.ensures
-    ∙ own-past c.args.ino there.file keeps.files there.is c.args.size c.in_ok-met.met met keeps.keeps.holds.writable)
+    let at = (goal.at.returns-in-Some-2-clause-step g c).In_ok-why in
+    lacks-slots c.pieces_in.new.kept state (g.D.Disk.history c.pieces_in.new.disk)
+    (g.D.Disk.size c.pieces_in.new.disk) c.args.sub c.args.ino c.args.size c.len.result
+    (there g at state given).file c.in_ok-met.ensures.kept (still g at state given) c.in_ok-why.ensures.table
+    (owner g at state given) (passes g at state given) (there g at state given).is (many-pieces g at state given)
     c.in-Some-2.why (sym c.in-Some-2.is ∙ c.in_ok-why.ensures.value)
 
 pub returns-in_err-truncate-clause-sound : goal.returns-in_err-truncate-clause-sound
-returns-in_err-truncate-clause-sound g c = λ state events written given.
-    let keeps = c.turn_to.ensures.keeps state (g.D.Disk.history c.args.disk.now) (g.D.Disk.size c.args.disk.now)
-    (other_names state) c.requires.kept given in
-    let kept = c.turn_to.new.kept in
-    let read = c.inode_in.new.kept in
+returns-in_err-truncate-clause-sound g c = λ state events told given.
+    let at = (goal.at.returns-in_err-truncate-clause-sound g c).In_ok-why in
     let mid = c.pieces_in.new.kept in
-    let before = g.D.Disk.history c.args.disk.now in
-    let bytes = g.D.Disk.size c.args.disk.now in
-    let then = g.D.Disk.history c.inode_in.new.disk in
-    let between = g.D.Disk.history c.pieces_in.new.disk in
-    let left = g.D.Disk.size c.pieces_in.new.disk in
-    let first = c.in_ok-inode.ensures.looked in
-    let looked = looked-again kept read mid before then between bytes _ left first c.in_ok-met.ensures.looked in
-    let told = sym c.in-Some.is ∙ c.in_ok-inode.ensures.found keeps.files keeps.keeps.holds in
-    let there = some-there (value_at c.args.ino keeps.files) c.in-Some.inode told in
-    let met = c.in_ok-met.ensures.found keeps.files
-    (holds-looked kept read before then bytes _ keeps.files first keeps.keeps.holds) in
+    let holds = (still g at state given).keeps.holds in
     let enough = copies-free mid c.len.result
     (if-none c.in_ok-why.field-0 (need_of mid c.len.result ≤ free_slots mid.fs.land.space) c.in_default-2.is
     c.in_ok-why.ensures.enough) in
     handed-sound (Unit {0}) c.from_residual-in_err-truncate.result _
     (handed c.from_residual-in_err-truncate.result _ c.from_residual-in_err-truncate.ensures.1)
-    (c.in_err-truncate.ensures.sound events (looked.history ∙ written) keeps.files there.file
-    (holds-looked kept mid before between bytes left keeps.files looked keeps.keeps.holds) there.is
-    (record { inode = told; met = met })
+    (c.in_err-truncate.ensures.sound events ((looked g at state given).history ∙ told) (turned g at state given).files
+    (there g at state given).file holds (there g at state given).is
+    (record { inode = inode-told g at state given; met = met-pieces g at state given })
     (subst (λ (n : ℕ). 10 * file_copies mid.fs.tree.height n ≤ free_slots mid.fs.land.space)
-    (c.len.ensures
-    ∙ own-past c.args.ino there.file keeps.files there.is c.args.size c.in_ok-met.met met keeps.keeps.holds.writable)
-    enough))
+    (many-pieces g at state given) enough))
 
 pub returns-clause-step : goal.returns-clause-step
 returns-clause-step g c = λ state given.
-    let keeps = c.turn_to.ensures.keeps state (g.D.Disk.history c.args.disk.now) (g.D.Disk.size c.args.disk.now)
-    (other_names state) c.requires.kept given in
-    let kept = c.turn_to.new.kept in
-    let read = c.inode_in.new.kept in
+    let at = (goal.at.returns-clause-step g c).In_ok-why in
     let mid = c.pieces_in.new.kept in
-    let before = g.D.Disk.history c.args.disk.now in
-    let bytes = g.D.Disk.size c.args.disk.now in
-    let then = g.D.Disk.history c.inode_in.new.disk in
-    let between = g.D.Disk.history c.pieces_in.new.disk in
-    let left = g.D.Disk.size c.pieces_in.new.disk in
-    let first = c.in_ok-inode.ensures.looked in
-    let looked = looked-again kept read mid before then between bytes _ left first c.in_ok-met.ensures.looked in
-    let told = sym c.in-Some.is ∙ c.in_ok-inode.ensures.found keeps.files keeps.keeps.holds in
-    let there = some-there (value_at c.args.ino keeps.files) c.in-Some.inode told in
-    let met = c.in_ok-met.ensures.found keeps.files
-    (holds-looked kept read before then bytes _ keeps.files first keeps.keeps.holds) in
-    let still = keeps-looked kept mid before between bytes left state (other_names state) looked keeps in
-    sized mid state between left c.args.sub c.args.ino c.args.size c.len.result there.file c.in_ok-met.ensures.kept
-    still
-    c.in_ok-why.ensures.table
-    (sym (c.turn_to.ensures.hand c.if-not-turn_to.false) ∙ owner-read kept mid before between bytes left looked)
-    (sym (ap (λ (sub : ℕ). size_refusal state sub c.args.ino c.args.size)
-    (owner-read read mid then between _ left c.in_ok-met.ensures.looked))
-    ∙ there-size read state then (keeps-looked kept read before then bytes _ state (other_names state) first keeps)
-    c.args.ino c.args.size
-    there.file there.is ∙ sym c.in_default-refusal_of_size.ensures.value)
-    there.is
-    (c.len.ensures
-    ∙ own-past c.args.ino there.file keeps.files there.is c.args.size c.in_ok-met.met met keeps.keeps.holds.writable)
+    let kept = still g at state given in
+    sized mid state (g.D.Disk.history c.pieces_in.new.disk) (g.D.Disk.size c.pieces_in.new.disk) c.args.sub c.args.ino
+    c.args.size c.len.result (there g at state given).file c.in_ok-met.ensures.kept kept c.in_ok-why.ensures.table
+    (owner g at state given) (passes g at state given) (there g at state given).is (many-pieces g at state given)
     c.truncate.new.fs c.count_pending.new.kept (g.D.Disk.history c.truncate.new.disk)
     (g.D.Disk.size c.truncate.new.disk) c.count_pending.ensures.rest c.count_pending.ensures.table
     (sym c.in_default-2.is ∙ c.in_ok-why.ensures.value)
     (if-none c.in_ok-why.field-0 (need_of mid c.len.result ≤ free_slots mid.fs.land.space) c.in_default-2.is
     c.in_ok-why.ensures.enough)
     c.in_ok-truncate.ensures.leaves
-    (c.in_ok-truncate.ensures.cut keeps.files there.file still.keeps.holds there.is
-    (record { inode = told; met = met }))
+    (c.in_ok-truncate.ensures.cut (turned g at state given).files (there g at state given).file kept.keeps.holds
+    (there g at state given).is
+    (record { inode = inode-told g at state given; met = met-pieces g at state given }))
 
 -- ---- how much is read
 
 pub returns-clause-reads : goal.returns-clause-reads
 returns-clause-reads g c = λ accepted state change given change_told.
-    let keeps = c.turn_to.ensures.keeps state (g.D.Disk.history c.args.disk.now) (g.D.Disk.size c.args.disk.now)
-    (other_names state) c.requires.kept given in
-    let kept = c.turn_to.new.kept in
-    let read = c.inode_in.new.kept in
-    let mid = c.pieces_in.new.kept in
-    let before = g.D.Disk.history c.args.disk.now in
-    let bytes = g.D.Disk.size c.args.disk.now in
-    let then = g.D.Disk.history c.inode_in.new.disk in
-    let between = g.D.Disk.history c.pieces_in.new.disk in
-    let left = g.D.Disk.size c.pieces_in.new.disk in
-    let first = c.in_ok-inode.ensures.looked in
-    let looked = looked-again kept read mid before then between bytes _ left first c.in_ok-met.ensures.looked in
-    let told = sym c.in-Some.is ∙ c.in_ok-inode.ensures.found keeps.files keeps.keeps.holds in
-    let there = some-there (value_at c.args.ino keeps.files) c.in-Some.inode told in
-    let at_read = holds-looked kept read before then bytes _ keeps.files first keeps.keeps.holds in
-    let met = c.in_ok-met.ensures.found keeps.files at_read in
-    let still = keeps-looked kept mid before between bytes left state (other_names state) looked keeps in
-    let pieces = cut-pieces mid state between left c.in_ok-met.ensures.kept still c.in_ok-why.ensures.table change
-    c.args.sub c.args.ino c.args.size there.file
-    (sym (c.turn_to.ensures.hand c.if-not-turn_to.false) ∙ owner-read kept mid before between bytes left looked)
-    there.is change_told in
+    let at = (goal.at.returns-clause-reads g c).In_ok-why in
+    let files = (turned g at state given).files in
+    let file = (there g at state given).file in
+    let kept = still g at state given in
+    let pieces = cut-pieces c.pieces_in.new.kept state (g.D.Disk.history c.pieces_in.new.disk)
+    (g.D.Disk.size c.pieces_in.new.disk) c.in_ok-met.ensures.kept kept c.in_ok-why.ensures.table change c.args.sub
+    c.args.ino c.args.size file (owner g at state given) (there g at state given).is change_told in
     own-reads c.args.reads.now c.inode_in.new.reads c.pieces_in.new.reads c.truncate.new.reads
-    (pieces_meeting c.args.size largest_size (pieces_of c.args.ino keeps.files)) change.pieces
-    (c.in_ok-inode.ensures.reads keeps.files keeps.keeps.holds) (c.in_ok-met.ensures.reads keeps.files at_read)
+    (pieces_meeting c.args.size largest_size (pieces_of c.args.ino files)) change.pieces
+    (c.in_ok-inode.ensures.reads files (turned g at state given).keeps.holds)
+    (c.in_ok-met.ensures.reads files (first-held g at state given))
     (subst (λ (n : ℕ). c.truncate.new.reads ≤ c.pieces_in.new.reads + 45 * (n + 3)) pieces
-    (c.in_ok-truncate.ensures.reads keeps.files there.file still.keeps.holds there.is
-    (record { inode = told; met = met })))
-    (past-read c.args.ino there.file keeps.files there.is keeps.keeps.holds.writable c.args.size ∙ pieces)
+    (c.in_ok-truncate.ensures.reads files file kept.keeps.holds (there g at state given).is
+    (record { inode = inode-told g at state given; met = met-pieces g at state given })))
+    (past-read c.args.ino file files (there g at state given).is (turned g at state given).keeps.holds.writable
+    c.args.size ∙ pieces)
 
 -- ---- over any disk
 

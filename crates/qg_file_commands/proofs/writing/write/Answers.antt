@@ -3,28 +3,28 @@ use Rattle.qg_num.specs.declared.piece.Piece.{Piece}
 use Rattle.qg_num.specs.declared.refusal.Refusal.TheVariants as why
 use Rattle.qg_image.specs.Need.{file_copies}
 use Rattle.qg_machine.specs.FileChange.{pieces_meeting}
-use Rattle.qg_groups.specs.OnOrOff.{path_in, refusal_in}
-use Rattle.qg_groups.specs.Tracked.{quota_of}
+use Rattle.qg_qgroups.specs.OnOrOff.{path_in, refusal_in}
+use Rattle.qg_qgroups.specs.Tracked.{quota_of}
 use Rattle.qg_space.specs.Holding.{free_slots, is_free_run}
-use Rattle.qg_kept.proofs.PiecesRead.{handed}
-use Rattle.qg_kept.proofs.Whole.{handed-sound}
-use Rattle.qg_kept.specs.Types.{Found}
-use Rattle.qg_kept.specs.Files.{pieces_of}
-use Rattle.qg_kept.specs.FsLawsKeeping.{other_names}
-use Rattle.qg_kept.specs.declared.kept.Kept.{Kept}
-use Rattle.qg_kept.specs.Keeping.{most_reserved, need_of}
+use Rattle.qg_open_image.proofs.PiecesRead.{handed}
+use Rattle.qg_open_image.proofs.WholeFile.{handed-sound}
+use Rattle.qg_open_image.specs.Types.{Found}
+use Rattle.qg_open_image.specs.Files.{pieces_of}
+use Rattle.qg_open_image.specs.FsLawsKeeping.{other_names}
+use Rattle.qg_open_image.specs.declared.open_image.OpenImage.{OpenImage}
+use Rattle.qg_open_image.specs.Keeping.{most_reserved, need_of}
 use Rattle.qg_file_commands.proofs.Accepting.{judged-range, listed-still, nodesize-read, path-still, path-told}
 use Rattle.qg_file_commands.proofs.Accepting.{quota-read, range-small}
 use Rattle.qg_file_commands.proofs.Edited.{accepted-is, accepted-reserves, if-none, kept-accepted, kept-changed}
 use Rattle.qg_file_commands.proofs.Leaves.{copies-free}
-use Rattle.qg_kept.proofs.Looked.{holds-looked, is-subvolume, keeps-looked, node-size, owner-read}
+use Rattle.qg_open_image.proofs.Looked.{holds-looked, is-subvolume, keeps-looked, node-size, owner-read}
 use Rattle.qg_file_commands.proofs.Reasons.{other-range, range-told}
 use Rattle.qg_file_commands.proofs.Touched.{met-many}
-use Rattle.qg_kept.proofs.Turned.{same-read}
+use Rattle.qg_open_image.proofs.Turned.{same-read}
 use Rattle.qg_file_commands.proofs.Written.{lacks-run, lacks-slots, refuses-limit, refuses-range, written}
 use Rattle.qg_file_commands.proofs.Asked.{write-pieces, write-reads}
 use Rattle.std.proofs.Common.{refl}
-use Rattle.qg_kept.proofs.Stopped.{turned-err}
+use Rattle.qg_open_image.proofs.Stopped.{turned-err}
 use Rattle.qg_file_commands.proofs.writing.write.Goals as goal
 
 pub turn_to-requires : goal.turn_to-requires
@@ -190,7 +190,7 @@ write-requires-clause-subvolume g c =
 
 pub write-requires-clause-free : goal.write-requires-clause-free
 write-requires-clause-free g c =
-    subst (λ (kept : Kept). is_free_run kept.fs.land.space c.in-Some-run_for.run' c.args.len ≡ true)
+    subst (λ (kept : OpenImage). is_free_run kept.fs.land.space c.in-Some-run_for.run' c.args.len ≡ true)
     (sym c.in_ok-found.ensures.looked.same) c.in-Some-run_for.ensures.free
 
 pub returns-in_err-write-clause-sound : goal.returns-in_err-write-clause-sound
@@ -229,7 +229,7 @@ accept-requires g c =
     record {
       fitted = (kept-changed mid c.write.new.fs between (g.D.Disk.history c.write.new.disk) left
           (g.D.Disk.size c.write.new.disk) c.in_ok-found.ensures.kept c.in_ok-write.ensures.leaves own).fitted;
-      few = subst (λ (k : Kept). k.pending < 65536) (sym looked.same) c.in_default.ensures.few;
+      few = subst (λ (k : OpenImage). k.pending < 65536) (sym looked.same) c.in_default.ensures.few;
       small = range-small kept (c.turn_to.ensures.kept before bytes c.requires.kept).fitted c.args.len
           (c.args.len + c.from.result) (ap (λ (n : ℕ). c.args.len + n) c.from.ensures)
           c.in_default.ensures.writable.short;

@@ -5,7 +5,7 @@ use Rattle.qg_file_edits.proofs.Handed.{handed, memory-sound}
 use Rattle.qg_file_edits.proofs.Kept.{leaves-itself}
 use Rattle.qg_file_edits.proofs.Left.{done-files, done-reads, done-sound}
 use Rattle.qg_file_edits.specs.Changes.{IsRangeChange}
-use Rattle.qg_file_edits.proofs.Told.{ready-range, told-clone}
+use Rattle.qg_file_edits.proofs.CommandExchange.{ready-range, told-clone}
 use Rattle.qg_blocks.proofs.Stopping.{stops-memory}
 use Rattle.qg_file_edits.proofs.commands.clone_into.Goals as goal
 

@@ -3,13 +3,13 @@ use Rattle.std.specs.Prelude.{Option}
 use Rattle.std.specs.Option.{option_map}
 use Rattle.qg_items.specs.declared.file.InodeItem.{InodeItem}
 use Rattle.qg_image.specs.declared.file.File.{File}
-use Rattle.qg_contents.specs.Written.{inode_of}
+use Rattle.qg_root_items.specs.Written.{inode_of}
 use Rattle.qg_num.specs.declared.fault.BlockFault.TheVariants.{NoMemory}
 use Rattle.qg_file_edits.proofs.Handed.{handed, memory-sound}
 use Rattle.qg_file_edits.proofs.Kept.{leaves-itself, own-itself}
 use Rattle.qg_file_edits.proofs.Left.{done-files, done-reads, done-sound}
 use Rattle.qg_file_edits.specs.Changes.{IsCut}
-use Rattle.qg_file_edits.proofs.Told.{ready-cut, told-cut}
+use Rattle.qg_file_edits.proofs.CommandExchange.{ready-cut, told-cut}
 use Rattle.qg_blocks.proofs.Stopping.{stops-memory}
 use Rattle.qg_file_edits.proofs.commands.truncate.Goals as goal
 

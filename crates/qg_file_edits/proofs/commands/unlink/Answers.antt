@@ -1,6 +1,6 @@
 use Rattle.std.proofs.Common.{ℕ, ◌^◌, ◌<◌, subst, ◌∙◌}
 use Rattle.qg_file_edits.proofs.Left.{done-files, done-reads, done-sound}
-use Rattle.qg_file_edits.proofs.Told.{ready-unlink, told-unlink}
+use Rattle.qg_file_edits.proofs.CommandExchange.{ready-unlink, told-unlink}
 use Rattle.qg_file_edits.proofs.commands.unlink.Goals as goal
 
 pub make_exchange-requires-clause-ready : goal.make_exchange-requires-clause-ready

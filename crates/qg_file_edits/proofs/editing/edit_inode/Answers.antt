@@ -7,7 +7,7 @@ use Rattle.qg_items.specs.ItemText.{inode_text}
 use Rattle.qg_edit.specs.Edits.{has_key, with_item, without_key}
 use Rattle.qg_file_edits.specs.declared.inode.InodeEdit.{InodeEdit}
 use Rattle.qg_file_edits.specs.Editing.{AreMade, CanEditInode, after_inode, inode_key}
-use Rattle.qg_fs_layout.specs.Standing.{name_told}
+use Rattle.qg_shared_trees.specs.Standing.{name_told}
 use Rattle.qg_file_edits.specs.Naming.{AreCovered}
 use Rattle.qg_file_edits.proofs.Once.{put-as}
 use Rattle.qg_file_edits.proofs.editing.edit_inode.Goals as goal

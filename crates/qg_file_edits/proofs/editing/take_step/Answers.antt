@@ -4,12 +4,12 @@ use Rattle.std.specs.List.{filter_map}
 use Rattle.qg_num.specs.declared.key.Key.{Key}
 use Rattle.qg_node.specs.declared.item.Item.{Item}
 use Rattle.qg_items.specs.ItemText.{extent_data_text}
-use Rattle.qg_contents.specs.Written.{extent_data_of}
+use Rattle.qg_root_items.specs.Written.{extent_data_of}
 use Rattle.qg_edit.specs.Edits.{has_key, with_item, without_key}
-use Rattle.qg_exchange.specs.declared.step.Step.{Step}
-use Rattle.qg_exchange.specs.Applying.{CanApply, after_step, key_at}
+use Rattle.qg_file_edits.specs.declared.step.Step.{Step}
+use Rattle.qg_file_edits.specs.Applying.{CanApply, after_step, key_at}
 use Rattle.qg_file_edits.specs.Editing.{AreMade}
-use Rattle.qg_fs_layout.specs.Standing.{name_told}
+use Rattle.qg_shared_trees.specs.Standing.{name_told}
 use Rattle.qg_file_edits.specs.Naming.{AreCovered}
 use Rattle.qg_file_edits.proofs.Once.{put-as}
 use Rattle.qg_file_edits.proofs.editing.take_step.Goals as goal

@@ -1,6 +1,6 @@
 use Rattle.std.proofs.Common.{◌≤◌, length, arith}
 use Rattle.std.proofs.lemmas.List.{take_all}
-use Rattle.qg_exchange.specs.Applying.{after_steps}
+use Rattle.qg_file_edits.specs.Applying.{after_steps}
 use Rattle.qg_device.proofs.Causes.{cause-told}
 use Rattle.qg_file_edits.proofs.Handed.{handed, made-handed}
 use Rattle.qg_file_edits.proofs.Items.{is-at}

@@ -1,8 +1,8 @@
 use Rattle.std.proofs.Common.{List, sym, subst}
 use Rattle.qg_device.proofs.Causes.{cause-last}
 use Rattle.qg_num.specs.declared.fault.BlockFault.TheVariants.{NoMemory}
-use Rattle.qg_exchange.specs.declared.step.Step.{Step}
-use Rattle.qg_exchange.specs.Steps.{AreSteps}
+use Rattle.qg_file_edits.specs.declared.step.Step.{Step}
+use Rattle.qg_file_edits.specs.Steps.{AreSteps}
 use Rattle.qg_file_edits.specs.Exchanging.{after_exchange}
 use Rattle.qg_file_edits.proofs.Edited.{made-not}
 use Rattle.qg_file_edits.proofs.Handed.{handed, made-handed}

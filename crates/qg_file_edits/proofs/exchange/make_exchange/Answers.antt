@@ -4,12 +4,12 @@ use Rattle.std.specs.List.{filter_map, flat_map}
 use Rattle.qg_device.proofs.Causes.{cause-other}
 use Rattle.qg_num.specs.declared.piece.Piece.{Piece}
 use Rattle.qg_node.specs.declared.item.Item.{Item}
-use Rattle.qg_contents.specs.Written.{items_of_file}
+use Rattle.qg_root_items.specs.Written.{items_of_file}
 use Rattle.qg_edit.proofs.Leaves.{ok-known}
 use Rattle.qg_refs.specs.declared.kept.Kept.{Kept}
 use Rattle.qg_extents.specs.Table.{IsTable}
-use Rattle.qg_exchange.specs.Named.{named, names_of}
-use Rattle.qg_fs_layout.specs.Standing.{Stands, name_told}
+use Rattle.qg_file_edits.specs.Named.{named, names_of}
+use Rattle.qg_shared_trees.specs.Standing.{Stands, name_told}
 use Rattle.qg_file_edits.specs.Naming.{AreCovered, AreNamed}
 use Rattle.qg_file_edits.proofs.Edited.{made-not}
 use Rattle.qg_file_edits.proofs.Handed.{handed, made-handed}

@@ -1,8 +1,8 @@
 use Rattle.std.proofs.Common.{◌++◌, ◌*◌, List, length, take, subst}
 use Rattle.std.proofs.lemmas.List.{take_all}
 use Rattle.qg_num.specs.declared.piece.Piece.{Piece}
-use Rattle.qg_fs_layout.specs.Heavier.{BookGetsHeavier, name_bytes}
-use Rattle.qg_exchange.specs.Named.{names_of}
+use Rattle.qg_shared_trees.specs.Heavier.{BookGetsHeavier, name_bytes}
+use Rattle.qg_file_edits.specs.Named.{names_of}
 use Rattle.qg_file_edits.specs.Naming.{StandsMoved}
 use Rattle.qg_file_edits.proofs.Handed.{handed, misfit-other, named-failed}
 use Rattle.qg_file_edits.proofs.Items.{is-at}

@@ -3,10 +3,10 @@ use Rattle.std.specs.Prelude.{⊤, IsTrue, MatchOption, OnOk, Option}
 use Rattle.std.specs.Option.{option_to_list}
 use Rattle.qg_num.specs.declared.piece.Piece.{Piece}
 use Rattle.qg_space.specs.Holding.{is_free_run}
-use Rattle.qg_fs_layout.specs.Heavier.{BookGetsHeavier, name_new_bytes}
-use Rattle.qg_fs_layout.proofs.Sums.{BookGetsHeavier-same}
-use Rattle.qg_exchange.specs.Named.{names_of}
-use Rattle.qg_fs_layout.proofs.Moved.{moves-itself}
+use Rattle.qg_shared_trees.specs.Heavier.{BookGetsHeavier, name_new_bytes}
+use Rattle.qg_shared_trees.proofs.Sums.{BookGetsHeavier-same}
+use Rattle.qg_file_edits.specs.Named.{names_of}
+use Rattle.qg_shared_trees.proofs.Moved.{moves-itself}
 use Rattle.qg_file_edits.specs.Naming.{AreNamed}
 use Rattle.qg_file_edits.proofs.Handed.{misfit-none}
 use Rattle.qg_file_edits.proofs.Kept.{nodes-itself}

@@ -1,7 +1,7 @@
 use Rattle.std.proofs.Common.{◌+◌, ◌++◌, List, drop, subst}
 use Rattle.std.proofs.lemmas.List.{drop_all}
 use Rattle.qg_num.specs.declared.piece.Piece.{Piece}
-use Rattle.qg_exchange.specs.Named.{names_of}
+use Rattle.qg_file_edits.specs.Named.{names_of}
 use Rattle.qg_file_edits.specs.Naming.{StandsMoved}
 use Rattle.qg_file_edits.proofs.Handed.{handed, misfit-other, named-failed}
 use Rattle.qg_file_edits.proofs.Items.{is-at}

@@ -3,7 +3,7 @@ use Rattle.std.specs.Prelude.{Option}
 use Rattle.qg_num.specs.declared.piece.Piece.{Piece}
 use Rattle.qg_items.specs.declared.file.InodeItem.{InodeItem}
 use Rattle.qg_inodes.proofs.PiecesRead.{handed}
-use Rattle.qg_inodes.proofs.Whole.{file-whole, files-after, handed-sound, steps-whole}
+use Rattle.qg_inodes.proofs.WholeFile.{file-whole, files-after, handed-sound, steps-whole}
 use Rattle.std.proofs.Common.{refl}
 use Rattle.qg_inodes.proofs.Stopped.{pieces-err}
 use Rattle.qg_inodes.proofs.file.file_of.Goals as goal

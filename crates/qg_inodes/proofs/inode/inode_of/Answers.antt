@@ -1,7 +1,7 @@
 use Rattle.std.proofs.Common.{◌≡◌, Some, None, sym, ap, ◌∙◌}
 use Rattle.qg_items.specs.ItemReading.{inode_read}
 use Rattle.qg_num.specs.declared.key.Key.{Key}
-use Rattle.qg_descent.specs.Reading.{body_at}
+use Rattle.qg_tree_read.specs.Reading.{body_at}
 use Rattle.qg_inodes.proofs.Answered.{inode-absent, inode-misread, inode-present, inode-read}
 use Rattle.std.proofs.Common.{ℕ, refl}
 use Rattle.std.specs.Prelude.{Err, List, Option}

@@ -6,14 +6,14 @@ use Rattle.qg_num.specs.declared.key.Key.{Key}
 use Rattle.qg_num.specs.declared.piece.Piece.{Piece}
 use Rattle.qg_node.specs.declared.item.Item.{Item}
 use Rattle.qg_image.specs.declared.file.File.{File}
-use Rattle.qg_image.specs.declared.tree.Tree.TheVariants.{Files}
-use Rattle.qg_parts.specs.Keys.{key_with}
-use Rattle.qg_descent.specs.Reading.{items_within, last_upto}
-use Rattle.qg_descent.specs.Tree.{TellsTree}
-use Rattle.qg_file_items.specs.Pieces.{pieces_met}
+use Rattle.qg_image.specs.declared.tree.TreeKind.TheVariants.{Files}
+use Rattle.qg_tree_items.specs.Keys.{key_with}
+use Rattle.qg_tree_read.specs.Reading.{items_within, last_upto}
+use Rattle.qg_tree_read.specs.Tree.{TellsTree}
+use Rattle.qg_inodes.specs.PiecesWritten.{pieces_met}
 use Rattle.qg_inodes.specs.Items.{piece_of}
 use Rattle.qg_inodes.specs.Pieces.{pieces_at}
-use Rattle.qg_inodes.specs.Told.{TellsFiles}
+use Rattle.qg_inodes.specs.TreeFiles.{TellsFiles}
 use Rattle.qg_inodes.proofs.PiecesRead.{AreMet, added-broken, added-sound, are-met-long, are-met-short, found-after}
 use Rattle.qg_inodes.proofs.PiecesRead.{handed, judged-broken, judged-found, judged-sound, misread-broken}
 use Rattle.qg_inodes.proofs.PiecesRead.{misread-sound, steps-met, unread-before, unread-begun}

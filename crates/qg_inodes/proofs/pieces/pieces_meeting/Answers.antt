@@ -1,17 +1,20 @@
-use Rattle.std.proofs.Common.{◌≡◌, ◌+◌, ◌≤◌, List, sym, ap, subst, ◌∙◌, arith}
+use Rattle.std.proofs.Common.{◌+◌, List, sym, ap, subst, ◌∙◌, arith}
 use Rattle.std.specs.Prelude.{Err, Result}
 use Rattle.qg_num.specs.declared.fault.BlockFault.{BlockFault}
 use Rattle.qg_num.specs.declared.key.Key.{Key}
 use Rattle.qg_num.specs.declared.piece.Piece.{Piece}
-use Rattle.qg_blocks.specs.Told.{BreaksNone}
-use Rattle.qg_descent.specs.Reading.{last_upto}
-use Rattle.qg_inodes.proofs.PiecesRead.{are-met-alone, are-met-more, files-read, handed, judged-broken, judged-found}
+use Rattle.qg_blocks.specs.NodesFound.{BreaksNone}
+use Rattle.qg_tree_read.specs.Reading.{last_upto}
+use Rattle.qg_inodes.proofs.PiecesRead.{AreMet, are-met-alone, are-met-more, files-read, handed, judged-broken}
+use Rattle.qg_inodes.proofs.PiecesRead.{judged-found}
 use Rattle.qg_inodes.proofs.PiecesRead.{judged-sound, misread-broken, misread-sound, steps-more, unread-before}
 use Rattle.std.proofs.Common.{refl}
 use Rattle.std.specs.Prelude.{Option}
 use Rattle.qg_node.specs.declared.item.Item.{Item}
 use Rattle.qg_inodes.proofs.Stopped.{pieces-err, pieces-judged, pieces-unread, pieces-way}
+use Rattle.qg_inodes.proofs.pieces.pieces_meeting.Given.{Over}
 use Rattle.qg_inodes.proofs.pieces.pieces_meeting.Goals as goal
+use Rattle.qg_inodes.proofs.pieces.pieces_meeting.Goals.{After-judged, After-judged-2}
 
 -- ---- where the last item says nothing
 
@@ -35,50 +38,34 @@ returns-in_err-reaching-clause-broken g c events is =
 
 -- ---- where no piece begins behind the range's begin
 
-pub returns-in_default-clause-found : goal.returns-in_default-clause-found
-returns-in_default-clause-found g c =
-    let root = c.args.tree.now in
-    let draft = c.args.blocks.now.draft in
-    let history = g.D.Disk.history c.args.disk.now in
-    let met =
-    are-met-alone root draft history c.args.ino c.args.from c.args.to (g.D.Disk.size c.args.disk.now) (omega arith)
-    c.requires.readable.placed c.in_ok-last.last c.in_ok-reaching.reaching
+alone-met : (g : Over) (c : After-judged g)
+    → AreMet c.args.tree.now c.args.blocks.now.draft (g.D.Disk.history c.args.disk.now) c.args.ino c.args.from c.args.to
+    c.in_ok-pieces.pieces
+alone-met g c =
+    are-met-alone c.args.tree.now c.args.blocks.now.draft (g.D.Disk.history c.args.disk.now) c.args.ino c.args.from
+    c.args.to (g.D.Disk.size c.args.disk.now) (omega arith) c.requires.readable.placed c.in_ok-last.last
+    c.in_ok-reaching.reaching
     (λ items tells.
     c.in_ok-last.ensures.found items tells ∙ ap (λ (k : Key). last_upto k items) c.piece_key-end.ensures)
     c.in_ok-reaching.ensures c.in_ok-pieces.pieces c.in_ok-pieces.ensures c.in_default.ensures.none
-    in
-    judged-found root draft c.args.ino c.args.from c.args.to c.in_ok-pieces.pieces history c.judged.result
-    c.judged.ensures met
+
+pub returns-in_default-clause-found : goal.returns-in_default-clause-found
+returns-in_default-clause-found g c =
+    judged-found c.args.tree.now c.args.blocks.now.draft c.args.ino c.args.from c.args.to c.in_ok-pieces.pieces
+    (g.D.Disk.history c.args.disk.now) c.judged.result c.judged.ensures
+    (alone-met g (goal.at.returns-in_default-clause-found g c).After-judged)
 
 pub returns-in_default-clause-sound : goal.returns-in_default-clause-sound
 returns-in_default-clause-sound g c =
-    let root = c.args.tree.now in
-    let draft = c.args.blocks.now.draft in
-    let history = g.D.Disk.history c.args.disk.now in
-    let met =
-    are-met-alone root draft history c.args.ino c.args.from c.args.to (g.D.Disk.size c.args.disk.now) (omega arith)
-    c.requires.readable.placed c.in_ok-last.last c.in_ok-reaching.reaching
-    (λ items tells.
-    c.in_ok-last.ensures.found items tells ∙ ap (λ (k : Key). last_upto k items) c.piece_key-end.ensures)
-    c.in_ok-reaching.ensures c.in_ok-pieces.pieces c.in_ok-pieces.ensures c.in_default.ensures.none
-    in
-    judged-sound root draft c.args.ino c.args.from c.args.to c.in_ok-pieces.pieces history c.judged.result
-    c.judged.ensures met
+    judged-sound c.args.tree.now c.args.blocks.now.draft c.args.ino c.args.from c.args.to c.in_ok-pieces.pieces
+    (g.D.Disk.history c.args.disk.now) c.judged.result c.judged.ensures
+    (alone-met g (goal.at.returns-in_default-clause-sound g c).After-judged)
 
 pub returns-in_default-clause-broken : goal.returns-in_default-clause-broken
 returns-in_default-clause-broken g c events is =
-    let root = c.args.tree.now in
-    let draft = c.args.blocks.now.draft in
-    let history = g.D.Disk.history c.args.disk.now in
-    let met =
-    are-met-alone root draft history c.args.ino c.args.from c.args.to (g.D.Disk.size c.args.disk.now) (omega arith)
-    c.requires.readable.placed c.in_ok-last.last c.in_ok-reaching.reaching
-    (λ items tells.
-    c.in_ok-last.ensures.found items tells ∙ ap (λ (k : Key). last_upto k items) c.piece_key-end.ensures)
-    c.in_ok-reaching.ensures c.in_ok-pieces.pieces c.in_ok-pieces.ensures c.in_default.ensures.none
-    in
-    judged-broken root draft c.args.ino c.args.from c.args.to c.in_ok-pieces.pieces history events c.judged.result is
-    c.judged.ensures met
+    judged-broken c.args.tree.now c.args.blocks.now.draft c.args.ino c.args.from c.args.to c.in_ok-pieces.pieces
+    (g.D.Disk.history c.args.disk.now) events c.judged.result is c.judged.ensures
+    (alone-met g (goal.at.returns-in_default-clause-broken g c).After-judged)
 
 -- ---- where the last one does
 
@@ -133,68 +120,41 @@ returns-clause-reads g c files tells =
     (files-read root c.args.blocks.now c.last_to.new.blocks history (g.D.Disk.history c.last_to.new.disk)
     (g.D.Disk.size c.args.disk.now) (g.D.Disk.size c.last_to.new.disk) c.in_ok-last.ensures.read files tells))
 
-pub returns-clause-found : goal.returns-clause-found
-returns-clause-found g c =
-    let root = c.args.tree.now in
-    let draft = c.args.blocks.now.draft in
-    let history = g.D.Disk.history c.args.disk.now in
-    let met =
-    are-met-more root draft history c.args.ino c.args.from c.args.to (g.D.Disk.size c.args.disk.now) (omega arith)
-    c.requires.readable.placed c.in_ok-last.last c.in_ok-reaching.reaching
+more-met : (g : Over) (c : After-judged-2 g)
+    → AreMet c.args.tree.now c.args.blocks.now.draft (g.D.Disk.history c.args.disk.now) c.args.ino c.args.from c.args.to
+    c.push.new.self
+more-met g c =
+    are-met-more c.args.tree.now c.args.blocks.now.draft (g.D.Disk.history c.args.disk.now) c.args.ino c.args.from
+    c.args.to (g.D.Disk.size c.args.disk.now) (omega arith) c.requires.readable.placed c.in_ok-last.last
+    c.in_ok-reaching.reaching
     (λ items tells.
     c.in_ok-last.ensures.found items tells ∙ ap (λ (k : Key). last_upto k items) c.piece_key-end.ensures)
     c.in_ok-reaching.ensures c.in-Some.piece c.in-Some.ensures.some.0 c.in-Some.ensures.some.1
     c.in_ok-pieces-2.pieces c.push.new.self
     (λ files tells.
     c.in_ok-pieces-2.ensures.found files
-    (files-read root c.args.blocks.now c.last_to.new.blocks history (g.D.Disk.history c.last_to.new.disk)
-    (g.D.Disk.size c.args.disk.now) (g.D.Disk.size c.last_to.new.disk) c.in_ok-last.ensures.read files tells))
+    (files-read c.args.tree.now c.args.blocks.now c.last_to.new.blocks (g.D.Disk.history c.args.disk.now)
+    (g.D.Disk.history c.last_to.new.disk) (g.D.Disk.size c.args.disk.now) (g.D.Disk.size c.last_to.new.disk)
+    c.in_ok-last.ensures.read files tells))
     c.in_ok-push.ensures.ok
-    in
-    judged-found root draft c.args.ino c.args.from c.args.to c.push.new.self history c.judged-2.result
-    c.judged-2.ensures met
+
+pub returns-clause-found : goal.returns-clause-found
+returns-clause-found g c =
+    judged-found c.args.tree.now c.args.blocks.now.draft c.args.ino c.args.from c.args.to c.push.new.self
+    (g.D.Disk.history c.args.disk.now) c.judged-2.result c.judged-2.ensures
+    (more-met g (goal.at.returns-clause-found g c).After-judged-2)
 
 pub returns-clause-sound : goal.returns-clause-sound
 returns-clause-sound g c =
-    let root = c.args.tree.now in
-    let draft = c.args.blocks.now.draft in
-    let history = g.D.Disk.history c.args.disk.now in
-    let met =
-    are-met-more root draft history c.args.ino c.args.from c.args.to (g.D.Disk.size c.args.disk.now) (omega arith)
-    c.requires.readable.placed c.in_ok-last.last c.in_ok-reaching.reaching
-    (λ items tells.
-    c.in_ok-last.ensures.found items tells ∙ ap (λ (k : Key). last_upto k items) c.piece_key-end.ensures)
-    c.in_ok-reaching.ensures c.in-Some.piece c.in-Some.ensures.some.0 c.in-Some.ensures.some.1
-    c.in_ok-pieces-2.pieces c.push.new.self
-    (λ files tells.
-    c.in_ok-pieces-2.ensures.found files
-    (files-read root c.args.blocks.now c.last_to.new.blocks history (g.D.Disk.history c.last_to.new.disk)
-    (g.D.Disk.size c.args.disk.now) (g.D.Disk.size c.last_to.new.disk) c.in_ok-last.ensures.read files tells))
-    c.in_ok-push.ensures.ok
-    in
-    judged-sound root draft c.args.ino c.args.from c.args.to c.push.new.self history c.judged-2.result
-    c.judged-2.ensures met
+    judged-sound c.args.tree.now c.args.blocks.now.draft c.args.ino c.args.from c.args.to c.push.new.self
+    (g.D.Disk.history c.args.disk.now) c.judged-2.result c.judged-2.ensures
+    (more-met g (goal.at.returns-clause-sound g c).After-judged-2)
 
 pub returns-clause-broken : goal.returns-clause-broken
 returns-clause-broken g c events is =
-    let root = c.args.tree.now in
-    let draft = c.args.blocks.now.draft in
-    let history = g.D.Disk.history c.args.disk.now in
-    let met =
-    are-met-more root draft history c.args.ino c.args.from c.args.to (g.D.Disk.size c.args.disk.now) (omega arith)
-    c.requires.readable.placed c.in_ok-last.last c.in_ok-reaching.reaching
-    (λ items tells.
-    c.in_ok-last.ensures.found items tells ∙ ap (λ (k : Key). last_upto k items) c.piece_key-end.ensures)
-    c.in_ok-reaching.ensures c.in-Some.piece c.in-Some.ensures.some.0 c.in-Some.ensures.some.1
-    c.in_ok-pieces-2.pieces c.push.new.self
-    (λ files tells.
-    c.in_ok-pieces-2.ensures.found files
-    (files-read root c.args.blocks.now c.last_to.new.blocks history (g.D.Disk.history c.last_to.new.disk)
-    (g.D.Disk.size c.args.disk.now) (g.D.Disk.size c.last_to.new.disk) c.in_ok-last.ensures.read files tells))
-    c.in_ok-push.ensures.ok
-    in
-    judged-broken root draft c.args.ino c.args.from c.args.to c.push.new.self history events c.judged-2.result is
-    c.judged-2.ensures met
+    judged-broken c.args.tree.now c.args.blocks.now.draft c.args.ino c.args.from c.args.to c.push.new.self
+    (g.D.Disk.history c.args.disk.now) events c.judged-2.result is c.judged-2.ensures
+    (more-met g (goal.at.returns-clause-broken g c).After-judged-2)
 
 -- ---- over any disk
 

@@ -4,7 +4,7 @@ use Rattle.qg_node.specs.declared.node.Node.{Node}
 use Rattle.qg_node.specs.Nodes.{items_bytes}
 use Rattle.qg_image.specs.Table.{keys_of}
 use Rattle.qg_image.specs.Need.{nodes_filled}
-use Rattle.qg_contents.specs.Written.{quota_roots}
+use Rattle.qg_root_items.specs.Written.{quota_roots}
 use Rattle.qg_extents.specs.Written.{items_of_book}
 use Rattle.qg_other_trees.specs.Trees.{AreEnough, IsQuotaTreeOf, most_nodes, quota_nodes_laid, quota_tree_bytes}
 use Rattle.qg_other_trees.specs.Trees.{quota_trees, root_tree_bytes}

@@ -1,7 +1,7 @@
 use Rattle.std.proofs.Common.{◌≤◌, sym, ap, subst, ◌∙◌}
 use Rattle.std.specs.Prelude.{Option, Some, IfSome}
 use Rattle.qg_items.specs.declared.root.RootItem.{RootItem}
-use Rattle.qg_tree.specs.declared.building.Built.{Built}
+use Rattle.qg_tree_layout.specs.declared.building.Built.{Built}
 use Rattle.qg_other_trees.proofs.QuotaTree.{root_if}
 use Rattle.qg_other_trees.proofs.trees.quota_root.Goals as goal
 

@@ -1,6 +1,6 @@
 use Rattle.std.proofs.lemmas.Result.{IfOk-weaker}
 use Rattle.qg_items.specs.declared.root.RootItem.{RootItem}
-use Rattle.qg_contents.specs.Writable.{IsRootBy, IsWritableRoot}
+use Rattle.qg_root_items.specs.Writable.{IsRootBy, IsWritableRoot}
 use Rattle.qg_other_trees.specs.Trees.{RootsTell}
 use Rattle.qg_other_trees.proofs.Enough.{few_nodes}
 use Rattle.qg_other_trees.proofs.QuotaTree.{of_some}

@@ -1,7 +1,7 @@
 use Rattle.std.proofs.Common.{◌≡◌, [], take}
 use Rattle.std.specs.List.{fold}
 use Rattle.qg_machine.specs.GroupChange.{with_pair}
-use Rattle.qg_hier.specs.Kept.{PairsFit}
+use Rattle.qg_qgroups.specs.Kept.{PairsFit}
 use Rattle.qg_quota.proofs.pairs.both_ways.Given as goal
 
 abbrev pub invariant-loop-pair : goal.invariant-loop-pair

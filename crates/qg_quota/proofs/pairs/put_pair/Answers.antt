@@ -2,8 +2,8 @@ use Rattle.std.proofs.Common.{ℕ, ◌<◌, ◌^◌, List, sym, subst, ap, ◌�
 use Rattle.std.specs.List.{All}
 use Rattle.std.proofs.lemmas.Map.Views.{All-insert_key}
 use Rattle.qg_machine.specs.GroupChange.{with_pair}
-use Rattle.qg_hier.specs.Groups.{pair_cmp}
-use Rattle.qg_hier.proofs.Sets.{pair_put}
+use Rattle.qg_qgroups.specs.Groups.{pair_cmp}
+use Rattle.qg_qgroups.proofs.Sets.{pair_put}
 use Rattle.qg_quota.proofs.pairs.put_pair.Goals as goal
 
 pub returns-clause-keys : goal.returns-clause-keys

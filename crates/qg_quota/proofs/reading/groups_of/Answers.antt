@@ -5,7 +5,7 @@ use Rattle.qg_items.specs.declared.quota.QgroupLimit.{QgroupLimit}
 use Rattle.qg_image.specs.Table.{value_at}
 use Rattle.qg_image.specs.declared.quota.Group.{Group}
 use Rattle.qg_image.specs.ImageState.{group_told}
-use Rattle.qg_quota.specs.Told.{group_by}
+use Rattle.qg_quota.specs.QuotaKinds.{group_by}
 use Rattle.qg_quota.proofs.Lists.{map-next}
 use Rattle.qg_quota.proofs.reading.groups_of.Goals as goal
 

@@ -1,5 +1,5 @@
 use Rattle.std.proofs.Common.{◌≡◌, map, take}
-use Rattle.qg_quota.specs.Told.{group_by}
+use Rattle.qg_quota.specs.QuotaKinds.{group_by}
 use Rattle.qg_quota.proofs.reading.groups_of.Given as goal
 
 abbrev pub invariant-loop-entry : goal.invariant-loop-entry

@@ -1,7 +1,7 @@
 use Rattle.std.proofs.Common.{ℕ, List, ◌∷◌, [], ◌++◌, get_or, ap, sym, ◌∙◌}
 use Rattle.std.specs.List.{filter}
 use Rattle.std.proofs.lemmas.List.{get_or_default, take_all}
-use Rattle.qg_quota.specs.Told.{rises}
+use Rattle.qg_quota.specs.QuotaKinds.{rises}
 use Rattle.qg_quota.proofs.Lists.{filter-more}
 use Rattle.qg_quota.proofs.reading.pairs_of.Goals as goal
 

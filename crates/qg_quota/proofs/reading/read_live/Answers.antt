@@ -1,6 +1,6 @@
 use Rattle.std.proofs.Common.{ℕ, List, ap, sym, ◌∙◌}
 use Rattle.std.specs.List.{filter}
-use Rattle.qg_quota.specs.Told.{rises}
+use Rattle.qg_quota.specs.QuotaKinds.{rises}
 use Rattle.qg_quota.proofs.ToldBack.{quota-is, told-ascends, told-sound}
 use Rattle.qg_quota.proofs.reading.read_live.Goals as goal
 

@@ -1,6 +1,6 @@
 use Rattle.std.proofs.Common.{◌≡◌, true, take}
 use Rattle.std.specs.List.{list_all}
-use Rattle.qg_quota.specs.Told.{fits_told}
+use Rattle.qg_quota.specs.QuotaKinds.{fits_told}
 use Rattle.qg_quota.proofs.rules.are_fitting.Given as goal
 
 abbrev pub invariant-loop-part : goal.invariant-loop-part

@@ -1,5 +1,5 @@
 use Rattle.std.proofs.Common.{sym, ◌∙◌, arith}
-use Rattle.qg_groups.proofs.Tables.{above-of, found-at, missing-at}
+use Rattle.qg_qgroups.proofs.Tables.{above-of, found-at, missing-at}
 use Rattle.qg_quota.proofs.rules.value_of.Goals as goal
 use Rattle.qg_quota.proofs.rules.value_of.Goals.{else-place-entries-via-then-place-entries+else-eq}
 use Rattle.qg_quota.proofs.rules.value_of.Goals.{else-place-entries-via-else-place-entries}

@@ -3,7 +3,7 @@ use Rattle.std.specs.Prelude.{IfErr, IfOk, IsTrue, OnOk, Option, Some}
 use Rattle.qg_num.specs.declared.rule.Rule.{Rule}
 use Rattle.qg_node.specs.Nodes.{is_ascending}
 use Rattle.qg_image.specs.declared.part.QuotaPart.{QuotaPart}
-use Rattle.qg_parts.specs.Keys.{quota_key}
+use Rattle.qg_tree_items.specs.Keys.{quota_key}
 use Rattle.qg_image.specs.ImageState.{quota_told}
 use Rattle.qg_quota.specs.Quota.{quota_rule, IfRule}
 use Rattle.qg_quota.proofs.RuleOrder.{parts-ascend, read-parts, rule-of-none, rule-of-parts}

@@ -1,7 +1,7 @@
 use Rattle.std.proofs.Common.{◌≡◌, true, take}
 use Rattle.std.specs.List.{filter_map, list_all}
 use Rattle.qg_image.specs.ItemMeaning.{quota_part}
-use Rattle.qg_image.specs.declared.tree.Tree.TheVariants.{Quotas}
+use Rattle.qg_image.specs.declared.tree.TreeKind.TheVariants.{Quotas}
 use Rattle.qg_image.specs.Walk.{is_item_of}
 use Rattle.qg_quota.proofs.state.parts_in.Given as goal
 

@@ -4,7 +4,7 @@ use Rattle.std.proofs.lemmas.List.{take_all}
 use Rattle.qg_items.specs.declared.quota.QgroupInfo.{QgroupInfo}
 use Rattle.qg_items.specs.declared.quota.QgroupLimit.{QgroupLimit}
 use Rattle.qg_image.specs.ImageState.{info_told, limit_told}
-use Rattle.qg_quota.specs.Told.{relation_told}
+use Rattle.qg_quota.specs.QuotaKinds.{relation_told}
 use Rattle.qg_quota.proofs.Lists.{filter_map-more}
 use Rattle.qg_quota.proofs.told.told_by.Goals as goal
 

@@ -1,7 +1,7 @@
 use Rattle.std.proofs.Common.{◌≡◌, take}
 use Rattle.std.specs.List.{filter_map}
 use Rattle.qg_image.specs.ImageState.{info_told, limit_told}
-use Rattle.qg_quota.specs.Told.{relation_told}
+use Rattle.qg_quota.specs.QuotaKinds.{relation_told}
 use Rattle.qg_quota.proofs.told.told_by.Given as goal
 
 abbrev pub invariant-loop-part : goal.invariant-loop-part

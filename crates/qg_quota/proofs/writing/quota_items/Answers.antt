@@ -5,7 +5,7 @@ use Rattle.qg_node.specs.declared.item.Item.{Item}
 use Rattle.qg_node.specs.Fits.{ItemFits}
 use Rattle.qg_node.specs.Nodes.{is_ascending, items_bytes}
 use Rattle.qg_image.specs.ItemMeaning.{quota_part}
-use Rattle.qg_image.specs.declared.tree.Tree.TheVariants.{Quotas}
+use Rattle.qg_image.specs.declared.tree.TreeKind.TheVariants.{Quotas}
 use Rattle.qg_image.specs.Walk.{is_item_of}
 use Rattle.qg_quota.specs.Written.{status_at}
 use Rattle.qg_quota.proofs.Items.{quota-told, quota-allowed, quota-ascending, quota-short, quota-fit, quota-bytes}

@@ -1,5 +1,5 @@
 use Rattle.std.proofs.Common.{◌≡◌, ◌++◌, ap, ◌∙◌}
-use Rattle.qg_parts.proofs.Keys.{files_ascending}
+use Rattle.qg_tree_items.proofs.KeysOfParts.{files_ascending}
 use Rattle.qg_shared_walk.proofs.leaf.read_leaf.Goals as goal
 
 pub row_of-requires : goal.row_of-requires

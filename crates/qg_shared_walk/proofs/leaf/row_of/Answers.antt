@@ -3,9 +3,9 @@ use Rattle.std.specs.Prelude.{IsTrue}
 use Rattle.std.proofs.lemmas.List.{take-append-drop, take_more}
 use Rattle.qg_node.specs.Nodes.{is_ascending}
 use Rattle.qg_image.specs.declared.part.FilePart.{FilePart}
-use Rattle.qg_parts.specs.Keys.{file_key}
-use Rattle.qg_file_parts.specs.Rows.{Tells}
-use Rattle.qg_file_parts.proofs.Keys.{ascending_front}
+use Rattle.qg_tree_items.specs.Keys.{file_key}
+use Rattle.qg_tree_items.specs.Rows.{Tells}
+use Rattle.qg_tree_items.proofs.KeysAscend.{ascending_front}
 use Rattle.qg_shared_walk.proofs.leaf.row_of.Goals as goal
 
 pub loop-part-preserved : goal.loop-part-preserved

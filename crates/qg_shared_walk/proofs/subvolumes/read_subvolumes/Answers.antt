@@ -7,8 +7,9 @@ use Rattle.qg_image.proofs.Contained.{none_contained}
 use Rattle.qg_image.specs.Verdict.{subvolume_failure}
 use Rattle.qg_shared_walk.specs.Found.{HasTrees}
 use Rattle.qg_shared_walk.proofs.Remembered.{nothing_remembered}
-use Rattle.qg_shared_walk.proofs.Whole.{all_found, all_taken, no_trees, none_failed, of_more, one_more_tree, one_taken}
-use Rattle.qg_shared_walk.proofs.Whole.{one_tells}
+use Rattle.qg_shared_walk.proofs.AllTrees.{all_found, all_taken, no_trees, none_failed, of_more, one_more_tree}
+use Rattle.qg_shared_walk.proofs.AllTrees.{one_taken}
+use Rattle.qg_shared_walk.proofs.AllTrees.{one_tells}
 use Rattle.qg_shared_walk.proofs.subvolumes.read_subvolumes.Goals as goal
 
 pub roots-init : goal.roots-init

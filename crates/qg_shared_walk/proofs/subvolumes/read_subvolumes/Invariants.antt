@@ -4,7 +4,7 @@ use Rattle.qg_device.specs.History.{Event, Recorded, content}
 use Rattle.qg_items.specs.declared.root.RootItem.{RootItem}
 use Rattle.qg_super.specs.SuperText.{sizes_of}
 use Rattle.qg_image.specs.Verdict.{subvolume_failure}
-use Rattle.qg_walk.specs.Held.{AreInSlots}
+use Rattle.qg_walk.specs.WalkKeeps.{AreInSlots}
 use Rattle.qg_shared_walk.specs.Found.{HasTrees}
 use Rattle.qg_shared_walk.proofs.subvolumes.read_subvolumes.Given as goal
 

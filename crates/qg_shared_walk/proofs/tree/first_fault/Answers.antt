@@ -1,7 +1,7 @@
 use Rattle.qg_device.specs.History.{content}
-use Rattle.qg_image.specs.declared.tree.Tree.TheVariants.{Files}
+use Rattle.qg_image.specs.declared.tree.TreeKind.TheVariants.{Files}
 use Rattle.qg_image.specs.Walk.{tree_failure}
-use Rattle.qg_shared_walk.proofs.Whole.{known_tells}
+use Rattle.qg_shared_walk.proofs.AllTrees.{known_tells}
 use Rattle.qg_shared_walk.proofs.tree.first_fault.Goals as goal
 
 pub returns-in-Ok-clause-first : goal.returns-in-Ok-clause-first

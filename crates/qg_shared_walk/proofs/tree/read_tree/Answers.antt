@@ -1,12 +1,12 @@
 use Rattle.std.proofs.Common.{sym, ◌∙◌}
 use Rattle.qg_device.specs.History.{content}
 use Rattle.qg_image.specs.FilesOf.{file_parts}
-use Rattle.qg_image.specs.declared.tree.Tree.TheVariants.{Files}
+use Rattle.qg_image.specs.declared.tree.TreeKind.TheVariants.{Files}
 use Rattle.qg_image.specs.ImageState.{items_of_root}
 use Rattle.qg_image.specs.Walk.{deepest, root_told}
 use Rattle.qg_walk.proofs.Failures.{levels_few}
 use Rattle.qg_shared_walk.specs.Memo.{Walks}
-use Rattle.qg_shared_walk.proofs.Whole.{breaks, has_tree, passes, told_ascend, told_row, tree_denies, tree_tells}
+use Rattle.qg_shared_walk.proofs.AllTrees.{breaks, has_tree, passes, told_ascend, told_row, tree_denies, tree_tells}
 use Rattle.qg_shared_walk.proofs.tree.read_tree.Goals as goal
 
 pub returns-then-are_files-clause-failure : goal.returns-then-are_files-clause-failure

@@ -3,7 +3,7 @@ use Rattle.qg_device.specs.History.{Event, Recorded}
 use Rattle.qg_node.specs.declared.node.Node.{Node}
 use Rattle.qg_node.specs.Nodes.{header_of}
 use Rattle.qg_super.specs.SuperText.{sizes_of}
-use Rattle.qg_walk.specs.Held.{AreInSlots}
+use Rattle.qg_walk.specs.WalkKeeps.{AreInSlots}
 use Rattle.qg_walk.proofs.Failures.{height}
 use Rattle.qg_shared_walk.specs.Wells.{below_failure}
 use Rattle.qg_shared_walk.specs.Memo.{Remembers, WalksBelow}

@@ -1,7 +1,7 @@
 use Rattle.std.proofs.Common.{◌+◌, ◌∙◌, ℕ, ap, sym}
 use Rattle.qg_num.specs.declared.command.Command.{Command}
-use Rattle.qg_kept_changes.specs.Changing.{group_copies}
-use Rattle.qg_kept_changes.proofs.Regrouped.{copies-other}
+use Rattle.qg_image_changes.specs.Changing.{group_copies}
+use Rattle.qg_image_changes.proofs.Regrouped.{copies-other}
 use Rattle.qg_store.proofs.grouping.copies_of.Goals as goal
 
 pub returns-in-QuotaOn : goal.returns-in-QuotaOn

@@ -1,27 +1,31 @@
-use Rattle.std.proofs.Common.{◌≡◌, ◌∙◌, ◌≤◌, ℕ, None, Some, ap, inl, refl, subst, sym}
+use Rattle.std.proofs.Common.{◌≡◌, ◌∙◌, ◌≤◌, ℕ, None, Some, ap, inl, refl, subst, sym, List}
+use Rattle.qg_device.specs.History.{Event, Recorded}
 use Rattle.qg_num.specs.declared.answer.Answer.TheVariants.{Done, Refused}
 use Rattle.qg_num.specs.declared.fault.BlockFault.TheVariants.{NoMemory}
 use Rattle.qg_space.specs.Holding.{free_slots}
-use Rattle.qg_groups.specs.Tracked.{quota_of}
-use Rattle.qg_kept_commit.proofs.PiecesRead.{handed}
-use Rattle.qg_kept_commit.proofs.Reserve.{finds-planned}
-use Rattle.qg_kept_commit.proofs.Whole.{handed-sound}
-use Rattle.qg_kept_commit.specs.FsLawsKeeping.{other_names}
-use Rattle.qg_kept_commit.specs.Keeping.{structural_need_of}
-use Rattle.qg_kept_changes.specs.Changing.{HasRoom, group_copies}
+use Rattle.qg_qgroups.specs.Tracked.{quota_of}
+use Rattle.qg_image.specs.State.{State}
+use Rattle.qg_machine.specs.Refusals.{refusal}
+use Rattle.qg_image_commits.proofs.PiecesRead.{handed}
+use Rattle.qg_image_commits.proofs.WholeFile.{handed-sound}
+use Rattle.qg_image_commits.specs.Keeping.{IsKeptOf, structural_need_of}
+use Rattle.qg_image_changes.specs.Changing.{HasRoom, group_copies}
 use Rattle.qg_store.specs.Structural.{commit_refusal}
 use Rattle.qg_file_commands.proofs.Edited.{if-none}
-use Rattle.qg_kept_commit.proofs.Looked.{node-size}
-use Rattle.qg_kept_commit.proofs.OnDisk.{last-any, on-disk, stays-pending}
+use Rattle.qg_image_commits.proofs.Looked.{node-size}
+use Rattle.qg_image_commits.proofs.OnDisk.{last-any, on-disk, stays-pending}
 use Rattle.qg_store.proofs.Reasoned.{copies-same, group-early, group-late, group-same}
-use Rattle.qg_kept_changes.proofs.Regrouped.{asked-so, comes-group, does-group, kept-regrouped, structural-group}
-use Rattle.qg_kept_changes.proofs.Regrouped.{superblock-regrouped}
-use Rattle.qg_kept_commit.proofs.Stepped.{does_nothing}
-use Rattle.qg_store.proofs.Structured.{does-structural, early-second, held-regrouped, last-settled, made-first}
+use Rattle.qg_image_changes.proofs.Regrouped.{asked-so, comes-group, does-group, kept-regrouped, structural-group}
+use Rattle.qg_image_changes.proofs.Regrouped.{superblock-regrouped}
+use Rattle.qg_image_commits.proofs.Stepped.{does_nothing}
+use Rattle.qg_store.proofs.Structured.{IsReady, of-changed, does-structural, early-second, held-regrouped, last-settled}
+use Rattle.qg_store.proofs.Structured.{made-first}
 use Rattle.qg_store.proofs.Structured.{intact-first, intact-handed, made-second, so-far-first, so-far-second}
-use Rattle.qg_kept_commit.proofs.Turned.{looked-refl}
+use Rattle.qg_image_commits.proofs.Turned.{looked-refl}
 use Rattle.qg_store.proofs.Stopped.{pending-stored, read-memory, second-stored}
+use Rattle.qg_store.proofs.grouping.regroup.Given.{Over}
 use Rattle.qg_store.proofs.grouping.regroup.Goals as goal
+use Rattle.qg_store.proofs.grouping.regroup.Goals.{After-commit_pending, In_ok-change_groups}
 
 pub refusal_of-requires : goal.refusal_of-requires
 refusal_of-requires g c = c.requires.kept.fitted.tracked
@@ -73,6 +77,38 @@ returns-in-Some-2-clause-refused g c = λ is.
 pub returns-in_err-why-clause-so_far : goal.returns-in_err-why-clause-so_far
 returns-in_err-why-clause-so_far g c = λ state events keeps told. inl told
 
+-- ---- it isn't refused
+
+unrefused : (g : Over) (c : After-commit_pending g) (state : State)
+    → IsKeptOf c.args.kept.now state (g.D.Disk.history c.args.disk.now) → refusal state c.args.command.now ≡ None
+unrefused g c state keeps =
+    group-late c.args.kept.now state (g.D.Disk.history c.args.disk.now) (g.D.Disk.size c.args.disk.now) c.requires.kept
+    keeps c.in_ok-why.ensures.table c.args.command.now c.requires.group
+    (asked-so c.args.kept.now (quota_of c.args.kept.now.quota) c.as_slice.result.now c.args.command.now
+    c.refusal_of.result None c.as_slice.ensures c.refusal_of.ensures c.in_default.is)
+    ∙ ap (commit_refusal c.args.kept.now) (sym c.copies_of-copies.ensures) ∙ sym c.in_ok-why.ensures.value
+    ∙ c.in_default-2.is
+
+ready : (g : Over) (c : In_ok-change_groups g) (state : State) (events : List Event)
+    → IsKeptOf c.args.kept.now state (g.D.Disk.history c.args.disk.now)
+    → g.D.Disk.history c.args.disk.now ≡ Recorded events → refusal state c.args.command.now ≡ None
+    → IsReady state c.args.command.now Done c.commit_pending.new.kept c.change_groups.new.kept events
+    (g.D.Disk.history c.commit_pending.new.disk) (g.D.Disk.history c.commit_pending.new.disk)
+ready g c state events keeps told unrefused =
+    let first = c.in_ok-commit_pending.ensures.committed state events keeps told in
+    let change = c.in_ok-change_groups.ensures.changed first.before (g.D.Disk.history c.commit_pending.new.disk)
+    first.keeps c.in_ok-commit_pending.ensures.settled.pending in
+    record {
+      comes = comes-group c.args.command.now c.requires.group;
+      unrefused = unrefused;
+      done = c.in_ok-commit_pending.ensures.so_far state events keeps told;
+      first = first;
+      change = change;
+      same = refl;
+      held = held-regrouped first.before change.changed c.args.command.now Done c.requires.group change.changes;
+      fits = c.in_ok-change_groups.ensures.fitted;
+    }
+
 -- ---- what is pending is committed
 
 pub commit_pending-requires-clause-early : goal.commit_pending-requires-clause-early
@@ -83,13 +119,7 @@ pub returns-in_err-commit_pending-clause-so_far : goal.returns-in_err-commit_pen
 returns-in_err-commit_pending-clause-so_far g c = λ state events keeps told.
     so-far-first state c.args.command.now events (g.D.Disk.history c.commit_pending.new.disk)
     (g.D.Disk.history c.commit_pending.new.disk) (comes-group c.args.command.now c.requires.group)
-    (group-late c.args.kept.now state (g.D.Disk.history c.args.disk.now) (g.D.Disk.size c.args.disk.now) c.requires.kept
-    keeps
-    c.in_ok-why.ensures.table c.args.command.now c.requires.group
-    (asked-so c.args.kept.now (quota_of c.args.kept.now.quota) c.as_slice.result.now c.args.command.now
-    c.refusal_of.result None c.as_slice.ensures c.refusal_of.ensures c.in_default.is)
-    ∙ ap (commit_refusal c.args.kept.now) (sym c.copies_of-copies.ensures) ∙ sym c.in_ok-why.ensures.value
-    ∙ c.in_default-2.is) refl
+    (unrefused g (goal.at.returns-in_err-commit_pending-clause-so_far g c).After-commit_pending state keeps) refl
     (c.in_err-commit_pending.ensures.so_far state events keeps told)
 
 pub returns-in_err-commit_pending-clause-sound : goal.returns-in_err-commit_pending-clause-sound
@@ -134,13 +164,7 @@ pub returns-in_err-change_groups-clause-so_far : goal.returns-in_err-change_grou
 returns-in_err-change_groups-clause-so_far g c = λ state events keeps told.
     so-far-first state c.args.command.now events (g.D.Disk.history c.commit_pending.new.disk)
     (g.D.Disk.history c.commit_pending.new.disk) (comes-group c.args.command.now c.requires.group)
-    (group-late c.args.kept.now state (g.D.Disk.history c.args.disk.now) (g.D.Disk.size c.args.disk.now) c.requires.kept
-    keeps
-    c.in_ok-why.ensures.table c.args.command.now c.requires.group
-    (asked-so c.args.kept.now (quota_of c.args.kept.now.quota) c.as_slice.result.now c.args.command.now
-    c.refusal_of.result None c.as_slice.ensures c.refusal_of.ensures c.in_default.is)
-    ∙ ap (commit_refusal c.args.kept.now) (sym c.copies_of-copies.ensures) ∙ sym c.in_ok-why.ensures.value
-    ∙ c.in_default-2.is) refl
+    (unrefused g (goal.at.returns-in_err-change_groups-clause-so_far g c).After-commit_pending state keeps) refl
     (c.in_ok-commit_pending.ensures.so_far state events keeps told)
 
 pub returns-in_err-change_groups-clause-err : goal.returns-in_err-change_groups-clause-err
@@ -174,107 +198,52 @@ commit_now-requires g c =
 
 pub returns-in_err-commit_now-clause-so_far : goal.returns-in_err-commit_now-clause-so_far
 returns-in_err-commit_now-clause-so_far g c = λ state events keeps told.
-    let given = c.args.command.now in
-    let between = g.D.Disk.history c.commit_pending.new.disk in
-    let first = c.in_ok-commit_pending.ensures.committed state events keeps told in
-    let change = c.in_ok-change_groups.ensures.changed first.before between first.keeps
-    c.in_ok-commit_pending.ensures.settled.pending in
-    so-far-second state given Done c.commit_pending.new.kept c.change_groups.new.kept
-    c.commit_now.new.kept events between between first change refl
-    (held-regrouped first.before change.changed given Done c.requires.group change.changes)
-    (g.D.Disk.history c.commit_now.new.disk) (comes-group given c.requires.group)
-    (group-late c.args.kept.now state (g.D.Disk.history c.args.disk.now) (g.D.Disk.size c.args.disk.now) c.requires.kept
-    keeps
-    c.in_ok-why.ensures.table c.args.command.now c.requires.group
-    (asked-so c.args.kept.now (quota_of c.args.kept.now.quota) c.as_slice.result.now c.args.command.now
-    c.refusal_of.result None c.as_slice.ensures c.refusal_of.ensures c.in_default.is)
-    ∙ ap (commit_refusal c.args.kept.now) (sym c.copies_of-copies.ensures) ∙ sym c.in_ok-why.ensures.value
-    ∙ c.in_default-2.is)
-    (c.in_ok-commit_pending.ensures.so_far state events keeps told)
-    (c.in_err-commit_now.ensures.so_far change.changed first.between (other_names first.before) change.keeps
-    (finds-planned c.change_groups.new.kept c.in_ok-change_groups.ensures.fitted change.room)
-    first.told)
+    let at = goal.at.returns-in_err-commit_now-clause-so_far g c in
+    so-far-second
+    (ready g at.In_ok-change_groups state events keeps told (unrefused g at.After-commit_pending state keeps))
+    (g.D.Disk.history c.commit_now.new.disk) c.in_err-commit_now.ensures.so_far
 
 pub returns-in_err-commit_now-clause-sound : goal.returns-in_err-commit_now-clause-sound
 returns-in_err-commit_now-clause-sound g c = λ state events told keeps.
-    let between = g.D.Disk.history c.commit_pending.new.disk in
-    let first = c.in_ok-commit_pending.ensures.committed state events keeps told in
-    let change = c.in_ok-change_groups.ensures.changed first.before between first.keeps
-    c.in_ok-commit_pending.ensures.settled.pending in
+    let at = goal.at.returns-in_err-commit_now-clause-sound g c in
     handed-sound (Unit {0}) c.from_residual-in_err-commit_now.result _
     (handed c.from_residual-in_err-commit_now.result _ c.from_residual-in_err-commit_now.ensures.1)
-    (c.in_err-commit_now.ensures.sound change.changed first.between (other_names first.before) change.keeps
-    (finds-planned c.change_groups.new.kept c.in_ok-change_groups.ensures.fitted change.room)
-    first.told)
+    (of-changed
+    (ready g at.In_ok-change_groups state events keeps told (unrefused g at.After-commit_pending state keeps)) _
+    c.in_err-commit_now.ensures.sound)
 
 pub returns-in_err-commit_now-clause-err : goal.returns-in_err-commit_now-clause-err
 returns-in_err-commit_now-clause-err g c =
+    let at = goal.at.returns-in_err-commit_now-clause-err g c in
     let kept = c.args.kept.now in
     let given = c.args.command.now in
     let mid = c.commit_pending.new.kept in
     let new = c.change_groups.new.kept in
     let before = g.D.Disk.history c.args.disk.now in
-    let between = g.D.Disk.history c.commit_pending.new.disk in
     let last = g.D.Disk.history c.commit_now.new.disk in
     last-any given kept c.commit_now.new.kept before last c.from_residual-in_err-commit_now.result
     (last-settled given kept kept mid c.commit_now.new.kept before last (structural-group given c.requires.group) refl
     refl c.in_ok-commit_pending.ensures.settled
     (c.in_err-commit_now.ensures.err ∙ superblock-regrouped mid new c.in_ok-change_groups.ensures.rest)
     (λ state events keeps told.
-    let first = c.in_ok-commit_pending.ensures.committed state events keeps told in
-    let change = c.in_ok-change_groups.ensures.changed first.before between first.keeps
-    c.in_ok-commit_pending.ensures.settled.pending in
-    made-second state given Done mid new c.commit_now.new.kept events between between first change refl
-    (held-regrouped first.before change.changed given Done c.requires.group change.changes) last
-    (c.in_err-commit_now.ensures.stops change.changed first.between (other_names first.before) change.keeps
-    (finds-planned c.change_groups.new.kept c.in_ok-change_groups.ensures.fitted change.room)
-    first.told)))
+    made-second
+    (ready g at.In_ok-change_groups state events keeps told (unrefused g at.After-commit_pending state keeps))
+    last c.in_err-commit_now.ensures.stops))
 
 pub returns-clause-step : goal.returns-clause-step
 returns-clause-step g c = λ state events keeps told.
-    let given = c.args.command.now in
-    let mid = c.commit_pending.new.kept in
-    let new = c.change_groups.new.kept in
-    let between = g.D.Disk.history c.commit_pending.new.disk in
-    let first = c.in_ok-commit_pending.ensures.committed state events keeps told in
-    let change = c.in_ok-change_groups.ensures.changed first.before between first.keeps
-    c.in_ok-commit_pending.ensures.settled.pending in
-    let second = c.in_ok-commit_now.ensures.commits change.changed first.between (other_names first.before) change.keeps
-    (finds-planned c.change_groups.new.kept c.in_ok-change_groups.ensures.fitted change.room) first.told in
-    does-structural state given Done mid new c.commit_now.new.kept events between between first change refl
-    (held-regrouped first.before change.changed given Done c.requires.group change.changes)
-    (g.D.Disk.history c.commit_now.new.disk) second
-    (group-late c.args.kept.now state (g.D.Disk.history c.args.disk.now) (g.D.Disk.size c.args.disk.now) c.requires.kept
-    keeps
-    c.in_ok-why.ensures.table c.args.command.now c.requires.group
-    (asked-so c.args.kept.now (quota_of c.args.kept.now.quota) c.as_slice.result.now c.args.command.now
-    c.refusal_of.result None c.as_slice.ensures c.refusal_of.ensures c.in_default.is)
-    ∙ ap (commit_refusal c.args.kept.now) (sym c.copies_of-copies.ensures) ∙ sym c.in_ok-why.ensures.value
-    ∙ c.in_default-2.is)
-    (λ does. does-group state given Done _ _ c.requires.group does)
+    let at = goal.at.returns-clause-step g c in
+    does-structural
+    (ready g at.In_ok-change_groups state events keeps told (unrefused g at.After-commit_pending state keeps))
+    c.commit_now.new.kept (g.D.Disk.history c.commit_now.new.disk) c.in_ok-commit_now.ensures.commits
+    (λ commits then does. does-group state c.args.command.now Done commits then c.requires.group does)
 
 pub returns-clause-so_far : goal.returns-clause-so_far
 returns-clause-so_far g c = λ state events keeps told.
-    let given = c.args.command.now in
-    let between = g.D.Disk.history c.commit_pending.new.disk in
-    let first = c.in_ok-commit_pending.ensures.committed state events keeps told in
-    let change = c.in_ok-change_groups.ensures.changed first.before between first.keeps
-    c.in_ok-commit_pending.ensures.settled.pending in
-    so-far-second state given Done c.commit_pending.new.kept c.change_groups.new.kept
-    c.commit_now.new.kept events between between first change refl
-    (held-regrouped first.before change.changed given Done c.requires.group change.changes)
-    (g.D.Disk.history c.commit_now.new.disk) (comes-group given c.requires.group)
-    (group-late c.args.kept.now state (g.D.Disk.history c.args.disk.now) (g.D.Disk.size c.args.disk.now) c.requires.kept
-    keeps
-    c.in_ok-why.ensures.table c.args.command.now c.requires.group
-    (asked-so c.args.kept.now (quota_of c.args.kept.now.quota) c.as_slice.result.now c.args.command.now
-    c.refusal_of.result None c.as_slice.ensures c.refusal_of.ensures c.in_default.is)
-    ∙ ap (commit_refusal c.args.kept.now) (sym c.copies_of-copies.ensures) ∙ sym c.in_ok-why.ensures.value
-    ∙ c.in_default-2.is)
-    (c.in_ok-commit_pending.ensures.so_far state events keeps told)
-    (c.in_ok-commit_now.ensures.so_far change.changed first.between (other_names first.before) change.keeps
-    (finds-planned c.change_groups.new.kept c.in_ok-change_groups.ensures.fitted change.room)
-    first.told)
+    let at = goal.at.returns-clause-so_far g c in
+    so-far-second
+    (ready g at.In_ok-change_groups state events keeps told (unrefused g at.After-commit_pending state keeps))
+    (g.D.Disk.history c.commit_now.new.disk) c.in_ok-commit_now.ensures.so_far
 
 -- ---- over any disk
 
@@ -307,7 +276,8 @@ returns-in_err-commit_pending-clause-intact g c =
 pub returns-in_err-change_groups-clause-intact : goal.returns-in_err-change_groups-clause-intact
 returns-in_err-change_groups-clause-intact g c =
     let residual = c.from_residual-in_err-change_groups in
-    read-memory residual.result c.args.command.now c.args.kept.now c.change_groups.new.kept _ _ (g.D.Disk.size c.args.disk.now)
+    read-memory residual.result c.args.command.now c.args.kept.now c.change_groups.new.kept _ _
+    (g.D.Disk.size c.args.disk.now)
     (handed residual.result NoMemory residual.ensures.1)
 
 pub returns-in_err-commit_now-clause-intact : goal.returns-in_err-commit_now-clause-intact

@@ -6,14 +6,14 @@ use Rattle.qg_num.specs.declared.command.Command.TheVariants.{Truncate, Unlink, 
 use Rattle.qg_num.specs.declared.fault.BlockFault.TheVariants.{NoMemory}
 use Rattle.qg_grammar.specs.ScriptText.{is_in_grammar}
 use Rattle.qg_blocks.proofs.Broken.{broken-any, broken-then}
-use Rattle.qg_kept_commit.proofs.PiecesRead.{handed}
-use Rattle.qg_kept_commit.specs.Types.{Kept}
-use Rattle.qg_kept_commit.specs.Answering.{Answered, AnswersOn, IsDoneSoFar}
-use Rattle.qg_kept_commit.proofs.OnDisk.{each-given, last-always, last-given, last-same, on-disk, so-far-commit}
-use Rattle.qg_kept_commit.proofs.OnDisk.{still-commit, still-structural, unchanged-looked}
-use Rattle.qg_store.proofs.Counted.{asks-given, asks-grouped}
+use Rattle.qg_image_commits.proofs.PiecesRead.{handed}
+use Rattle.qg_image_commits.specs.Types.{OpenImage}
+use Rattle.qg_image_commits.specs.Answering.{Answered, AnswersOn, IsDoneSoFar}
+use Rattle.qg_image_commits.proofs.OnDisk.{each-given, last-always, last-given, last-same, on-disk, so-far-commit}
+use Rattle.qg_image_commits.proofs.OnDisk.{still-commit, still-structural, unchanged-looked}
+use Rattle.qg_store.proofs.StepsOfCommand.{asks-given, asks-grouped}
 use Rattle.qg_file_commands.specs.Reading.{AsksForFew}
-use Rattle.qg_kept_commit.proofs.Stopped.{stops-stored}
+use Rattle.qg_image_commits.proofs.Stopped.{stops-stored}
 use Rattle.qg_store.proofs.Served.{inode_told, target_told}
 use Rattle.qg_store.proofs.Shown.{does_show}
 use Rattle.qg_store.proofs.Stopped.{read-memory}
@@ -136,7 +136,7 @@ pub returns-in-Ls-clause-err : goal.returns-in-Ls-clause-err
 returns-in-Ls-clause-err g c =
     last-always c.args.command.now c.args.kept.now c.list.new.kept (g.D.Disk.history c.args.disk.now)
     (g.D.Disk.history c.list.new.disk) c.list.result
-    (ap (λ (kept : Kept). kept.superblock) c.list.ensures.looked.same.rest) c.list.ensures.looked.history
+    (ap (λ (kept : OpenImage). kept.superblock) c.list.ensures.looked.same.rest) c.list.ensures.looked.history
 
 -- ---- owners
 
@@ -157,7 +157,7 @@ pub returns-in-Owners-clause-err : goal.returns-in-Owners-clause-err
 returns-in-Owners-clause-err g c =
     last-always c.args.command.now c.args.kept.now c.owners.new.kept (g.D.Disk.history c.args.disk.now)
     (g.D.Disk.history c.owners.new.disk) c.owners.result
-    (ap (λ (kept : Kept). kept.superblock) c.owners.ensures.looked.same.rest) c.owners.ensures.looked.history
+    (ap (λ (kept : OpenImage). kept.superblock) c.owners.ensures.looked.same.rest) c.owners.ensures.looked.history
 
 -- ---- a commit
 

@@ -1,10 +1,10 @@
 use Rattle.std.proofs.Common.{arith, inl, refl}
-use Rattle.qg_kept_commit.specs.Calls.{commit_calls, unsure_calls}
-use Rattle.qg_kept_commit.specs.FsLawsKeeping.{other_names}
-use Rattle.qg_kept_commit.proofs.Reserve.{finds-planned}
-use Rattle.qg_kept_commit.proofs.Stopped.{stops-stored}
+use Rattle.qg_image_commits.specs.Calls.{commit_calls, unsure_calls}
+use Rattle.qg_image_commits.specs.FsLawsKeeping.{other_names}
+use Rattle.qg_image_commits.proofs.Reserve.{finds-planned}
+use Rattle.qg_image_commits.proofs.Stopped.{stops-stored}
 use Rattle.qg_store.proofs.Committed.{committed-none, committed-some, on-if, room-committed, room-same}
-use Rattle.qg_kept_changes.proofs.Fitting.{on-ok}
+use Rattle.qg_image_changes.proofs.Fitting.{on-ok}
 use Rattle.qg_store.proofs.Committed.{on-err-then, settled-committed, settled-same, so-far-pending, some-number}
 use Rattle.qg_store.proofs.Committed.{stays-last}
 use Rattle.qg_store.proofs.structural.commit_pending.Goals as goal

@@ -1,14 +1,14 @@
 use Rattle.std.proofs.Common.{◌+◌, ℕ, ap, subst}
 use Rattle.qg_extents.specs.Table.{IsTable}
-use Rattle.qg_kept_commit.proofs.PiecesRead.{handed}
-use Rattle.qg_kept_commit.proofs.Whole.{handed-sound}
-use Rattle.qg_kept_commit.proofs.Runs.{state-held}
-use Rattle.qg_kept_commit.specs.FsLawsKeeping.{other_names}
-use Rattle.qg_kept_commit.proofs.Looked.{hand-among, is-subvolume, kept-looked, looked-land}
-use Rattle.qg_kept_commit.proofs.Stepped.{tree-kept}
-use Rattle.qg_kept_commit.proofs.Tables.{key-of-value}
-use Rattle.qg_kept_changes.proofs.Trees.{tree-is}
-use Rattle.qg_kept_commit.proofs.Stopped.{first-err}
+use Rattle.qg_image_commits.proofs.PiecesRead.{handed}
+use Rattle.qg_image_commits.proofs.WholeFile.{handed-sound}
+use Rattle.qg_image_commits.proofs.Runs.{state-held}
+use Rattle.qg_image_commits.specs.FsLawsKeeping.{other_names}
+use Rattle.qg_image_commits.proofs.Looked.{hand-among, is-subvolume, kept-looked, looked-land}
+use Rattle.qg_image_commits.proofs.Stepped.{tree-kept}
+use Rattle.qg_image_commits.proofs.Tables.{key-of-value}
+use Rattle.qg_image_changes.proofs.Trees.{tree-is}
+use Rattle.qg_image_commits.proofs.Stopped.{first-err}
 use Rattle.qg_store.proofs.structural.copies_of_tree.Goals as goal
 
 pub count_nodes-requires : goal.count_nodes-requires

@@ -1,24 +1,28 @@
-use Rattle.std.proofs.Common.{◌≡◌, ◌∙◌, ◌≤◌, inl, refl, sym, true, false}
+use Rattle.std.proofs.Common.{◌≡◌, ◌∙◌, ◌≤◌, inl, refl, sym, true, false, List, None}
+use Rattle.qg_device.specs.History.{Event, Recorded}
 use Rattle.qg_num.specs.declared.answer.Answer.TheVariants.{Refused, Sub}
 use Rattle.qg_num.specs.declared.command.Command.TheVariants.{SubCreate}
 use Rattle.qg_num.specs.declared.refusal.Refusal.TheVariants as why
+use Rattle.qg_image.specs.State.{State}
+use Rattle.qg_machine.specs.Refusals.{refusal}
 use Rattle.qg_blocks.proofs.Broken.{broken-any}
 use Rattle.qg_space.specs.Holding.{free_slots}
-use Rattle.qg_kept_commit.proofs.PiecesRead.{handed}
-use Rattle.qg_kept_commit.proofs.Reserve.{finds-planned}
-use Rattle.qg_kept_commit.proofs.Whole.{handed-sound}
-use Rattle.qg_kept_commit.specs.FsLawsKeeping.{other_names}
-use Rattle.qg_kept_commit.specs.Keeping.{structural_need_of}
+use Rattle.qg_image_commits.proofs.PiecesRead.{handed}
+use Rattle.qg_image_commits.proofs.WholeFile.{handed-sound}
+use Rattle.qg_image_commits.specs.Keeping.{IsKeptOf, structural_need_of}
 use Rattle.qg_file_commands.proofs.Edited.{if-none}
-use Rattle.qg_kept_commit.proofs.Looked.{node-size}
-use Rattle.qg_kept_commit.proofs.OnDisk.{last-any, on-disk, stays-pending}
+use Rattle.qg_image_commits.proofs.Looked.{node-size}
+use Rattle.qg_image_commits.proofs.OnDisk.{last-any, on-disk, stays-pending}
 use Rattle.qg_store.proofs.Reasoned.{create-early, create-late, number-same, too-many-by, too-many-same}
-use Rattle.qg_kept_commit.proofs.Stepped.{does_nothing}
-use Rattle.qg_store.proofs.Structured.{does-structural, early-second, held-created, last-settled, made-first}
+use Rattle.qg_image_commits.proofs.Stepped.{does_nothing}
+use Rattle.qg_store.proofs.Structured.{IsReady, of-changed, does-structural, early-second, held-created, last-settled}
+use Rattle.qg_store.proofs.Structured.{made-first}
 use Rattle.qg_store.proofs.Structured.{intact-first, intact-handed, made-second, so-far-first, so-far-second}
-use Rattle.qg_kept_commit.proofs.Turned.{looked-refl}
+use Rattle.qg_image_commits.proofs.Turned.{looked-refl}
 use Rattle.qg_store.proofs.Stopped.{change-stored, pending-stored, second-stored}
+use Rattle.qg_store.proofs.structural.create.Given.{Over}
 use Rattle.qg_store.proofs.structural.create.Goals as goal
+use Rattle.qg_store.proofs.structural.create.Goals.{After-commit_pending, In_ok-create_change}
 
 pub number_next-number-requires : goal.number_next-number-requires
 number_next-number-requires g c = record { fitted = c.requires.kept.fitted }
@@ -69,6 +73,37 @@ returns-in-Some-clause-refused g c = λ is.
 pub returns-in_err-why-clause-so_far : goal.returns-in_err-why-clause-so_far
 returns-in_err-why-clause-so_far g c = λ state events keeps told. inl told
 
+-- ---- it isn't refused
+
+unrefused : (g : Over) (c : After-commit_pending g) (state : State)
+    → IsKeptOf c.args.kept.now state (g.D.Disk.history c.args.disk.now) → refusal state SubCreate ≡ None
+unrefused g c state keeps =
+    create-late c.args.kept.now state (g.D.Disk.history c.args.disk.now) (g.D.Disk.size c.args.disk.now)
+    c.requires.kept keeps c.in_ok-why.ensures.table
+    (too-many-by c.args.kept.now 0 c.number_next-number.result c.are_too_many.result false
+    c.number_next-number.ensures.value c.are_too_many.ensures c.if-are_too_many.false) ∙ sym c.in_ok-why.ensures.value
+    ∙ c.in_default.is
+
+ready : (g : Over) (c : In_ok-create_change g) (state : State) (events : List Event)
+    → IsKeptOf c.args.kept.now state (g.D.Disk.history c.args.disk.now)
+    → g.D.Disk.history c.args.disk.now ≡ Recorded events → refusal state SubCreate ≡ None
+    → IsReady state SubCreate (Sub c.new-sub.result) c.commit_pending.new.kept c.create_change.new.kept events
+    (g.D.Disk.history c.commit_pending.new.disk) (g.D.Disk.history c.create_change.new.disk)
+ready g c state events keeps told unrefused =
+    let first = c.in_ok-commit_pending.ensures.committed state events keeps told in
+    let change = c.in_ok-create_change.ensures.changed first.before first.keeps
+    c.in_ok-commit_pending.ensures.settled.pending in
+    record {
+      comes = refl;
+      unrefused = unrefused;
+      done = c.in_ok-commit_pending.ensures.so_far state events keeps told;
+      first = first;
+      change = change;
+      same = c.in_ok-create_change.ensures.apart.0;
+      held = held-created first.before change.changed (Sub c.new-sub.result) change.changes;
+      fits = c.in_ok-create_change.ensures.kept.fitted;
+    }
+
 -- ---- what is pending is committed
 
 pub commit_pending-requires-clause-early : goal.commit_pending-requires-clause-early
@@ -79,13 +114,8 @@ pub returns-in_err-commit_pending-clause-so_far : goal.returns-in_err-commit_pen
 returns-in_err-commit_pending-clause-so_far g c = λ state events keeps told.
     so-far-first state SubCreate events (g.D.Disk.history c.commit_pending.new.disk)
     (g.D.Disk.history c.commit_pending.new.disk) refl
-    (create-late c.args.kept.now state (g.D.Disk.history c.args.disk.now) (g.D.Disk.size c.args.disk.now)
-    c.requires.kept
-    keeps c.in_ok-why.ensures.table
-    (too-many-by c.args.kept.now 0 c.number_next-number.result c.are_too_many.result false
-    c.number_next-number.ensures.value c.are_too_many.ensures c.if-are_too_many.false) ∙ sym c.in_ok-why.ensures.value
-    ∙ c.in_default.is) refl
-    (c.in_err-commit_pending.ensures.so_far state events keeps told)
+    (unrefused g (goal.at.returns-in_err-commit_pending-clause-so_far g c).After-commit_pending state keeps)
+    refl (c.in_err-commit_pending.ensures.so_far state events keeps told)
 
 pub returns-in_err-commit_pending-clause-sound : goal.returns-in_err-commit_pending-clause-sound
 returns-in_err-commit_pending-clause-sound g c = λ state events told keeps.
@@ -125,14 +155,8 @@ pub returns-in_err-create_change-clause-so_far : goal.returns-in_err-create_chan
 returns-in_err-create_change-clause-so_far g c = λ state events keeps told.
     so-far-first state SubCreate events (g.D.Disk.history c.commit_pending.new.disk)
     (g.D.Disk.history c.create_change.new.disk) refl
-    (create-late c.args.kept.now state (g.D.Disk.history c.args.disk.now) (g.D.Disk.size c.args.disk.now)
-    c.requires.kept
-    keeps c.in_ok-why.ensures.table
-    (too-many-by c.args.kept.now 0 c.number_next-number.result c.are_too_many.result false
-    c.number_next-number.ensures.value c.are_too_many.ensures c.if-are_too_many.false) ∙ sym c.in_ok-why.ensures.value
-    ∙ c.in_default.is)
-    c.in_err-create_change.ensures.apart.0
-    (c.in_ok-commit_pending.ensures.so_far state events keeps told)
+    (unrefused g (goal.at.returns-in_err-create_change-clause-so_far g c).After-commit_pending state keeps)
+    c.in_err-create_change.ensures.apart.0 (c.in_ok-commit_pending.ensures.so_far state events keeps told)
 
 pub returns-in_err-create_change-clause-sound : goal.returns-in_err-create_change-clause-sound
 returns-in_err-create_change-clause-sound g c = λ state events told keeps.
@@ -165,101 +189,48 @@ commit_now-requires g c = record {
 
 pub returns-in_err-commit_now-clause-so_far : goal.returns-in_err-commit_now-clause-so_far
 returns-in_err-commit_now-clause-so_far g c = λ state events keeps told.
-    let between = g.D.Disk.history c.commit_pending.new.disk in
-    let after = g.D.Disk.history c.create_change.new.disk in
-    let first = c.in_ok-commit_pending.ensures.committed state events keeps told in
-    let change = c.in_ok-create_change.ensures.changed first.before first.keeps
-    c.in_ok-commit_pending.ensures.settled.pending in
-    so-far-second state SubCreate (Sub c.new-sub.result) c.commit_pending.new.kept c.create_change.new.kept
-    c.commit_now.new.kept events between after first change c.in_ok-create_change.ensures.apart.0
-    (held-created first.before change.changed (Sub c.new-sub.result) change.changes)
-    (g.D.Disk.history c.commit_now.new.disk) refl
-    (create-late c.args.kept.now state (g.D.Disk.history c.args.disk.now) (g.D.Disk.size c.args.disk.now)
-    c.requires.kept
-    keeps c.in_ok-why.ensures.table
-    (too-many-by c.args.kept.now 0 c.number_next-number.result c.are_too_many.result false
-    c.number_next-number.ensures.value c.are_too_many.ensures c.if-are_too_many.false) ∙ sym c.in_ok-why.ensures.value
-    ∙ c.in_default.is)
-    (c.in_ok-commit_pending.ensures.so_far state events keeps told)
-    (c.in_err-commit_now.ensures.so_far change.changed first.between (other_names first.before) change.keeps
-    (finds-planned c.create_change.new.kept c.in_ok-create_change.ensures.kept.fitted change.room)
-    (c.in_ok-create_change.ensures.apart.0 ∙ first.told))
+    let at = goal.at.returns-in_err-commit_now-clause-so_far g c in
+    so-far-second
+    (ready g at.In_ok-create_change state events keeps told (unrefused g at.After-commit_pending state keeps))
+    (g.D.Disk.history c.commit_now.new.disk) c.in_err-commit_now.ensures.so_far
 
 pub returns-in_err-commit_now-clause-sound : goal.returns-in_err-commit_now-clause-sound
 returns-in_err-commit_now-clause-sound g c = λ state events told keeps.
-    let first = c.in_ok-commit_pending.ensures.committed state events keeps told in
-    let change = c.in_ok-create_change.ensures.changed first.before first.keeps
-    c.in_ok-commit_pending.ensures.settled.pending in
+    let at = goal.at.returns-in_err-commit_now-clause-sound g c in
     handed-sound (Unit {0}) c.from_residual-in_err-commit_now.result _
     (handed c.from_residual-in_err-commit_now.result _ c.from_residual-in_err-commit_now.ensures.1)
-    (c.in_err-commit_now.ensures.sound change.changed first.between (other_names first.before) change.keeps
-    (finds-planned c.create_change.new.kept c.in_ok-create_change.ensures.kept.fitted change.room)
-    (c.in_ok-create_change.ensures.apart.0 ∙ first.told))
+    (of-changed
+    (ready g at.In_ok-create_change state events keeps told (unrefused g at.After-commit_pending state keeps)) _
+    c.in_err-commit_now.ensures.sound)
 
 pub returns-in_err-commit_now-clause-err : goal.returns-in_err-commit_now-clause-err
 returns-in_err-commit_now-clause-err g c =
+    let at = goal.at.returns-in_err-commit_now-clause-err g c in
     let kept = c.args.kept.now in
     let before = g.D.Disk.history c.args.disk.now in
-    let between = g.D.Disk.history c.commit_pending.new.disk in
-    let after = g.D.Disk.history c.create_change.new.disk in
     let last = g.D.Disk.history c.commit_now.new.disk in
     last-any SubCreate kept c.commit_now.new.kept before last c.from_residual-in_err-commit_now.result
     (last-settled SubCreate kept kept c.commit_pending.new.kept c.commit_now.new.kept before last refl refl refl
     c.in_ok-commit_pending.ensures.settled
     (c.in_err-commit_now.ensures.err ∙ c.in_ok-create_change.ensures.superblock) (λ state events keeps told.
-    let first = c.in_ok-commit_pending.ensures.committed state events keeps told in
-    let change = c.in_ok-create_change.ensures.changed first.before first.keeps
-    c.in_ok-commit_pending.ensures.settled.pending in
-    made-second state SubCreate (Sub c.new-sub.result) c.commit_pending.new.kept c.create_change.new.kept
-    c.commit_now.new.kept events between after first change c.in_ok-create_change.ensures.apart.0
-    (held-created first.before change.changed (Sub c.new-sub.result) change.changes) last
-    (c.in_err-commit_now.ensures.stops change.changed first.between (other_names first.before) change.keeps
-    (finds-planned c.create_change.new.kept c.in_ok-create_change.ensures.kept.fitted change.room)
-    (c.in_ok-create_change.ensures.apart.0 ∙ first.told))))
+    made-second
+    (ready g at.In_ok-create_change state events keeps told (unrefused g at.After-commit_pending state keeps))
+    last c.in_err-commit_now.ensures.stops))
 
 pub returns-clause-step : goal.returns-clause-step
 returns-clause-step g c = λ state events keeps told.
-    let kept = c.args.kept.now in
-    let before = g.D.Disk.history c.args.disk.now in
-    let between = g.D.Disk.history c.commit_pending.new.disk in
-    let after = g.D.Disk.history c.create_change.new.disk in
-    let first = c.in_ok-commit_pending.ensures.committed state events keeps told in
-    let change = c.in_ok-create_change.ensures.changed first.before first.keeps
-    c.in_ok-commit_pending.ensures.settled.pending in
-    let second = c.in_ok-commit_now.ensures.commits change.changed first.between (other_names first.before) change.keeps
-    (finds-planned c.create_change.new.kept c.in_ok-create_change.ensures.kept.fitted change.room)
-    (c.in_ok-create_change.ensures.apart.0 ∙ first.told) in
-    let few = too-many-by kept 0 c.number_next-number.result c.are_too_many.result false
-    c.number_next-number.ensures.value c.are_too_many.ensures c.if-are_too_many.false in
-    does-structural state SubCreate (Sub c.new-sub.result) c.commit_pending.new.kept c.create_change.new.kept
-    c.commit_now.new.kept events between after first change c.in_ok-create_change.ensures.apart.0
-    (held-created first.before change.changed (Sub c.new-sub.result) change.changes)
-    (g.D.Disk.history c.commit_now.new.disk) second
-    (create-late kept state before (g.D.Disk.size c.args.disk.now) c.requires.kept keeps c.in_ok-why.ensures.table few
-    ∙ sym c.in_ok-why.ensures.value ∙ c.in_default.is)
-    (λ does. does)
+    let at = goal.at.returns-clause-step g c in
+    does-structural
+    (ready g at.In_ok-create_change state events keeps told (unrefused g at.After-commit_pending state keeps))
+    c.commit_now.new.kept (g.D.Disk.history c.commit_now.new.disk) c.in_ok-commit_now.ensures.commits
+    (λ commits then does. does)
 
 pub returns-clause-so_far : goal.returns-clause-so_far
 returns-clause-so_far g c = λ state events keeps told.
-    let between = g.D.Disk.history c.commit_pending.new.disk in
-    let after = g.D.Disk.history c.create_change.new.disk in
-    let first = c.in_ok-commit_pending.ensures.committed state events keeps told in
-    let change = c.in_ok-create_change.ensures.changed first.before first.keeps
-    c.in_ok-commit_pending.ensures.settled.pending in
-    so-far-second state SubCreate (Sub c.new-sub.result) c.commit_pending.new.kept c.create_change.new.kept
-    c.commit_now.new.kept events between after first change c.in_ok-create_change.ensures.apart.0
-    (held-created first.before change.changed (Sub c.new-sub.result) change.changes)
-    (g.D.Disk.history c.commit_now.new.disk) refl
-    (create-late c.args.kept.now state (g.D.Disk.history c.args.disk.now) (g.D.Disk.size c.args.disk.now)
-    c.requires.kept
-    keeps c.in_ok-why.ensures.table
-    (too-many-by c.args.kept.now 0 c.number_next-number.result c.are_too_many.result false
-    c.number_next-number.ensures.value c.are_too_many.ensures c.if-are_too_many.false) ∙ sym c.in_ok-why.ensures.value
-    ∙ c.in_default.is)
-    (c.in_ok-commit_pending.ensures.so_far state events keeps told)
-    (c.in_ok-commit_now.ensures.so_far change.changed first.between (other_names first.before) change.keeps
-    (finds-planned c.create_change.new.kept c.in_ok-create_change.ensures.kept.fitted change.room)
-    (c.in_ok-create_change.ensures.apart.0 ∙ first.told))
+    let at = goal.at.returns-clause-so_far g c in
+    so-far-second
+    (ready g at.In_ok-create_change state events keeps told (unrefused g at.After-commit_pending state keeps))
+    (g.D.Disk.history c.commit_now.new.disk) c.in_ok-commit_now.ensures.so_far
 
 -- ---- over any disk
 

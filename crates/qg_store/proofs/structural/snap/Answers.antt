@@ -1,27 +1,32 @@
-use Rattle.std.proofs.Common.{◌≡◌, ◌∙◌, ◌+◌, ◌≤◌, ℕ, ap, inl, length, refl, subst, sym, true, false}
+use Rattle.std.proofs.Common.{List, None, ◌≡◌, ◌∙◌, ◌+◌, ◌≤◌, ℕ, ap, inl, length, refl, subst, sym, true, false}
+use Rattle.qg_device.specs.History.{Event, Recorded}
 use Rattle.qg_num.specs.declared.answer.Answer.TheVariants.{Refused, Sub}
 use Rattle.qg_num.specs.declared.command.Command.TheVariants.{Snap}
 use Rattle.qg_num.specs.declared.refusal.Refusal.TheVariants as why
+use Rattle.qg_image.specs.State.{State}
+use Rattle.qg_machine.specs.Refusals.{refusal}
 use Rattle.qg_blocks.proofs.Broken.{broken-any}
 use Rattle.qg_space.specs.Holding.{free_slots}
-use Rattle.qg_kept_commit.proofs.PiecesRead.{handed}
-use Rattle.qg_kept_commit.proofs.Reserve.{finds-planned}
-use Rattle.qg_kept_commit.proofs.Whole.{handed-sound}
-use Rattle.qg_kept_commit.specs.FsLawsKeeping.{other_names}
-use Rattle.qg_kept_commit.specs.Types.{Kept}
-use Rattle.qg_kept_commit.specs.Keeping.{structural_need_of}
+use Rattle.qg_image_commits.proofs.PiecesRead.{handed}
+use Rattle.qg_image_commits.proofs.WholeFile.{handed-sound}
+use Rattle.qg_image_commits.specs.FsLawsKeeping.{other_names}
+use Rattle.qg_image_commits.specs.Types.{OpenImage}
+use Rattle.qg_image_commits.specs.Keeping.{IsKeptOf, structural_need_of}
 use Rattle.qg_store.specs.Structural.{commit_refusal}
 use Rattle.qg_file_commands.proofs.Cloned.{target-listed}
 use Rattle.qg_file_commands.proofs.Edited.{if-none}
-use Rattle.qg_kept_commit.proofs.Looked.{node-size}
-use Rattle.qg_kept_commit.proofs.OnDisk.{last-any, on-disk, stays-pending}
+use Rattle.qg_image_commits.proofs.Looked.{node-size}
+use Rattle.qg_image_commits.proofs.OnDisk.{last-any, on-disk, stays-pending}
 use Rattle.qg_store.proofs.Reasoned.{number-same, snap-early, snap-late, snap-listed, snap-no-sub, snap-same}
 use Rattle.qg_store.proofs.Reasoned.{too-many-by, too-many-same}
-use Rattle.qg_kept_commit.proofs.Stepped.{does_nothing}
-use Rattle.qg_store.proofs.Structured.{does-structural, early-second, held-snapped, last-settled, made-first}
+use Rattle.qg_image_commits.proofs.Stepped.{does_nothing}
+use Rattle.qg_store.proofs.Structured.{IsReady, of-changed, does-structural, early-second, held-snapped, last-settled}
+use Rattle.qg_store.proofs.Structured.{made-first}
 use Rattle.qg_store.proofs.Structured.{intact-first, intact-handed, made-second, so-far-first, so-far-second}
 use Rattle.qg_store.proofs.Stopped.{change-stored, pending-stored, second-stored}
+use Rattle.qg_store.proofs.structural.snap.Given.{Over}
 use Rattle.qg_store.proofs.structural.snap.Goals as goal
+use Rattle.qg_store.proofs.structural.snap.Goals.{After-commit_pending, In_ok-snap_change}
 
 pub turn_to-requires : goal.turn_to-requires
 turn_to-requires g c = record { fitted = c.requires.kept.fitted }
@@ -164,6 +169,54 @@ returns-in-Some-2-clause-refused g c = λ is.
 pub returns-in_err-why-2-clause-so_far : goal.returns-in_err-why-2-clause-so_far
 returns-in_err-why-2-clause-so_far g c = λ state events given told. inl told
 
+-- ---- a state that is kept
+
+module _ (g : Over) (c : After-commit_pending g) (state : State)
+    (given : IsKeptOf c.args.kept.now state (g.D.Disk.history c.args.disk.now)) where
+  keeps : IsKeptOf c.turn_to.new.kept state (g.D.Disk.history c.args.disk.now)
+  keeps =
+      c.turn_to.ensures.keeps state (g.D.Disk.history c.args.disk.now) (g.D.Disk.size c.args.disk.now)
+      (other_names state) c.requires.kept given
+
+  unrefused : refusal state (Snap c.args.sub c.args.parents.now) ≡ None
+  unrefused =
+      snap-late c.turn_to.new.kept state (g.D.Disk.history c.args.disk.now) (g.D.Disk.size c.args.disk.now)
+      (c.turn_to.ensures.kept (g.D.Disk.history c.args.disk.now) (g.D.Disk.size c.args.disk.now) c.requires.kept) keeps
+      c.in_ok-why-2.ensures.table c.args.sub c.args.parents.now
+      (target-listed c.args.kept.now c.turn_to.new.kept state (g.D.Disk.history c.args.disk.now)
+      (g.D.Disk.history c.args.disk.now) given keeps c.args.sub
+      (sym c.turn_to.ensures.there ∙ c.if-not-turn_to.false))
+      (sym c.in_ok-why.ensures ∙ c.in_default.is)
+      (too-many-by c.turn_to.new.kept (length c.args.parents.now) c.number_next-number.result
+      c.are_too_many.result false c.number_next-number.ensures.value c.are_too_many.ensures c.if-are_too_many.false)
+      ∙ ap (commit_refusal c.turn_to.new.kept) (sym c.in_ok-copies.ensures)
+      ∙ sym c.in_ok-why-2.ensures.value ∙ c.in_default-2.is
+
+ready : (g : Over) (c : In_ok-snap_change g) (state : State) (events : List Event)
+    → IsKeptOf c.args.kept.now state (g.D.Disk.history c.args.disk.now)
+    → g.D.Disk.history c.args.disk.now ≡ Recorded events
+    → refusal state (Snap c.args.sub c.args.parents.now) ≡ None
+    → IsReady state (Snap c.args.sub c.args.parents.now) (Sub c.new-copy.result) c.commit_pending.new.kept
+    c.snap_change.new.kept events (g.D.Disk.history c.commit_pending.new.disk)
+    (g.D.Disk.history c.snap_change.new.disk)
+ready g c state events given told unrefused =
+    let keeps = c.turn_to.ensures.keeps state (g.D.Disk.history c.args.disk.now) (g.D.Disk.size c.args.disk.now)
+    (other_names state) c.requires.kept given in
+    let first = c.in_ok-commit_pending.ensures.committed state events keeps told in
+    let change = c.in_ok-snap_change.ensures.changed first.before first.keeps
+    c.in_ok-commit_pending.ensures.settled.pending in
+    record {
+      comes = refl;
+      unrefused = unrefused;
+      done = c.in_ok-commit_pending.ensures.so_far state events keeps told;
+      first = first;
+      change = change;
+      same = c.in_ok-snap_change.ensures.apart.0;
+      held = held-snapped first.before change.changed c.args.sub c.args.parents.now (Sub c.new-copy.result)
+          change.changes;
+      fits = c.in_ok-snap_change.ensures.kept.fitted;
+    }
+
 -- ---- what is pending is committed
 
 pub commit_pending-requires : goal.commit_pending-requires
@@ -182,30 +235,17 @@ returns-in-Some-2-clause-kept g c =
 
 pub returns-in_err-commit_pending-clause-so_far : goal.returns-in_err-commit_pending-clause-so_far
 returns-in_err-commit_pending-clause-so_far g c = λ state events given told.
-    let keeps = c.turn_to.ensures.keeps state (g.D.Disk.history c.args.disk.now) (g.D.Disk.size c.args.disk.now)
-    (other_names state) c.requires.kept given in
+    let at = (goal.at.returns-in_err-commit_pending-clause-so_far g c).After-commit_pending in
     so-far-first state (Snap c.args.sub c.args.parents.now) events (g.D.Disk.history c.commit_pending.new.disk)
-    (g.D.Disk.history c.commit_pending.new.disk) refl
-    (snap-late c.turn_to.new.kept state (g.D.Disk.history c.args.disk.now) (g.D.Disk.size c.args.disk.now)
-    (c.turn_to.ensures.kept (g.D.Disk.history c.args.disk.now) (g.D.Disk.size c.args.disk.now) c.requires.kept) keeps
-    c.in_ok-why-2.ensures.table c.args.sub c.args.parents.now
-    (target-listed c.args.kept.now c.turn_to.new.kept state (g.D.Disk.history c.args.disk.now)
-    (g.D.Disk.history c.args.disk.now) given keeps c.args.sub
-    (sym c.turn_to.ensures.there ∙ c.if-not-turn_to.false))
-    (sym c.in_ok-why.ensures ∙ c.in_default.is)
-    (too-many-by c.turn_to.new.kept (length c.args.parents.now) c.number_next-number.result
-    c.are_too_many.result false c.number_next-number.ensures.value c.are_too_many.ensures c.if-are_too_many.false)
-    ∙ ap (commit_refusal c.turn_to.new.kept) (sym c.in_ok-copies.ensures)
-    ∙ sym c.in_ok-why-2.ensures.value ∙ c.in_default-2.is) refl
-    (c.in_err-commit_pending.ensures.so_far state events keeps told)
+    (g.D.Disk.history c.commit_pending.new.disk) refl (unrefused g at state given) refl
+    (c.in_err-commit_pending.ensures.so_far state events (keeps g at state given) told)
 
 pub returns-in_err-commit_pending-clause-sound : goal.returns-in_err-commit_pending-clause-sound
 returns-in_err-commit_pending-clause-sound g c = λ state events told given.
-    let keeps = c.turn_to.ensures.keeps state (g.D.Disk.history c.args.disk.now) (g.D.Disk.size c.args.disk.now)
-    (other_names state) c.requires.kept given in
+    let at = (goal.at.returns-in_err-commit_pending-clause-sound g c).After-commit_pending in
     handed-sound (Unit {0}) c.from_residual-in_err-commit_pending.result _
     (handed c.from_residual-in_err-commit_pending.result _ c.from_residual-in_err-commit_pending.ensures.1)
-    (c.in_err-commit_pending.ensures.sound state events told keeps)
+    (c.in_err-commit_pending.ensures.sound state events told (keeps g at state given))
 
 pub returns-in_err-commit_pending-clause-err : goal.returns-in_err-commit_pending-clause-err
 returns-in_err-commit_pending-clause-err g c =
@@ -249,23 +289,10 @@ snap_change-requires g c =
 
 pub returns-in_err-snap_change-clause-so_far : goal.returns-in_err-snap_change-clause-so_far
 returns-in_err-snap_change-clause-so_far g c = λ state events given told.
-    let keeps = c.turn_to.ensures.keeps state (g.D.Disk.history c.args.disk.now) (g.D.Disk.size c.args.disk.now)
-    (other_names state) c.requires.kept given in
+    let at = (goal.at.returns-in_err-snap_change-clause-so_far g c).After-commit_pending in
     so-far-first state (Snap c.args.sub c.args.parents.now) events (g.D.Disk.history c.commit_pending.new.disk)
-    (g.D.Disk.history c.snap_change.new.disk) refl
-    (snap-late c.turn_to.new.kept state (g.D.Disk.history c.args.disk.now) (g.D.Disk.size c.args.disk.now)
-    (c.turn_to.ensures.kept (g.D.Disk.history c.args.disk.now) (g.D.Disk.size c.args.disk.now) c.requires.kept) keeps
-    c.in_ok-why-2.ensures.table c.args.sub c.args.parents.now
-    (target-listed c.args.kept.now c.turn_to.new.kept state (g.D.Disk.history c.args.disk.now)
-    (g.D.Disk.history c.args.disk.now) given keeps c.args.sub
-    (sym c.turn_to.ensures.there ∙ c.if-not-turn_to.false))
-    (sym c.in_ok-why.ensures ∙ c.in_default.is)
-    (too-many-by c.turn_to.new.kept (length c.args.parents.now) c.number_next-number.result
-    c.are_too_many.result false c.number_next-number.ensures.value c.are_too_many.ensures c.if-are_too_many.false)
-    ∙ ap (commit_refusal c.turn_to.new.kept) (sym c.in_ok-copies.ensures)
-    ∙ sym c.in_ok-why-2.ensures.value ∙ c.in_default-2.is)
-    c.in_err-snap_change.ensures.apart.0
-    (c.in_ok-commit_pending.ensures.so_far state events keeps told)
+    (g.D.Disk.history c.snap_change.new.disk) refl (unrefused g at state given) c.in_err-snap_change.ensures.apart.0
+    (c.in_ok-commit_pending.ensures.so_far state events (keeps g at state given) told)
 
 pub returns-in_err-snap_change-clause-sound : goal.returns-in_err-snap_change-clause-sound
 returns-in_err-snap_change-clause-sound g c = λ state events told given.
@@ -285,7 +312,7 @@ returns-in_err-snap_change-clause-err g c =
     c.from_residual-in_err-snap_change.result
     (last-settled (Snap c.args.sub c.args.parents.now) kept c.turn_to.new.kept c.commit_pending.new.kept
     c.snap_change.new.kept before
-    after refl c.turn_to.ensures.superblock (ap (λ (k : Kept). k.pending) c.turn_to.ensures.same.rest)
+    after refl c.turn_to.ensures.superblock (ap (λ (k : OpenImage). k.pending) c.turn_to.ensures.same.rest)
     c.in_ok-commit_pending.ensures.settled c.in_err-snap_change.ensures.superblock (λ state events given told.
     let keeps = c.turn_to.ensures.keeps state before (g.D.Disk.size c.args.disk.now) (other_names state)
     c.requires.kept given in
@@ -304,135 +331,51 @@ commit_now-requires g c = record {
 
 pub returns-in_err-commit_now-clause-so_far : goal.returns-in_err-commit_now-clause-so_far
 returns-in_err-commit_now-clause-so_far g c = λ state events given told.
-    let keeps = c.turn_to.ensures.keeps state (g.D.Disk.history c.args.disk.now) (g.D.Disk.size c.args.disk.now)
-    (other_names state) c.requires.kept given in
-    let between = g.D.Disk.history c.commit_pending.new.disk in
-    let after = g.D.Disk.history c.snap_change.new.disk in
-    let first = c.in_ok-commit_pending.ensures.committed state events keeps told in
-    let change = c.in_ok-snap_change.ensures.changed first.before first.keeps
-    c.in_ok-commit_pending.ensures.settled.pending in
-    so-far-second state (Snap c.args.sub c.args.parents.now) (Sub c.new-copy.result) c.commit_pending.new.kept
-    c.snap_change.new.kept
-    c.commit_now.new.kept events between after first change c.in_ok-snap_change.ensures.apart.0
-    (held-snapped first.before change.changed c.args.sub c.args.parents.now (Sub c.new-copy.result) change.changes)
-    (g.D.Disk.history c.commit_now.new.disk) refl
-    (snap-late c.turn_to.new.kept state (g.D.Disk.history c.args.disk.now) (g.D.Disk.size c.args.disk.now)
-    (c.turn_to.ensures.kept (g.D.Disk.history c.args.disk.now) (g.D.Disk.size c.args.disk.now) c.requires.kept) keeps
-    c.in_ok-why-2.ensures.table c.args.sub c.args.parents.now
-    (target-listed c.args.kept.now c.turn_to.new.kept state (g.D.Disk.history c.args.disk.now)
-    (g.D.Disk.history c.args.disk.now) given keeps c.args.sub
-    (sym c.turn_to.ensures.there ∙ c.if-not-turn_to.false))
-    (sym c.in_ok-why.ensures ∙ c.in_default.is)
-    (too-many-by c.turn_to.new.kept (length c.args.parents.now) c.number_next-number.result
-    c.are_too_many.result false c.number_next-number.ensures.value c.are_too_many.ensures c.if-are_too_many.false)
-    ∙ ap (commit_refusal c.turn_to.new.kept) (sym c.in_ok-copies.ensures)
-    ∙ sym c.in_ok-why-2.ensures.value ∙ c.in_default-2.is)
-    (c.in_ok-commit_pending.ensures.so_far state events keeps told)
-    (c.in_err-commit_now.ensures.so_far change.changed first.between (other_names first.before) change.keeps
-    (finds-planned c.snap_change.new.kept c.in_ok-snap_change.ensures.kept.fitted change.room)
-    (c.in_ok-snap_change.ensures.apart.0 ∙ first.told))
+    let at = goal.at.returns-in_err-commit_now-clause-so_far g c in
+    so-far-second
+    (ready g at.In_ok-snap_change state events given told (unrefused g at.After-commit_pending state given))
+    (g.D.Disk.history c.commit_now.new.disk) c.in_err-commit_now.ensures.so_far
 
 pub returns-in_err-commit_now-clause-sound : goal.returns-in_err-commit_now-clause-sound
 returns-in_err-commit_now-clause-sound g c = λ state events told given.
-    let keeps = c.turn_to.ensures.keeps state (g.D.Disk.history c.args.disk.now) (g.D.Disk.size c.args.disk.now)
-    (other_names state) c.requires.kept given in
-    let first = c.in_ok-commit_pending.ensures.committed state events keeps told in
-    let change = c.in_ok-snap_change.ensures.changed first.before first.keeps
-    c.in_ok-commit_pending.ensures.settled.pending in
+    let at = goal.at.returns-in_err-commit_now-clause-sound g c in
     handed-sound (Unit {0}) c.from_residual-in_err-commit_now.result _
     (handed c.from_residual-in_err-commit_now.result _ c.from_residual-in_err-commit_now.ensures.1)
-    (c.in_err-commit_now.ensures.sound change.changed first.between (other_names first.before) change.keeps
-    (finds-planned c.snap_change.new.kept c.in_ok-snap_change.ensures.kept.fitted change.room)
-    (c.in_ok-snap_change.ensures.apart.0 ∙ first.told))
+    (of-changed
+    (ready g at.In_ok-snap_change state events given told (unrefused g at.After-commit_pending state given)) _
+    c.in_err-commit_now.ensures.sound)
 
 pub returns-in_err-commit_now-clause-err : goal.returns-in_err-commit_now-clause-err
 returns-in_err-commit_now-clause-err g c =
+    let at = goal.at.returns-in_err-commit_now-clause-err g c in
     let kept = c.args.kept.now in
     let before = g.D.Disk.history c.args.disk.now in
-    let between = g.D.Disk.history c.commit_pending.new.disk in
-    let after = g.D.Disk.history c.snap_change.new.disk in
     let last = g.D.Disk.history c.commit_now.new.disk in
     last-any (Snap c.args.sub c.args.parents.now) kept c.commit_now.new.kept before last
     c.from_residual-in_err-commit_now.result
     (last-settled (Snap c.args.sub c.args.parents.now) kept c.turn_to.new.kept c.commit_pending.new.kept
     c.commit_now.new.kept before
-    last refl c.turn_to.ensures.superblock (ap (λ (k : Kept). k.pending) c.turn_to.ensures.same.rest)
+    last refl c.turn_to.ensures.superblock (ap (λ (k : OpenImage). k.pending) c.turn_to.ensures.same.rest)
     c.in_ok-commit_pending.ensures.settled
     (c.in_err-commit_now.ensures.err ∙ c.in_ok-snap_change.ensures.superblock) (λ state events given told.
-    let keeps = c.turn_to.ensures.keeps state before (g.D.Disk.size c.args.disk.now) (other_names state)
-    c.requires.kept given in
-    let first = c.in_ok-commit_pending.ensures.committed state events keeps told in
-    let change = c.in_ok-snap_change.ensures.changed first.before first.keeps
-    c.in_ok-commit_pending.ensures.settled.pending in
-    made-second state (Snap c.args.sub c.args.parents.now) (Sub c.new-copy.result) c.commit_pending.new.kept
-    c.snap_change.new.kept
-    c.commit_now.new.kept events between after first change c.in_ok-snap_change.ensures.apart.0
-    (held-snapped first.before change.changed c.args.sub c.args.parents.now (Sub c.new-copy.result) change.changes) last
-    (c.in_err-commit_now.ensures.stops change.changed first.between (other_names first.before) change.keeps
-    (finds-planned c.snap_change.new.kept c.in_ok-snap_change.ensures.kept.fitted change.room)
-    (c.in_ok-snap_change.ensures.apart.0 ∙ first.told))))
+    made-second
+    (ready g at.In_ok-snap_change state events given told (unrefused g at.After-commit_pending state given))
+    last c.in_err-commit_now.ensures.stops))
 
 pub returns-clause-step : goal.returns-clause-step
 returns-clause-step g c = λ state events given told.
-    let keeps = c.turn_to.ensures.keeps state (g.D.Disk.history c.args.disk.now) (g.D.Disk.size c.args.disk.now)
-    (other_names state) c.requires.kept given in
-    let kept = c.turn_to.new.kept in
-    let before = g.D.Disk.history c.args.disk.now in
-    let between = g.D.Disk.history c.commit_pending.new.disk in
-    let after = g.D.Disk.history c.snap_change.new.disk in
-    let first = c.in_ok-commit_pending.ensures.committed state events keeps told in
-    let change = c.in_ok-snap_change.ensures.changed first.before first.keeps
-    c.in_ok-commit_pending.ensures.settled.pending in
-    let second = c.in_ok-commit_now.ensures.commits change.changed first.between (other_names first.before) change.keeps
-    (finds-planned c.snap_change.new.kept c.in_ok-snap_change.ensures.kept.fitted change.room)
-    (c.in_ok-snap_change.ensures.apart.0 ∙ first.told) in
-    let few = too-many-by kept (length c.args.parents.now) c.number_next-number.result c.are_too_many.result false
-    c.number_next-number.ensures.value c.are_too_many.ensures c.if-are_too_many.false in
-    does-structural state (Snap c.args.sub c.args.parents.now) (Sub c.new-copy.result) c.commit_pending.new.kept
-    c.snap_change.new.kept
-    c.commit_now.new.kept events between after first change c.in_ok-snap_change.ensures.apart.0
-    (held-snapped first.before change.changed c.args.sub c.args.parents.now (Sub c.new-copy.result) change.changes)
-    (g.D.Disk.history c.commit_now.new.disk) second
-    (snap-late kept state before (g.D.Disk.size c.args.disk.now)
-    (c.turn_to.ensures.kept (g.D.Disk.history c.args.disk.now) (g.D.Disk.size c.args.disk.now) c.requires.kept) keeps
-    c.in_ok-why-2.ensures.table c.args.sub c.args.parents.now
-    (target-listed c.args.kept.now kept state (g.D.Disk.history c.args.disk.now) (g.D.Disk.history c.args.disk.now)
-    given
-    keeps c.args.sub (sym c.turn_to.ensures.there ∙ c.if-not-turn_to.false))
-    (sym c.in_ok-why.ensures ∙ c.in_default.is) few
-    ∙ ap (commit_refusal c.turn_to.new.kept) (sym c.in_ok-copies.ensures)
-    ∙ sym c.in_ok-why-2.ensures.value ∙ c.in_default-2.is)
-    (λ does. does)
+    let at = goal.at.returns-clause-step g c in
+    does-structural
+    (ready g at.In_ok-snap_change state events given told (unrefused g at.After-commit_pending state given))
+    c.commit_now.new.kept (g.D.Disk.history c.commit_now.new.disk) c.in_ok-commit_now.ensures.commits
+    (λ commits then does. does)
 
 pub returns-clause-so_far : goal.returns-clause-so_far
 returns-clause-so_far g c = λ state events given told.
-    let keeps = c.turn_to.ensures.keeps state (g.D.Disk.history c.args.disk.now) (g.D.Disk.size c.args.disk.now)
-    (other_names state) c.requires.kept given in
-    let between = g.D.Disk.history c.commit_pending.new.disk in
-    let after = g.D.Disk.history c.snap_change.new.disk in
-    let first = c.in_ok-commit_pending.ensures.committed state events keeps told in
-    let change = c.in_ok-snap_change.ensures.changed first.before first.keeps
-    c.in_ok-commit_pending.ensures.settled.pending in
-    so-far-second state (Snap c.args.sub c.args.parents.now) (Sub c.new-copy.result) c.commit_pending.new.kept
-    c.snap_change.new.kept
-    c.commit_now.new.kept events between after first change c.in_ok-snap_change.ensures.apart.0
-    (held-snapped first.before change.changed c.args.sub c.args.parents.now (Sub c.new-copy.result) change.changes)
-    (g.D.Disk.history c.commit_now.new.disk) refl
-    (snap-late c.turn_to.new.kept state (g.D.Disk.history c.args.disk.now) (g.D.Disk.size c.args.disk.now)
-    (c.turn_to.ensures.kept (g.D.Disk.history c.args.disk.now) (g.D.Disk.size c.args.disk.now) c.requires.kept) keeps
-    c.in_ok-why-2.ensures.table c.args.sub c.args.parents.now
-    (target-listed c.args.kept.now c.turn_to.new.kept state (g.D.Disk.history c.args.disk.now)
-    (g.D.Disk.history c.args.disk.now) given keeps c.args.sub
-    (sym c.turn_to.ensures.there ∙ c.if-not-turn_to.false))
-    (sym c.in_ok-why.ensures ∙ c.in_default.is)
-    (too-many-by c.turn_to.new.kept (length c.args.parents.now) c.number_next-number.result
-    c.are_too_many.result false c.number_next-number.ensures.value c.are_too_many.ensures c.if-are_too_many.false)
-    ∙ ap (commit_refusal c.turn_to.new.kept) (sym c.in_ok-copies.ensures)
-    ∙ sym c.in_ok-why-2.ensures.value ∙ c.in_default-2.is)
-    (c.in_ok-commit_pending.ensures.so_far state events keeps told)
-    (c.in_ok-commit_now.ensures.so_far change.changed first.between (other_names first.before) change.keeps
-    (finds-planned c.snap_change.new.kept c.in_ok-snap_change.ensures.kept.fitted change.room)
-    (c.in_ok-snap_change.ensures.apart.0 ∙ first.told))
+    let at = goal.at.returns-clause-so_far g c in
+    so-far-second
+    (ready g at.In_ok-snap_change state events given told (unrefused g at.After-commit_pending state given))
+    (g.D.Disk.history c.commit_now.new.disk) c.in_ok-commit_now.ensures.so_far
 
 -- ---- over any disk
 
@@ -451,7 +394,7 @@ returns-in_err-snap_change-clause-intact g c =
     (intact-first (Snap c.args.sub c.args.parents.now) c.args.kept.now c.turn_to.new.kept c.commit_pending.new.kept
     c.snap_change.new.kept (g.D.Disk.history c.args.disk.now) (g.D.Disk.history c.args.disk.now)
     (g.D.Disk.history c.commit_pending.new.disk) (g.D.Disk.history c.snap_change.new.disk) refl refl
-    (ap (λ (k : Kept). k.pending) c.turn_to.ensures.same.rest)
+    (ap (λ (k : OpenImage). k.pending) c.turn_to.ensures.same.rest)
     c.in_ok-commit_pending.ensures.calls.none c.in_ok-commit_pending.ensures.calls.calls
     c.in_err-snap_change.ensures.superblock c.in_err-snap_change.ensures.apart.0)
 
@@ -466,7 +409,7 @@ returns-in_err-commit_now-clause-intact g c =
     intact-first (Snap c.args.sub c.args.parents.now) c.args.kept.now c.turn_to.new.kept c.commit_pending.new.kept
     c.commit_now.new.kept (g.D.Disk.history c.args.disk.now) (g.D.Disk.history c.args.disk.now)
     (g.D.Disk.history c.commit_pending.new.disk) (g.D.Disk.history c.commit_now.new.disk) refl refl
-    (ap (λ (k : Kept). k.pending) c.turn_to.ensures.same.rest)
+    (ap (λ (k : OpenImage). k.pending) c.turn_to.ensures.same.rest)
     c.in_ok-commit_pending.ensures.calls.none c.in_ok-commit_pending.ensures.calls.calls
     (c.in_err-commit_now.ensures.err ∙ c.in_ok-snap_change.ensures.superblock)
     (same ∙ c.in_ok-snap_change.ensures.apart.0)) c.in_err-commit_now.ensures.intact.broken

@@ -5,23 +5,23 @@ use Rattle.std.proofs.lemmas.List.Elements.{All-tail}
 use Rattle.qg_node.specs.Nodes.{header_of, own_pointers}
 use Rattle.qg_refs.specs.Book.{full_in}
 use Rattle.qg_extents.specs.Table.{book_of}
-use Rattle.qg_direct.specs.Surveyed.{surveyed_of}
-use Rattle.qg_descent.specs.declared.way.Way.{Way}
-use Rattle.qg_direct.specs.declared.surveyed.Surveyed.{Surveyed}
-use Rattle.qg_drop.specs.Counting.{LeadsToBranch, ways_told}
-use Rattle.qg_drop.proofs.Counted.{children-lead, read-on, tells-read, top-told}
-use Rattle.qg_drop.proofs.Resting.{unbroken-handed}
-use Rattle.qg_drop.proofs.Ways.{ways-levelled}
+use Rattle.qg_qgroup_counts.specs.Surveyed.{surveyed_of}
+use Rattle.qg_tree_read.specs.declared.way.Way.{Way}
+use Rattle.qg_qgroup_counts.specs.declared.surveyed.Surveyed.{Surveyed}
+use Rattle.qg_subvolumes.specs.Counting.{LeadsToBranch, ways_told}
+use Rattle.qg_subvolumes.proofs.NodesBelow.{children-lead, read-on, tells-read, top-told}
+use Rattle.qg_subvolumes.proofs.Resting.{unbroken-handed}
+use Rattle.qg_subvolumes.proofs.Ways.{ways-levelled}
 use Rattle.qg_survey.specs.Surveying.{AreRead, EndBelow, GoesOn, link_at}
 use Rattle.qg_survey.proofs.Reading.{none-there, on-err}
 use Rattle.qg_survey.proofs.Rounds.{surveyed-on, surveyed-stops}
 use Rattle.qg_survey.proofs.Stepped.{ends-there, goes-higher, goes-none, inner-goes, leaf-goes}
 use Rattle.qg_survey.proofs.surveying.+surveying.Goals.{survey_under-then-level-gt0+in_ok-survey_each}
 use Rattle.qg_survey.proofs.surveying.+surveying.Goals.{survey_under-else-level-gt0}
-use Rattle.qg_image.specs.declared.tree.Tree.TheVariants.{Files}
-use Rattle.qg_blocks.specs.Held.{Draft}
+use Rattle.qg_image.specs.declared.tree.TreeKind.TheVariants.{Files}
+use Rattle.qg_blocks.specs.NodesInMemory.{Draft}
 use Rattle.qg_blocks.proofs.Stopping.{stops-err}
-use Rattle.qg_descent.proofs.Stopping.{stops-visit}
+use Rattle.qg_tree_read.proofs.Stopping.{stops-visit}
 use Rattle.qg_survey.proofs.surveying.+surveying.Goals as goal
 
 pub survey_each-returns-in_err-survey_under-clause-surveyed :

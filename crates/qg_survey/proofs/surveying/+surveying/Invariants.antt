@@ -1,8 +1,8 @@
 use Rattle.std.proofs.Common.{◌≡◌, ℕ, ◌+◌, ◌*◌, ◌-◌, All, Some, length}
 use Rattle.qg_image.specs.State.{State}
 use Rattle.qg_extents.specs.Table.{book_of}
-use Rattle.qg_descent.specs.Way.{HasRead, IsReadable}
-use Rattle.qg_drop.specs.Counting.{LeadsToBranch, TellsNodes}
+use Rattle.qg_tree_read.specs.Way.{HasRead, IsReadable}
+use Rattle.qg_subvolumes.specs.Counting.{LeadsToBranch, TellsNodes}
 use Rattle.qg_survey.specs.Surveying.{AreRead, MarksNodes}
 use Rattle.qg_survey.proofs.Rounds.{IsSurveyed}
 use Rattle.qg_survey.proofs.surveying.+surveying.Given as goal

@@ -1,11 +1,11 @@
 use Rattle.std.proofs.Common.{ℕ, List, sym, subst, ◌∙◌}
-use Rattle.qg_ground.proofs.Editing.{ArePlaced-drafted}
-use Rattle.qg_direct.specs.declared.surveyed.Surveyed.{Surveyed}
-use Rattle.qg_drop.proofs.Resting.{unbroken-handed}
-use Rattle.qg_drop.proofs.Stepping.{edit-still, rests-read}
-use Rattle.qg_drop.proofs.Whole.{tells-held}
+use Rattle.qg_node_alloc.proofs.Editing.{ArePlaced-drafted}
+use Rattle.qg_qgroup_counts.specs.declared.surveyed.Surveyed.{Surveyed}
+use Rattle.qg_subvolumes.proofs.Resting.{unbroken-handed}
+use Rattle.qg_subvolumes.proofs.Stepping.{edit-still, rests-read}
+use Rattle.qg_subvolumes.proofs.WayToRoot.{tells-held}
 use Rattle.qg_survey.specs.Surveying.{AreRead}
-use Rattle.qg_survey.proofs.Held.{all-read, marks-told, once-read, read-none, trees-lead, trees-next}
+use Rattle.qg_survey.proofs.TreesRead.{all-read, marks-told, once-read, read-none, trees-lead, trees-next}
 use Rattle.qg_survey.proofs.Ordered.{links-are}
 use Rattle.std.proofs.Common.{refl}
 use Rattle.qg_blocks.proofs.Stopping.{stops-err}

@@ -3,13 +3,13 @@ use Rattle.std.specs.List.{All}
 use Rattle.std.proofs.lemmas.List.Elements.{All-tail}
 use Rattle.qg_image.specs.State.{next_generation}
 use Rattle.qg_image.specs.declared.expected.Expected.{Expected}
-use Rattle.qg_descent.specs.Tree.{Root}
-use Rattle.qg_drop.proofs.Counted.{read-on, tells-read}
-use Rattle.qg_drop.proofs.Resting.{unbroken-handed}
+use Rattle.qg_tree_read.specs.Tree.{Root}
+use Rattle.qg_subvolumes.proofs.NodesBelow.{read-on, tells-read}
+use Rattle.qg_subvolumes.proofs.Resting.{unbroken-handed}
 use Rattle.qg_survey.specs.Surveying.{EndsBelow, GoesOn, LeadsOn}
 use Rattle.qg_survey.proofs.Reading.{on-err}
 use Rattle.qg_survey.proofs.Rounds.{gone-on, gone-stops, tree-leads}
-use Rattle.qg_blocks.specs.Held.{Draft}
+use Rattle.qg_blocks.specs.NodesInMemory.{Draft}
 use Rattle.qg_blocks.proofs.Stopping.{stops-err}
 use Rattle.qg_survey.proofs.surveying.survey_trees.Goals as goal
 

@@ -1,9 +1,9 @@
 use Rattle.std.proofs.Common.{◌≡◌, ℕ, ◌+◌, All, Some, length}
 use Rattle.qg_image.specs.State.{State, next_generation}
 use Rattle.qg_extents.specs.Table.{book_of}
-use Rattle.qg_descent.specs.Tree.{Root}
-use Rattle.qg_descent.specs.Way.{HasRead, IsReadable}
-use Rattle.qg_drop.specs.Counting.{TellsNodes}
+use Rattle.qg_tree_read.specs.Tree.{Root}
+use Rattle.qg_tree_read.specs.Way.{HasRead, IsReadable}
+use Rattle.qg_subvolumes.specs.Counting.{TellsNodes}
 use Rattle.qg_survey.specs.Surveying.{AreRead, LeadsOn, MarksNodes}
 use Rattle.qg_survey.proofs.Rounds.{AreGone}
 use Rattle.qg_survey.proofs.surveying.survey_trees.Given as goal

@@ -3,11 +3,11 @@ use Rattle.std.specs.Prelude.{◌==◌}
 use Rattle.std.specs.List.{IsDistinct}
 use Rattle.std.proofs.lemmas.List.{append-nil}
 use Rattle.qg_node.specs.declared.node.Node.{Node}
-use Rattle.qg_ground.specs.Tellings.{Telling}
-use Rattle.qg_ground.specs.Tellings.Telling.{Made}
-use Rattle.qg_ground.proofs.Lands.{Rests-draft}
-use Rattle.qg_tree.specs.Row.{address_of}
-use Rattle.qg_descent.specs.Tree.{Root}
+use Rattle.qg_node_alloc.specs.Tellings.{Telling}
+use Rattle.qg_node_alloc.specs.Tellings.Telling.{Made}
+use Rattle.qg_node_alloc.proofs.Lands.{Rests-draft}
+use Rattle.qg_tree_layout.specs.Row.{address_of}
+use Rattle.qg_tree_read.specs.Tree.{Root}
 use Rattle.qg_tree_build.specs.Building.{IsBuildTold, IsBuiltIn, most_nodes}
 use Rattle.qg_tree_build.proofs.Laid.{all-laid, drafted-last, free-last, laying-more, laying-none, none-left}
 use Rattle.qg_tree_build.proofs.Laid.{rests-last, sound-last, split-last, steps-more, steps-within, whole-long}

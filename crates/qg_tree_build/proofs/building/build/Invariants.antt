@@ -1,7 +1,7 @@
 use Rattle.std.proofs.Common.{◌≡◌, ◌≤◌, ◌+◌, ◌*◌, ◌++◌, ℕ, List, length, map}
 use Rattle.qg_node.specs.declared.node.Node.{Node}
-use Rattle.qg_ground.specs.Tellings.{Telling}
-use Rattle.qg_ground.specs.Tellings.Telling.{Made}
+use Rattle.qg_node_alloc.specs.Tellings.{Telling}
+use Rattle.qg_node_alloc.specs.Tellings.Telling.{Made}
 use Rattle.qg_tree_build.proofs.Laid.{IsLaying}
 use Rattle.qg_tree_build.proofs.Telling.{slots_laid}
 use Rattle.qg_tree_build.proofs.building.build.Given as goal

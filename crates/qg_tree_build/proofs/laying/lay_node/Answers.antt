@@ -2,9 +2,9 @@ use Rattle.std.proofs.Common.{refl, subst, sym}
 use Rattle.std.proofs.lemmas.Result.{on_ok_weaker}
 use Rattle.qg_node.specs.declared.node.Header.{Header}
 use Rattle.qg_node.specs.Nodes.{header_of}
-use Rattle.qg_ground.specs.Changes.{PutsFresh, node_at}
-use Rattle.qg_ground.proofs.Lands.{Makes-after, Rests-after, Rests-made, Rests-taken, Takes-made}
-use Rattle.qg_ground.proofs.Settling.{PutsFresh-puts}
+use Rattle.qg_node_alloc.specs.Changes.{PutsFresh, node_at}
+use Rattle.qg_node_alloc.proofs.Lands.{Makes-after, Rests-after, Rests-made, Rests-taken, Takes-made}
+use Rattle.qg_node_alloc.proofs.Settling.{PutsFresh-puts}
 use Rattle.qg_tree_build.proofs.laying.lay_node.Goals as goal
 
 pub put_there-requires : goal.put_there-requires

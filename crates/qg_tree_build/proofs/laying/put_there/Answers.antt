@@ -4,10 +4,10 @@ use Rattle.qg_node.specs.declared.node.Node.{Node}
 use Rattle.qg_node.specs.Nodes.{header_of}
 use Rattle.qg_image.specs.Table.{with_number}
 use Rattle.qg_space.specs.Holding.{Holding}
-use Rattle.qg_blocks.specs.Held.{Draft}
-use Rattle.qg_ground.specs.declared.ground.Ground.{Ground}
-use Rattle.qg_ground.specs.Changes.{node_at}
-use Rattle.qg_ground.proofs.Lands.{Makes-put, Spares-put, Spares-taken}
+use Rattle.qg_blocks.specs.NodesInMemory.{Draft}
+use Rattle.qg_node_alloc.specs.declared.ground.Ground.{Ground}
+use Rattle.qg_node_alloc.specs.Changes.{node_at}
+use Rattle.qg_node_alloc.proofs.Lands.{Makes-put, Spares-put, Spares-taken}
 use Rattle.qg_tree_build.proofs.Laid.{at-itself}
 use Rattle.qg_tree_build.proofs.laying.put_there.Goals as goal
 

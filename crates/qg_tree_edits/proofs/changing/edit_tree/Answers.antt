@@ -4,15 +4,15 @@ use Rattle.std.proofs.lemmas.Result.{on_ok_weaker}
 use Rattle.std.specs.Prelude.{List, None}
 use Rattle.qg_num.specs.declared.fault.BlockFault.{BlockFault}
 use Rattle.qg_device.specs.History.{History}
-use Rattle.qg_blocks.specs.Told.{told}
+use Rattle.qg_blocks.specs.NodesFound.{told}
 use Rattle.qg_edit.specs.Edits.{growth_of}
 use Rattle.qg_tree_edits.specs.First.{leaves, leaves_behind}
 use Rattle.qg_tree_edits.specs.Editing.{IsPartEdited, IsPartFit}
-use Rattle.qg_ground.specs.Tellings.{Telling}
+use Rattle.qg_node_alloc.specs.Tellings.{Telling}
 use Rattle.qg_tree_edits.specs.Counting.{IsPartTold, IsRootTold}
 use Rattle.qg_tree_edits.specs.Rooting.{HasRoot, StandsForRoot}
 use Rattle.qg_tree_edits.proofs.Replaced.{done-both, edited-root, fit-root, low-root, stands-root, told-root}
-use Rattle.qg_ground.proofs.Owners.{IsOwnedBy-after}
+use Rattle.qg_node_alloc.proofs.Owners.{IsOwnedBy-after}
 use Rattle.qg_tree_edits.proofs.Naming.{names-other, names-weaker}
 use Rattle.qg_tree_edits.proofs.Rejoined.{unbroken-other}
 use Rattle.qg_device.proofs.Causes.{cause-handed, cause-last}

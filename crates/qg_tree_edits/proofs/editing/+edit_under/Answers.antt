@@ -8,8 +8,8 @@ use Rattle.qg_node.specs.declared.pointer.Pointer.{Pointer}
 use Rattle.qg_node.specs.Nodes.{is_ascending, own_pointers}
 use Rattle.qg_super.specs.declared.sizes.Sizes.{Sizes}
 use Rattle.qg_shape.specs.Parts.{IsInner}
-use Rattle.qg_ground.specs.Tellings.{Telling}
-use Rattle.qg_blocks.specs.Told.{told}
+use Rattle.qg_node_alloc.specs.Tellings.{Telling}
+use Rattle.qg_blocks.specs.NodesFound.{told}
 use Rattle.qg_blocks.proofs.Telling.{fresh-held}
 use Rattle.qg_edit.specs.Edits.{growth_of}
 use Rattle.qg_tree_edits.specs.declared.instead.Instead.{Instead}
@@ -32,10 +32,10 @@ use Rattle.qg_tree_edits.proofs.Paired.{owned-levelled}
 use Rattle.qg_tree_edits.proofs.PlacedTold.{ok-both}
 use Rattle.qg_tree_edits.proofs.Rejoined.{unbroken-other}
 use Rattle.qg_tree_edits.proofs.Served.{node-drafted, slots-most}
-use Rattle.qg_ground.proofs.Calls.{LeavesBe-after}
+use Rattle.qg_node_alloc.proofs.Calls.{LeavesBe-after}
 use Rattle.qg_device.proofs.Causes.{cause-handed, cause-last}
 use Rattle.qg_tree_edits.proofs.Turning.{four-in-row}
-use Rattle.qg_ground.proofs.Owners.{IsOwnedBy-after}
+use Rattle.qg_node_alloc.proofs.Owners.{IsOwnedBy-after}
 use Rattle.qg_tree_edits.proofs.Owners.{placed-owners}
 use Rattle.qg_tree_edits.proofs.Naming.{names-none, names-other}
 use Rattle.qg_tree_edits.proofs.Unfit.{fails-above, fails-below, fails-read, leads-down, owned-stands, placed-stands}

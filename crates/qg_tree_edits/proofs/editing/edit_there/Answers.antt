@@ -5,13 +5,13 @@ use Rattle.qg_node.specs.declared.node.Node.{Node}
 use Rattle.qg_node.specs.declared.node.Node.TheVariants.{Leaf}
 use Rattle.qg_node.specs.Nodes.{header_of, own_items}
 use Rattle.qg_shape.specs.Filled.{HasShortBodies}
-use Rattle.qg_blocks.specs.Told.{told}
-use Rattle.qg_ground.specs.declared.ground.Ground.{Ground}
-use Rattle.qg_ground.specs.Tellings.{Telling}
-use Rattle.qg_ground.proofs.Lands.{Rests-after}
+use Rattle.qg_blocks.specs.NodesFound.{told}
+use Rattle.qg_node_alloc.specs.declared.ground.Ground.{Ground}
+use Rattle.qg_node_alloc.specs.Tellings.{Telling}
+use Rattle.qg_node_alloc.proofs.Lands.{Rests-after}
 use Rattle.qg_edit.specs.Edits.{CanEdit}
 use Rattle.qg_tree_edits.specs.declared.instead.Instead.{Instead}
-use Rattle.qg_descent.specs.Tree.{super_of}
+use Rattle.qg_tree_read.specs.Tree.{super_of}
 use Rattle.qg_tree_edits.specs.Editing.{IsPartEdited, RestIsReady}
 use Rattle.qg_tree_edits.specs.Counting.{tellings_made, tellings_owned}
 use Rattle.qg_tree_edits.proofs.FitTold.{fit-told}
@@ -23,10 +23,10 @@ use Rattle.qg_tree_edits.proofs.Levels.{rewritten-levels, rewritten-space}
 use Rattle.qg_tree_edits.proofs.Paired.{owned-levelled}
 use Rattle.qg_tree_edits.proofs.Rejoined.{unbroken-other}
 use Rattle.qg_tree_edits.proofs.Served.{fresh-leaf, sizes-drafted, slots-most}
-use Rattle.qg_ground.proofs.Calls.{LeavesBe-after}
+use Rattle.qg_node_alloc.proofs.Calls.{LeavesBe-after}
 use Rattle.qg_device.proofs.Causes.{cause-handed, cause-last, cause-none}
-use Rattle.qg_descent.proofs.Under.{under-leaf}
-use Rattle.qg_ground.proofs.Owners.{IsOwnedBy-after}
+use Rattle.qg_tree_read.proofs.Under.{under-leaf}
+use Rattle.qg_node_alloc.proofs.Owners.{IsOwnedBy-after}
 use Rattle.qg_tree_edits.proofs.Owners.{placed-owners, rewritten-owners}
 use Rattle.qg_tree_edits.proofs.Naming.{names-none, names-other}
 use Rattle.qg_tree_edits.proofs.Unfit.{fails-leaf, fails-read, owned-stands, placed-stands}

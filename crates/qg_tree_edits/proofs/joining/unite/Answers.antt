@@ -2,9 +2,9 @@ use Rattle.std.proofs.Common.{[], ◌∷◌, append-nil, arith, inl, inr, refl, 
 use Rattle.std.specs.Prelude.{List}
 use Rattle.std.proofs.lemmas.Result.{err_from_is_err_and}
 use Rattle.qg_device.specs.History.{content}
-use Rattle.qg_ground.specs.Tellings.{Telling}
-use Rattle.qg_ground.specs.Tellings.Telling.{Left}
-use Rattle.qg_ground.proofs.Lands.{Rests-after, told-fresh_at}
+use Rattle.qg_node_alloc.specs.Tellings.{Telling}
+use Rattle.qg_node_alloc.specs.Tellings.Telling.{Left}
+use Rattle.qg_node_alloc.proofs.Lands.{Rests-after, told-fresh_at}
 use Rattle.qg_tree_edits.specs.declared.instead.Instead.{Instead}
 use Rattle.qg_tree_edits.proofs.Levels.{both-space, joined-empties, joined-levels}
 use Rattle.qg_tree_edits.proofs.ToldUnited.{left-cleared}

@@ -1,20 +1,20 @@
 use Rattle.std.proofs.Common.{◌≡◌, ℕ, List, arith, refl, sym, ap, subst, ◌∙◌, Some}
 use Rattle.std.proofs.lemmas.Result.{IfOk-weaker, err_from_is_err_and, on_ok_weaker}
 use Rattle.qg_device.specs.History.{History}
-use Rattle.qg_blocks.specs.Held.{Draft}
-use Rattle.qg_blocks.specs.Told.{fresh_at, told}
-use Rattle.qg_ground.specs.declared.ground.Ground.{Ground}
-use Rattle.qg_ground.proofs.Editing.{ArePlaced-drafted}
-use Rattle.qg_ground.proofs.Lands.{Rests-after, Rests-draft}
-use Rattle.qg_ground.proofs.Settling.{KeepsLevels-draft}
+use Rattle.qg_blocks.specs.NodesInMemory.{Draft}
+use Rattle.qg_blocks.specs.NodesFound.{fresh_at, told}
+use Rattle.qg_node_alloc.specs.declared.ground.Ground.{Ground}
+use Rattle.qg_node_alloc.proofs.Editing.{ArePlaced-drafted}
+use Rattle.qg_node_alloc.proofs.Lands.{Rests-after, Rests-draft}
+use Rattle.qg_node_alloc.proofs.Settling.{KeepsLevels-draft}
 use Rattle.qg_tree_edits.proofs.Owned.{IsOwned-visited, owned-unbroken}
 use Rattle.qg_tree_edits.proofs.Rejoined.{unbroken-other}
 use Rattle.qg_device.proofs.Causes.{cause-handed, cause-last}
 use Rattle.qg_tree_edits.proofs.ToldOwned.{tells-owned}
-use Rattle.qg_ground.proofs.Owners.{IsOwnedBy-after, IsOwnedBy-draft, IsOwnedBy-owned}
+use Rattle.qg_node_alloc.proofs.Owners.{IsOwnedBy-after, IsOwnedBy-draft, IsOwnedBy-owned}
 use Rattle.qg_tree_edits.proofs.Naming.{names-none, names-refused}
 use Rattle.qg_tree_edits.specs.Failing.{IsRefused}
-use Rattle.qg_descent.proofs.Stopping.{stops-visit}
+use Rattle.qg_tree_read.proofs.Stopping.{stops-visit}
 use Rattle.qg_blocks.proofs.Stopping.{stops-read, stops-same}
 use Rattle.qg_tree_edits.proofs.owning.own.Goals as goal
 
@@ -27,8 +27,8 @@ visit-requires g c = record {
   };
 }
 
-pub own_node-requires-clause-ready : goal.own_node-requires-clause-ready
-own_node-requires-clause-ready g c =
+pub cow_node-requires-clause-ready : goal.cow_node-requires-clause-ready
+cow_node-requires-clause-ready g c =
     let mid : Ground = record c.args.land.now { blocks = c.visit.new.blocks } in
     let rests = Rests-draft c.args.land.now mid (g.D.Disk.history c.visit.new.disk) c.args.tree.now.next
     c.visit.ensures.read.draft c.visit.ensures.read.bound refl c.visit.ensures.readable.backed
@@ -45,7 +45,7 @@ returns-clause-owned g c =
     let owner = root.owner in
     let land = c.args.land.now in
     let mid : Ground = record land { blocks = c.visit.new.blocks } in
-    let new = c.own_node.new.land in
+    let new = c.cow_node.new.land in
     let at = c.args.way.now.address in
     let later = g.D.Disk.history c.visit.new.disk in
     let read = c.visit.ensures.read in
@@ -55,14 +55,14 @@ returns-clause-owned g c =
     let first = IsOwnedBy-draft owner land mid read.draft in
     record {
       is = IsOwned-visited g.P.TreePart.tree root land new (g.D.Disk.history c.args.disk.now) later
-          c.args.way.now.expected at c.visit.new.blocks c.own_node.result c.in_ok-visit.ensures.visited drafted
-          rests.drafted read.draft (rw (c.owner.ensures, c.next.ensures) at c.own_node.ensures.owned)
-          c.own_node.ensures.takes;
-      count = on_ok_weaker c.own_node.result (λ takes. takes.count) c.own_node.ensures.takes;
-      owners = IfOk-weaker c.own_node.result _ _
+          c.args.way.now.expected at c.visit.new.blocks c.cow_node.result c.in_ok-visit.ensures.visited drafted
+          rests.drafted read.draft (rw (c.owner.ensures, c.next.ensures) at c.cow_node.ensures.owned)
+          c.cow_node.ensures.takes;
+      count = on_ok_weaker c.cow_node.result (λ takes. takes.count) c.cow_node.ensures.takes;
+      owners = IfOk-weaker c.cow_node.result _ _
           (λ now owned. IsOwnedBy-after owner land mid new first
           (IsOwnedBy-owned mid new later at now owner root.next owned))
-          (rw (c.owner.ensures, c.next.ensures) at c.own_node.ensures.owned);
+          (rw (c.owner.ensures, c.next.ensures) at c.cow_node.ensures.owned);
     }
 
 pub returns-clause-told : goal.returns-clause-told
@@ -70,10 +70,10 @@ returns-clause-told g c node there taken before log follows =
     let told_then = subst (λ (h : History). told c.visit.new.blocks.draft h c.args.way.now.address ≡ Some
     node) (sym c.visit.ensures.read.history) (ap (λ (d : Draft). told d (g.D.Disk.history c.args.disk.now)
     c.args.way.now.address) c.visit.ensures.read.draft ∙ there) in
-    tells-owned _ (g.B.Book.follows before) c.args.book.now c.own_node.new.book log node c.args.way.now.address
-    c.args.land.now.space taken follows (fresh_at c.visit.new.blocks.draft c.args.way.now.address) c.own_node.result
-    c.own_node.ensures.same (λ none. c.own_node.ensures.told node told_then none taken before log follows)
-    (λ none. IfOk-weaker c.own_node.result _ _ (λ now owned. (owned.copied none).puts.free) c.own_node.ensures.owned)
+    tells-owned _ (g.B.Book.follows before) c.args.book.now c.cow_node.new.book log node c.args.way.now.address
+    c.args.land.now.space taken follows (fresh_at c.visit.new.blocks.draft c.args.way.now.address) c.cow_node.result
+    c.cow_node.ensures.same (λ none. c.cow_node.ensures.told node told_then none taken before log follows)
+    (λ none. IfOk-weaker c.cow_node.result _ _ (λ now owned. (owned.copied none).puts.free) c.cow_node.ensures.owned)
 
 -- ---- where it fails
 
@@ -100,17 +100,17 @@ returns-clause-fails g c =
     let visited = c.in_ok-visit.ensures.visited in
     let read = c.visit.ensures.read in
     record {
-      sound = λ node there formed. owned-unbroken c.own_node.result c.visit.new.blocks.draft land.blocks.draft
+      sound = λ node there formed. owned-unbroken c.cow_node.result c.visit.new.blocks.draft land.blocks.draft
           (g.D.Disk.history c.visit.new.disk) (g.D.Disk.history c.args.disk.now) at node read.draft read.history
-          (λ some. (c.own_node.ensures.same some).0) c.own_node.ensures.fails.answers there;
-      broken = λ events told_is. names-none c.own_node.result
-          (IsRefused g.P.TreePart.tree c.args.tree.now land c.own_node.new.land events c.args.way.now.expected at)
-          (owned-unbroken c.own_node.result c.visit.new.blocks.draft land.blocks.draft
+          (λ some. (c.cow_node.ensures.same some).0) c.cow_node.ensures.fails.answers there;
+      broken = λ events told_is. names-none c.cow_node.result
+          (IsRefused g.P.TreePart.tree c.args.tree.now land c.cow_node.new.land events c.args.way.now.expected at)
+          (owned-unbroken c.cow_node.result c.visit.new.blocks.draft land.blocks.draft
           (g.D.Disk.history c.visit.new.disk) (g.D.Disk.history c.args.disk.now) at visited.node read.draft read.history
-          (λ some. (c.own_node.ensures.same some).0) c.own_node.ensures.fails.answers (visited.tells events told_is));
+          (λ some. (c.cow_node.ensures.same some).0) c.cow_node.ensures.fails.answers (visited.tells events told_is));
       cause = cause-last (g.D.Disk.faults c.args.disk.now) (g.D.Disk.faults c.visit.new.disk)
-          (g.D.Disk.faults c.own_node.new.disk) c.own_node.result c.in_ok-visit.ensures.cause.fine
-          c.own_node.ensures.fails.cause;
+          (g.D.Disk.faults c.cow_node.new.disk) c.cow_node.result c.in_ok-visit.ensures.cause.fine
+          c.cow_node.ensures.fails.cause;
     }
 
 -- ---- what is left so
@@ -135,9 +135,9 @@ returns-clause-rests g c =
     let read = c.visit.ensures.read in
     let first = Rests-draft land mid later next read.draft read.bound refl c.visit.ensures.readable.backed
     c.requires.editable.drafted in
-    let second = rw c.next.ensures at c.own_node.ensures.rests in
+    let second = rw c.next.ensures at c.cow_node.ensures.rests in
     record {
-      rests = Rests-after land mid c.own_node.new.land later (g.D.Disk.history c.own_node.new.disk) next first
+      rests = Rests-after land mid c.cow_node.new.land later (g.D.Disk.history c.cow_node.new.disk) next first
           second.rests;
       history = second.history ∙ read.history;
       size = second.size ∙ read.size;
@@ -149,8 +149,8 @@ returns-clause-book g c =
     let mid : Ground = record land { blocks = c.visit.new.blocks } in
     let read = c.visit.ensures.read in
     record {
-      stands = c.own_node.ensures.book.stands;
-      settled = λ settled. c.own_node.ensures.book.settled
+      stands = c.cow_node.ensures.book.stands;
+      settled = λ settled. c.cow_node.ensures.book.settled
           (g.met.B.Book.keeps c.args.book.now land mid c.args.disk.now c.visit.new.disk read.history refl
           (KeepsLevels-draft land mid read.draft) settled);
     }
@@ -168,6 +168,6 @@ returns-clause-stops g c =
     let mid = c.visit.new.blocks.draft in
     let read = c.visit.ensures.read in
     let held = g.D.Disk.size c.visit.new.disk in
-    stops-same c.own_node.result mid.sizes c.args.land.now.blocks.draft.sizes held (g.D.Disk.size c.args.disk.now)
+    stops-same c.cow_node.result mid.sizes c.args.land.now.blocks.draft.sizes held (g.D.Disk.size c.args.disk.now)
     (ap (λ (d : Draft). d.sizes) read.draft) read.size
-    (stops-read c.own_node.result mid.sizes held c.args.way.now.address c.own_node.ensures.broken)
+    (stops-read c.cow_node.result mid.sizes held c.args.way.now.address c.cow_node.ensures.broken)

@@ -11,7 +11,7 @@ use Rattle.qg_tree_edits.proofs.Naming.{answers-no_disk, names-answers}
 use Rattle.qg_tree_edits.specs.Failing.{NamesOnly}
 use Rattle.qg_edit.specs.Answering.{IsBrokenByChange, IsChangeable}
 use Rattle.qg_tree_edits.proofs.Rewritten.{same_node}
-use Rattle.qg_blocks.specs.Told.{fresh_at}
+use Rattle.qg_blocks.specs.NodesFound.{fresh_at}
 use Rattle.qg_tree_edits.proofs.rewriting.rewrite_leaf.Goals as goal
 
 pub returns-clause-cut : goal.returns-clause-cut

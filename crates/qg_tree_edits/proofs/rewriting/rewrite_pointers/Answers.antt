@@ -12,7 +12,7 @@ use Rattle.qg_tree_edits.specs.Failing.{NamesOnly}
 use Rattle.qg_edit.specs.Answering.{CanSplice, IsBrokenUnless}
 use Rattle.qg_num.specs.declared.rule.Rule.TheVariants.{Refs}
 use Rattle.qg_tree_edits.proofs.Rewritten.{same_node}
-use Rattle.qg_blocks.specs.Told.{fresh_at}
+use Rattle.qg_blocks.specs.NodesFound.{fresh_at}
 use Rattle.qg_tree_edits.proofs.rewriting.rewrite_pointers.Goals as goal
 
 pub splice-requires-clause-within : goal.splice-requires-clause-within

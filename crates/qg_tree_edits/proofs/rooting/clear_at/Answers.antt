@@ -1,9 +1,9 @@
 use Rattle.std.proofs.Common.{◌≡◌, ap, subst, sym, ◌∙◌}
 use Rattle.std.specs.Prelude.{Some}
 use Rattle.qg_node.specs.declared.node.Node.{Node}
-use Rattle.qg_blocks.specs.Told.{fresh_at}
+use Rattle.qg_blocks.specs.NodesFound.{fresh_at}
 use Rattle.qg_edit.specs.Outcome.{cleared}
-use Rattle.qg_ground.proofs.Editing.{edited, edited-here}
+use Rattle.qg_node_alloc.proofs.Editing.{edited, edited-here}
 use Rattle.qg_tree_edits.specs.Editing.{IsRewritten}
 use Rattle.qg_tree_edits.proofs.Rewritten.{same_node}
 use Rattle.qg_tree_edits.proofs.Shrunk.{cleared-rewritten}

@@ -3,19 +3,19 @@ use Rattle.std.proofs.lemmas.Result.{err_from_is_err_and}
 use Rattle.qg_node.specs.declared.node.Node.{Node}
 use Rattle.qg_node.specs.Nodes.{header_of}
 use Rattle.qg_blocks.proofs.Telling.{fresh-held}
-use Rattle.qg_ground.specs.Land.{IsDrafted, Rests}
+use Rattle.qg_node_alloc.specs.Land.{IsDrafted, Rests}
 use Rattle.qg_shape.specs.Pointing.{pointer_to}
 use Rattle.std.specs.Ordering.{is_lt}
 use Rattle.qg_num.specs.Key.{key_cmp}
 use Rattle.std.specs.Prelude.{true}
-use Rattle.qg_descent.specs.Tree.{Root}
+use Rattle.qg_tree_read.specs.Tree.{Root}
 use Rattle.qg_tree_edits.specs.Rooting.{HasRoot}
-use Rattle.qg_ground.specs.Tellings.Telling.{Made}
+use Rattle.qg_node_alloc.specs.Tellings.Telling.{Made}
 use Rattle.qg_tree_edits.specs.Counting.{IsRootTold}
 use Rattle.qg_tree_edits.proofs.Grown.{above-ascends, grown-above, told-above, two}
 use Rattle.qg_tree_edits.proofs.Rejoined.{unbroken-other}
 use Rattle.qg_tree_edits.proofs.Served.{size-drafted}
-use Rattle.qg_ground.proofs.Owners.{IsOwnedBy-draft, IsOwnedBy-made}
+use Rattle.qg_node_alloc.proofs.Owners.{IsOwnedBy-draft, IsOwnedBy-made}
 use Rattle.qg_tree_edits.proofs.Naming.{names-none_other, names-other}
 use Rattle.qg_device.proofs.Causes.{cause-handed, cause-none, cause-other}
 use Rattle.qg_tree_edits.specs.Rooting.{StaysTree}

@@ -2,14 +2,14 @@ use Rattle.std.proofs.Common.{◌≡◌, suc, ◌-◌, List, [], ◌∷◌, appe
 use Rattle.std.specs.Prelude.{Some, None}
 use Rattle.std.proofs.lemmas.Result.{err_from_is_err_and}
 use Rattle.qg_device.specs.History.{content}
-use Rattle.qg_blocks.specs.Told.{told}
+use Rattle.qg_blocks.specs.NodesFound.{told}
 use Rattle.qg_blocks.proofs.Telling.{fresh-held}
 use Rattle.qg_edit.specs.Outcome.{cleared}
-use Rattle.qg_ground.specs.declared.ground.Ground.{Ground}
-use Rattle.qg_ground.specs.Tellings.{Telling}
-use Rattle.qg_ground.specs.Tellings.Telling.{Left}
-use Rattle.qg_ground.proofs.Lands.{Rests-after, told-fresh_at}
-use Rattle.qg_descent.specs.Tree.{Root}
+use Rattle.qg_node_alloc.specs.declared.ground.Ground.{Ground}
+use Rattle.qg_node_alloc.specs.Tellings.{Telling}
+use Rattle.qg_node_alloc.specs.Tellings.Telling.{Left}
+use Rattle.qg_node_alloc.proofs.Lands.{Rests-after, told-fresh_at}
+use Rattle.qg_tree_read.specs.Tree.{Root}
 use Rattle.qg_tree_edits.specs.First.{leaves}
 use Rattle.qg_tree_edits.specs.Editing.{alone}
 use Rattle.qg_tree_edits.specs.Rooting.{HasRoot, StaysTree, lone_child}
@@ -20,7 +20,7 @@ use Rattle.qg_tree_edits.specs.Counting.{IsRootTold}
 use Rattle.qg_tree_edits.proofs.Shrunk.{lone-high, lone-is, stood, sunk, sunk-leaves, told-stood, told-sunk}
 use Rattle.qg_device.proofs.Causes.{cause-handed}
 use Rattle.qg_tree_edits.proofs.United.{fresh-unbroken}
-use Rattle.qg_ground.proofs.Owners.{IsOwnedBy-after, IsOwnedBy-draft, IsOwnedBy-left}
+use Rattle.qg_node_alloc.proofs.Owners.{IsOwnedBy-after, IsOwnedBy-draft, IsOwnedBy-left}
 use Rattle.qg_tree_edits.proofs.Owners.{rewritten-owners}
 use Rattle.std.specs.Prelude.{Err}
 use Rattle.qg_blocks.proofs.Stopping.{stops-err, stops-read}

@@ -4,11 +4,11 @@ use Rattle.std.proofs.lemmas.Result.{IfOk-weaker, err_from_is_err_and}
 use Rattle.qg_node.specs.declared.node.Node.{Node}
 use Rattle.qg_node.specs.declared.node.Node.TheVariants.{Inner}
 use Rattle.qg_node.specs.Nodes.{own_pointers}
-use Rattle.qg_ground.specs.Tellings.{Telling}
-use Rattle.qg_ground.proofs.Lands.{Rests-after}
+use Rattle.qg_node_alloc.specs.Tellings.{Telling}
+use Rattle.qg_node_alloc.proofs.Lands.{Rests-after}
 use Rattle.qg_tree_edits.specs.declared.instead.Instead.{Instead}
 use Rattle.qg_tree_edits.specs.declared.pairing.Pair.{Pair}
-use Rattle.qg_descent.specs.Tree.{super_of}
+use Rattle.qg_tree_read.specs.Tree.{super_of}
 use Rattle.qg_tree_edits.specs.Editing.{RestIsReady}
 use Rattle.qg_tree_edits.specs.Counting.{tellings_owned}
 use Rattle.qg_edit.proofs.Leaves.{ok-known}
@@ -25,13 +25,13 @@ use Rattle.qg_tree_edits.proofs.RejoinedTold.{rejoined-told}
 use Rattle.qg_tree_edits.proofs.Served.{fresh-inner, instead-named, node-drafted, places-few, size-drafted}
 use Rattle.qg_tree_edits.proofs.Served.{sizes-drafted, slots-none}
 use Rattle.qg_device.proofs.Causes.{cause-handed, cause-other}
-use Rattle.qg_ground.proofs.Owners.{IsOwnedBy-after}
+use Rattle.qg_node_alloc.proofs.Owners.{IsOwnedBy-after}
 use Rattle.qg_tree_edits.proofs.Owners.{rewritten-owners, united-owners}
 use Rattle.qg_tree_edits.proofs.Naming.{names-other, names-weaker}
 use Rattle.qg_tree_edits.proofs.Unfit.{misled-then, paired-one, paired-over}
 use Rattle.qg_tree_edits.specs.Failing.{ArentJoined, CantSettle, IsMisled, LacksNeighbour, NamesOnly}
 use Rattle.qg_tree_edits.proofs.Rewritten.{same_node}
-use Rattle.qg_blocks.specs.Told.{fresh_at}
+use Rattle.qg_blocks.specs.NodesFound.{fresh_at}
 use Rattle.std.proofs.Common.{sym}
 use Rattle.qg_num.specs.declared.rule.Rule.{Rule}
 use Rattle.qg_blocks.specs.Stopping.{IsMisfit}

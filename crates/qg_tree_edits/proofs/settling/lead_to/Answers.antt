@@ -9,7 +9,7 @@ use Rattle.qg_shape.specs.Parts.{with_pointers}
 use Rattle.qg_edit.specs.Outcome.{spliced}
 use Rattle.qg_edit.proofs.Leaves.{header-pointers}
 use Rattle.qg_tree_edits.proofs.Cutting.{inner-here, stays-cut_ok}
-use Rattle.qg_descent.proofs.Split.{keys_to}
+use Rattle.qg_tree_read.proofs.Split.{keys_to}
 use Rattle.qg_tree_edits.specs.Editing.{IsCutThere, IsNamed}
 use Rattle.qg_tree_edits.proofs.Leading.{led-one, led-two, one-ascends, two-ascend}
 use Rattle.qg_tree_edits.proofs.Naming.{names-weaker}

@@ -4,11 +4,11 @@ use Rattle.std.proofs.lemmas.Result.{IfOk-weaker}
 use Rattle.qg_device.proofs.Causes.{cause-other}
 use Rattle.qg_node.specs.declared.item.Item.{Item}
 use Rattle.qg_shape.specs.Filled.{IsThin}
-use Rattle.qg_ground.specs.Tellings.{Telling}
+use Rattle.qg_node_alloc.specs.Tellings.{Telling}
 use Rattle.qg_tree_edits.specs.declared.instead.Instead.{Instead}
 use Rattle.qg_tree_edits.specs.Editing.{IsUnsettled}
 use Rattle.qg_tree_edits.specs.Steps.{FailsToSettle, SetsPointers, SettlesItems}
-use Rattle.qg_descent.specs.Tree.{super_of}
+use Rattle.qg_tree_read.specs.Tree.{super_of}
 use Rattle.qg_edit.proofs.Leaves.{ok-known}
 use Rattle.qg_tree_edits.proofs.Cutting.{ready-same, rewritten-moves, rewritten-rests, rewritten-spares}
 use Rattle.qg_tree_edits.proofs.Levels.{rewritten-levels, rewritten-space}
@@ -22,7 +22,7 @@ use Rattle.qg_tree_edits.proofs.Naming.{names-weaker}
 use Rattle.qg_tree_edits.proofs.Unfit.{misled-then}
 use Rattle.qg_tree_edits.specs.Failing.{CantSettle, IsMisled, NamesOnly}
 use Rattle.qg_tree_edits.proofs.Rewritten.{same_node}
-use Rattle.qg_blocks.specs.Told.{fresh_at}
+use Rattle.qg_blocks.specs.NodesFound.{fresh_at}
 use Rattle.qg_node.specs.declared.node.Node.{Node}
 use Rattle.qg_num.specs.declared.rule.Rule.{Rule}
 use Rattle.qg_blocks.specs.Stopping.{IsMisfit}

@@ -2,9 +2,9 @@ use Rattle.std.proofs.Common.{◌≡◌, ℕ, ap, refl, rules, subst, sym, ◌�
 use Rattle.qg_node.specs.declared.node.Node.{Node}
 use Rattle.qg_node.specs.Nodes.{header_of}
 use Rattle.qg_node.specs.NodeText.{IsNode}
-use Rattle.qg_ground.specs.Changes.{Makes}
-use Rattle.qg_ground.specs.Calls.{LeavesBe}
-use Rattle.qg_ground.specs.Land.{IsDrafted}
+use Rattle.qg_node_alloc.specs.Changes.{Makes}
+use Rattle.qg_node_alloc.specs.Calls.{LeavesBe}
+use Rattle.qg_node_alloc.specs.Land.{IsDrafted}
 use Rattle.qg_tree_edits.specs.Editing.{with_owner}
 use Rattle.qg_tree_edits.proofs.Placed.{Moves-made, StandsInstead-made}
 use Rattle.qg_tree_edits.proofs.PlacedBehind.{IsNode-with_owner, with_owner-generation, with_owner-level}

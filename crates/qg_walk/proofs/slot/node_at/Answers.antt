@@ -35,6 +35,6 @@ returns-in-Err-Bad-clause-told g c events told =
     let slot = rw c.sizes.ensures at (sym c.is_slot.ensures ∙ c.if-not-is_slot.false) in
     let bytes = rw c.value.ensures at (c.in_ok-read.ensures.bytes events told) in
     let exact = rw c.in-Err-Bad.field-0-is at c.in-Err-Bad.ensures.exact in
-    rw c.rule_of.ensures
+    rw c.rule.ensures
     (node_found-read c.args.superblock.now (content events) c.read.new.buf c.args.address (length c.args.buffer.now)
     (Err c.in-Err-Bad.fault) slot bytes c.requires.buffer exact)

@@ -2,7 +2,7 @@ use Rattle.std.proofs.lemmas.Result.{err_from_is_err_and}
 use Rattle.qg_image.specs.Walk.{deepest, tree_failure}
 use Rattle.qg_walk.specs.Added.{found_by}
 use Rattle.qg_walk.proofs.Failures.{levels_few}
-use Rattle.qg_walk.proofs.Whole.{IsWalk-added, held-added, slots-added}
+use Rattle.qg_walk.proofs.WholeTree.{IsWalk-added, held-added, slots-added}
 use Rattle.qg_walk.proofs.walk.walk_tree.Goals as goal
 
 pub returns-in_err-walk-clause-unsound : goal.returns-in_err-walk-clause-unsound

@@ -1,6 +1,6 @@
 use Rattle.std.proofs.Common.{sym, ◌∙◌}
 use Rattle.std.proofs.lemmas.Bool.{false≢true}
-use Rattle.qg_words.proofs.Told.{check-told, lines-told, run-told, sizes-told}
+use Rattle.qg_words.proofs.FormsOfMatches.{check-told, lines-told, run-told, sizes-told}
 use Rattle.qg_words.proofs.parse.form_named.Goals as goal
 
 pub returns-then-is_text : goal.returns-then-is_text

@@ -1,5 +1,5 @@
 use Rattle.std.proofs.Common.{Some, ap}
-use Rattle.qg_words.proofs.Told.{met-told, none-told}
+use Rattle.qg_words.proofs.FormsOfMatches.{met-told, none-told}
 use Rattle.qg_words.proofs.parse.form_of.Goals as goal
 
 pub returns-in-Some : goal.returns-in-Some

@@ -4,7 +4,7 @@ use Rattle.std.specs.Fmt.{decimal}
 use Rattle.std.specs.Str.Parse.{ParsesUnsigned, ExplainsUnsignedError, HasUnsignedDigitsIfOk}
 use Rattle.clap.specs.Matches.{found_of, one_text}
 use Rattle.clap.proofs.WalkLemmas.{one_text-rows}
-use Rattle.qg_words.proofs.Told.{number-read}
+use Rattle.qg_words.proofs.FormsOfMatches.{number-read}
 use Rattle.qg_words.proofs.parse.number_of.Goals as goal
 
 pub returns : goal.returns

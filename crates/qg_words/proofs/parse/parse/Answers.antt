@@ -3,7 +3,7 @@ use Rattle.clap.specs.Simple.{App}
 use Rattle.clap.specs.Takes.{takes}
 use Rattle.qg_words.specs.Words.{texts}
 use Rattle.qg_words.proofs.Line.{form_taken}
-use Rattle.qg_words.proofs.Told.{parsed-told}
+use Rattle.qg_words.proofs.FormsOfMatches.{parsed-told}
 use Rattle.qg_words.proofs.parse.parse.Goals as goal
 
 pub returns-in-Ok : goal.returns-in-Ok

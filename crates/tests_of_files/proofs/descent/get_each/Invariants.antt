@@ -1,4 +1,4 @@
-use Rattle.qg_descent.specs.Way.{IsReadable}
+use Rattle.qg_tree_read.specs.Way.{IsReadable}
 use Rattle.tests_of_files.proofs.descent.get_each.Given as goal
 
 abbrev pub invariant-loop-object : goal.invariant-loop-object

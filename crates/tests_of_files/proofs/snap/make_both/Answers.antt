@@ -1,7 +1,7 @@
 use Rattle.std.proofs.Common.{ℕ, ◌≤◌, ap, subst, sym}
 use Rattle.qg_super.specs.Places.{second_place}
-use Rattle.qg_ground.specs.Land.{IsDrafted}
-use Rattle.qg_descent.specs.Tree.{Root}
+use Rattle.qg_node_alloc.specs.Land.{IsDrafted}
+use Rattle.qg_tree_read.specs.Tree.{Root}
 use Rattle.tests_of_files.proofs.snap.make_both.Goals as goal
 
 pub snapshot-requires-clause-editable : goal.snapshot-requires-clause-editable

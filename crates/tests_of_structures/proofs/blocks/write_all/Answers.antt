@@ -2,7 +2,7 @@ use Rattle.std.proofs.Common.{◌≡◌, ◌<◌, ℕ, ◌+◌, inl, inr, length
 use Rattle.std.specs.Prelude.{IsSome, Some, slice_index}
 use Rattle.qg_node.specs.declared.node.Node.{Node}
 use Rattle.qg_super.specs.declared.sizes.Sizes.{Sizes}
-use Rattle.qg_blocks.specs.Told.{IsNodeAt, fresh_at}
+use Rattle.qg_blocks.specs.NodesFound.{IsNodeAt, fresh_at}
 use Rattle.qg_blocks.specs.Writing.{HasWritten}
 use Rattle.qg_blocks.proofs.Flushed.{AreWritten-flushed, HasFlushed-more, HasFlushed-none, IsAmong, among-next}
 use Rattle.qg_blocks.proofs.Flushed.{among-none, item-is, key-listed, listed-fresh, some-is}

@@ -2,7 +2,7 @@ use Rattle.std.proofs.Common.{◌≡◌, ℕ}
 use Rattle.std.specs.Prelude.{Some}
 use Rattle.std.specs.Map.{keys_of}
 use Rattle.qg_node.specs.declared.node.Node.{Node}
-use Rattle.qg_blocks.specs.Told.{IsNodeAt, fresh_at}
+use Rattle.qg_blocks.specs.NodesFound.{IsNodeAt, fresh_at}
 use Rattle.qg_blocks.specs.Writing.{HasFlushed}
 use Rattle.qg_blocks.proofs.Flushed.{IsAmong}
 use Rattle.tests_of_structures.proofs.blocks.write_all.Given as goal

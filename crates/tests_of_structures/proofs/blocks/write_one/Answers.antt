@@ -3,8 +3,8 @@ use Rattle.std.specs.Prelude.{IsTrue}
 use Rattle.qg_node.specs.declared.node.Node.{Node}
 use Rattle.qg_node.specs.Reading.{node_read}
 use Rattle.qg_super.specs.Places.{is_served}
-use Rattle.qg_blocks.specs.Held.{slots_of}
-use Rattle.qg_blocks.specs.Told.{fresh_at, held_at, clean_at}
+use Rattle.qg_blocks.specs.NodesInMemory.{slots_of}
+use Rattle.qg_blocks.specs.NodesFound.{fresh_at, held_at, clean_at}
 use Rattle.qg_blocks.specs.Writing.{HasWritten, IsPlaced}
 use Rattle.qg_blocks.proofs.Stands.{HasSlot-has_slot}
 use Rattle.qg_blocks.proofs.Telling.{fresh-held}

@@ -2,7 +2,7 @@ use Rattle.std.proofs.Common.{◌≡◌, ℕ, zero, suc, ◌<◌, List, [], ◌�
 use Rattle.std.specs.List.{All, Contains}
 use Rattle.std.specs.List.Sorted.{IsStrictlyIncreasing}
 use Rattle.qg_image.proofs.Contained.{none_contained, contains_cases}
-use Rattle.qg_counted.specs.Groups.{AreWithin}
+use Rattle.qg_qgroup_counts.specs.Groups.{AreWithin}
 use Rattle.tests_of_structures.proofs.counted.grouped_alone.Goals as goal
 
 below-three : (x y index : ℕ) → x < 3 → y < 3 → Contains (x ∷ y ∷ []) index → index < 3

@@ -2,7 +2,7 @@ use Rattle.std.proofs.Common.{◌≡◌, ◌<◌, ℕ, ◌+◌, inl, inr, length
 use Rattle.std.specs.Prelude.{IsSome, Some}
 use Rattle.qg_node.specs.declared.node.Node.{Node}
 use Rattle.qg_super.specs.declared.sizes.Sizes.{Sizes}
-use Rattle.qg_blocks.specs.Told.{IsNodeAt, clean_at, fresh_at}
+use Rattle.qg_blocks.specs.NodesFound.{IsNodeAt, clean_at, fresh_at}
 use Rattle.qg_blocks.specs.Writing.{HasWritten}
 use Rattle.qg_blocks.proofs.Flushed.{AreWritten-flushed, HasFlushed-more, IsAmong, among-next, item-is, key-listed}
 use Rattle.qg_blocks.proofs.Flushed.{listed-fresh, some-is}

@@ -1,4 +1,4 @@
-use Rattle.qg_blocks.specs.Told.{IsBacked}
+use Rattle.qg_blocks.specs.NodesFound.{IsBacked}
 use Rattle.bench.proofs.tree.reading.load_all.Given as goal
 
 -- clean nodes are the disk's

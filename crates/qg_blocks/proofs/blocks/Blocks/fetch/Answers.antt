@@ -3,8 +3,8 @@ use Rattle.std.specs.Prelude.{is_some}
 use Rattle.std.specs.Cmp.{nat_eq_equiv}
 use Rattle.lru.specs.LruCache.{lru_cache}
 use Rattle.lru.proofs.CallerLemmas.{lookup-put_entries}
-use Rattle.qg_blocks.specs.Held.{Held}
-use Rattle.qg_blocks.specs.Told.{fresh_at}
+use Rattle.qg_blocks.specs.NodesInMemory.{Held}
+use Rattle.qg_blocks.specs.NodesFound.{fresh_at}
 use Rattle.qg_blocks.proofs.Backing.{IsBacked-put, IsBacked-same}
 use Rattle.qg_blocks.proofs.Telling.{IsSome-second}
 use Rattle.qg_blocks.proofs.blocks.Blocks.fetch.Goals as goal

@@ -6,7 +6,7 @@ use Rattle.qg_node.specs.declared.node.Node.{Node}
 use Rattle.qg_blocks.specs.contracts.blocks.Blocks.{the_view}
 use Rattle.qg_blocks.proofs.Backing.{IsBacked-forget, clean-gone, clean-none}
 use Rattle.qg_blocks.proofs.Telling.{is_at-same, told-remove}
-use Rattle.qg_blocks.specs.Told.{fresh_at}
+use Rattle.qg_blocks.specs.NodesFound.{fresh_at}
 use Rattle.qg_blocks.proofs.blocks.Blocks.forget.Goals as goal
 
 pub returns-clause-told : goal.returns-clause-told

@@ -3,9 +3,9 @@ use Rattle.std.specs.Prelude.{Option}
 use Rattle.std.proofs.lemmas.Result.{on_ok_weaker, on_err_weaker}
 use Rattle.qg_device.specs.History.{History, content}
 use Rattle.qg_node.specs.declared.node.Node.{Node}
-use Rattle.qg_blocks.specs.Held.{Held}
+use Rattle.qg_blocks.specs.NodesInMemory.{Held}
 use Rattle.qg_blocks.specs.Standing.{standing}
-use Rattle.qg_blocks.specs.Told.{Answers, BreaksForCause, IsBacked, clean_at, first_of, fresh_at}
+use Rattle.qg_blocks.specs.NodesFound.{Answers, BreaksForCause, IsBacked, clean_at, first_of, fresh_at}
 use Rattle.qg_blocks.proofs.Backing.{IsBacked-promoted}
 use Rattle.qg_blocks.proofs.Telling.{IsAtHand-backed, IsSome-first, IsSome-second, IsSome-promoted, loaded-found}
 use Rattle.qg_blocks.proofs.Telling.{lookup-promoted, none_of, nothing-held, promoted-absent, told-unbroken}

@@ -1,8 +1,8 @@
 use Rattle.std.proofs.Common.{◌∙◌, sym, refl}
 use Rattle.std.specs.Ordering.{nat_cmp}
 use Rattle.std.specs.BTreeMap.{is_at}
-use Rattle.qg_blocks.specs.Held.{Draft}
-use Rattle.qg_blocks.specs.Told.{fresh_at}
+use Rattle.qg_blocks.specs.NodesInMemory.{Draft}
+use Rattle.qg_blocks.specs.NodesFound.{fresh_at}
 use Rattle.qg_blocks.specs.contracts.blocks.Blocks.{the_view}
 use Rattle.qg_blocks.proofs.Backing.{AreWritten-rest, none_either, IsBacked-fewer, StandsThere-first, IsNodeAt-first}
 use Rattle.qg_blocks.proofs.blocks.Blocks.settle.Goals as goal

@@ -1,5 +1,5 @@
 use Rattle.std.proofs.Common.{◌≡◌, length}
-use Rattle.qg_blocks.specs.Told.{IsBacked}
+use Rattle.qg_blocks.specs.NodesFound.{IsBacked}
 use Rattle.qg_blocks.specs.Writing.{AreWritten}
 use Rattle.qg_blocks.proofs.blocks.Blocks.written.Given as goal
 

@@ -5,10 +5,10 @@ use Rattle.std.proofs.lemmas.List.Elements.{recursion_from_All}
 use Rattle.qg_node.specs.declared.item.Item.{Item}
 use Rattle.qg_node.specs.Fits.{ItemFits}
 use Rattle.qg_node.specs.Nodes.{is_ascending}
-use Rattle.qg_parts.specs.Types.{ExtentPart}
-use Rattle.qg_parts.specs.ItemMeaning.{extent_part}
-use Rattle.qg_parts.specs.Types.{Extents}
-use Rattle.qg_parts.specs.Walk.{is_item_of}
+use Rattle.qg_tree_items.specs.Types.{ExtentPart}
+use Rattle.qg_tree_items.specs.ItemMeaning.{extent_part}
+use Rattle.qg_tree_items.specs.Types.{Extents}
+use Rattle.qg_tree_items.specs.Walk.{is_item_of}
 use Rattle.qg_refs.specs.declared.kept.Kept.{Kept}
 use Rattle.qg_extents.specs.Written.{parts_of_book}
 use Rattle.qg_extents.proofs.ItemsAscend.{book-ascending}

@@ -1,10 +1,10 @@
 use Rattle.std.proofs.Common.{◌≡◌, ◌≤◌, ℕ, List, [], Option, length, false, sym, subst, arith}
 use Rattle.std.specs.Prelude.{MatchOption, slice_range}
 use Rattle.std.proofs.lemmas.List.{take_all}
-use Rattle.qg_parts.specs.Types.{ExtentPart}
+use Rattle.qg_tree_items.specs.Types.{ExtentPart}
 use Rattle.qg_refs.specs.declared.kept.Kept.{Kept}
 use Rattle.qg_extents.specs.Table.{book_of}
-use Rattle.qg_extents.specs.Told.{IsEntryOf, IsTold, is_entry}
+use Rattle.qg_extents.specs.BookRecords.{IsEntryOf, IsTold, is_entry}
 use Rattle.qg_extents.proofs.Records.{HaveEntries, records_failure-none, told-none}
 use Rattle.qg_extents.proofs.Runs.{address_is, done_next, done_none, entries_run, failure_run, told_run}
 use Rattle.qg_extents.proofs.extents.Extents.read.Goals as goal

@@ -1,6 +1,6 @@
 use Rattle.std.proofs.Common.{◌-◌, ◌≤◌, length, take}
 use Rattle.qg_extents.specs.Table.{book_of}
-use Rattle.qg_extents.specs.Told.{IsTold}
+use Rattle.qg_extents.specs.BookRecords.{IsTold}
 use Rattle.qg_extents.proofs.Records.{HaveEntries}
 use Rattle.qg_extents.proofs.Runs.{IsDone}
 use Rattle.qg_extents.proofs.extents.Extents.read.Given as goal

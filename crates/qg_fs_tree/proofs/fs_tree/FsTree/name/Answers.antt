@@ -6,7 +6,7 @@ use Rattle.qg_refs.specs.declared.kept.Kept.{Kept}
 use Rattle.qg_refs.specs.declared.kept.What.{What}
 use Rattle.qg_refs.specs.Book.{Adds, full_in, references_at}
 use Rattle.qg_extents.specs.Table.{IsTable, book_of}
-use Rattle.qg_tree_refs.specs.Weight.{reference_bytes}
+use Rattle.qg_tree_backrefs.specs.Weight.{reference_bytes}
 use Rattle.qg_fs_tree.proofs.Heavier.{heavier-named}
 use Rattle.qg_fs_tree.proofs.Named.{Stands-named, room-named, some-named, taken-named}
 use Rattle.qg_fs_tree.proofs.fs_tree.FsTree.name.Goals as goal

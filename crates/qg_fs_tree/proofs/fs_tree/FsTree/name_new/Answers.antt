@@ -9,7 +9,7 @@ use Rattle.qg_refs.specs.declared.kept.What.{What}
 use Rattle.qg_refs.specs.Book.{Adds, full_in, references_at}
 use Rattle.qg_space.specs.Holding.{Holding, free_slots, is_free_run, with_run}
 use Rattle.qg_extents.specs.Table.{IsTable, book_of}
-use Rattle.qg_tree_refs.specs.Weight.{reference_bytes}
+use Rattle.qg_tree_backrefs.specs.Weight.{reference_bytes}
 use Rattle.qg_fs_tree.proofs.Heavier.{heavier-new}
 use Rattle.qg_fs_tree.proofs.Kept.{slots-runs, subvolume-space}
 use Rattle.qg_fs_tree.proofs.Named.{Stands-new, free-run, none-named, room-new, unknown-new, whole-bytes}

@@ -3,7 +3,7 @@ use Rattle.qg_tree_edits.specs.Edits.{without_key}
 use Rattle.qg_tree_edits.proofs.Leaves.{ok-known}
 use Rattle.qg_refs.specs.declared.kept.Kept.{Kept}
 use Rattle.qg_extents.specs.Table.{IsTable}
-use Rattle.qg_tree_refs.proofs.Stepping.{Follows-none}
+use Rattle.qg_tree_backrefs.proofs.Stepping.{Follows-none}
 use Rattle.qg_fs_tree.specs.declared.fs_tree.FsTree.{FsTree}
 use Rattle.qg_fs_tree.proofs.Called.{IsEditedTo-called, fits-called, fitting-sound, fitting-stops}
 use Rattle.std.specs.Prelude.{not}

@@ -11,11 +11,11 @@ use Rattle.qg_num.specs.declared.fault.BlockFault.TheVariants.{Disk, Image, NoMe
 use Rattle.qg_num.specs.declared.fault.Stop.{Stop}
 use Rattle.qg_image.specs.State.{State}
 use Rattle.qg_blocks.specs.Stopping.{StopsForCause}
-use Rattle.qg_blocks.specs.Told.{BreaksNone, IfBroken}
-use Rattle.qg_kept_commit.specs.Answering.{comes_to_disk}
-use Rattle.qg_kept_commit.specs.Keeping.{IsKeptOf}
-use Rattle.qg_kept_commit.specs.Stored.{ComesToDisk, IsIntact, IsStoreOf, Stored, is_of_image, sizes_stored}
-use Rattle.qg_store.proofs.Counted.{steps-done, steps-stopped}
+use Rattle.qg_blocks.specs.NodesFound.{BreaksNone, IfBroken}
+use Rattle.qg_image_commits.specs.Answering.{comes_to_disk}
+use Rattle.qg_image_commits.specs.Keeping.{IsKeptOf}
+use Rattle.qg_image_commits.specs.Stored.{ComesToDisk, IsIntact, IsStoreOf, Stored, is_of_image, sizes_stored}
+use Rattle.qg_store.proofs.StepsOfCommand.{steps-done, steps-stopped}
 use Rattle.qg_store.specs.Stopping.{HasStopCause}
 use Rattle.qg_store.proofs.Outlived.{outlives}
 use Rattle.qg_store.proofs.Stopped.{cause-of-stop}

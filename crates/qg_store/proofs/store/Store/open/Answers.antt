@@ -2,10 +2,10 @@ use Rattle.std.proofs.Common.{◌∷◌, ◌∙◌, ℕ, List, Option, ap, refl,
 use Rattle.qg_device.specs.History.{History, Recorded, Synced, content}
 use Rattle.qg_super.specs.Places.{first_place, second_place}
 use Rattle.qg_image.specs.ImageState.{super_in}
-use Rattle.qg_kept_commit.specs.CommitOpening.{with_repair}
-use Rattle.qg_kept_commit.proofs.OpeningCalls.{outlives_fault}
-use Rattle.qg_kept_commit.specs.Keeping.{IsKeptOf}
-use Rattle.qg_kept_changes.proofs.Opened.{image-long}
+use Rattle.qg_image_commits.specs.CommitOpening.{with_repair}
+use Rattle.qg_image_commits.proofs.OpeningCalls.{outlives_fault}
+use Rattle.qg_image_commits.specs.Keeping.{IsKeptOf}
+use Rattle.qg_image_changes.proofs.Opened.{image-long}
 use Rattle.qg_store.proofs.Repaired.{kept-reopened}
 use Rattle.qg_store.proofs.store.Store.open.Goals as goal
 

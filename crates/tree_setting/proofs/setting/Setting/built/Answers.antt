@@ -2,9 +2,9 @@ use Rattle.std.proofs.Common.{◌≤◌, ℕ, ap, lit≤, subst, sym, ◌∙◌}
 use Rattle.qg_device.specs.History.{Unrecorded}
 use Rattle.qg_super.specs.declared.sizes.Sizes.{Sizes}
 use Rattle.qg_super.specs.Places.{second_place}
-use Rattle.qg_blocks.specs.Held.{slots_of}
+use Rattle.qg_blocks.specs.NodesInMemory.{slots_of}
 use Rattle.qg_space.specs.Holding.{Holding}
-use Rattle.qg_ground.specs.Land.{Rests}
+use Rattle.qg_node_alloc.specs.Land.{Rests}
 use Rattle.tree_setting.proofs.Settings.{can_build, draft_sizes, node_size, rested_land}
 use Rattle.tree_setting.proofs.setting.Setting.built.Goals as goal
 

@@ -1,9 +1,9 @@
 use Rattle.std.proofs.Common.{◌≡◌, ◌≤◌, ℕ, ap, lit≤, refl, subst, sym, ◌∙◌}
 use Rattle.qg_super.specs.declared.sizes.Sizes.{Sizes}
 use Rattle.qg_super.specs.Places.{second_place}
-use Rattle.qg_blocks.specs.Held.{slots_of}
+use Rattle.qg_blocks.specs.NodesInMemory.{slots_of}
 use Rattle.qg_space.specs.Holding.{Holding}
-use Rattle.qg_ground.specs.Land.{Rests}
+use Rattle.qg_node_alloc.specs.Land.{Rests}
 use Rattle.tree_setting.proofs.Settings.{draft_sizes, makes_files, rested_land}
 use Rattle.tree_setting.proofs.setting.Setting.new.Goals as goal
 

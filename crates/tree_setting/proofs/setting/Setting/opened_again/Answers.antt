@@ -1,9 +1,9 @@
 use Rattle.std.proofs.Common.{◌≡◌, ap, subst, true, ◌∙◌}
 use Rattle.qg_super.specs.declared.sizes.Sizes.{Sizes}
 use Rattle.qg_super.specs.Places.{is_served}
-use Rattle.qg_blocks.specs.Held.{slots_of}
+use Rattle.qg_blocks.specs.NodesInMemory.{slots_of}
 use Rattle.qg_space.specs.Holding.{Holding}
-use Rattle.qg_ground.specs.declared.ground.Ground.{Ground}
+use Rattle.qg_node_alloc.specs.declared.ground.Ground.{Ground}
 use Rattle.tree_setting.proofs.Settings.{draft_sizes, empty_land, makes_files}
 use Rattle.tree_setting.proofs.setting.Setting.opened_again.Goals as goal
 

@@ -1,6 +1,6 @@
 use Rattle.std.proofs.Common.{◌≤◌, ℕ, sym, subst, ◌∙◌}
 use Rattle.qg_super.specs.Places.{second_place}
-use Rattle.qg_ground.specs.Land.{Rests}
+use Rattle.qg_node_alloc.specs.Land.{Rests}
 use Rattle.tree_setting.proofs.Settings.{edited_makes, edited_names, rested_land}
 use Rattle.tree_setting.proofs.setting.Setting.remove.Goals as goal
 

@@ -1,0 +1,14 @@
+pub mod NumberSets
+pub mod Filters
+pub mod Passing
+pub mod Owed
+pub mod InOrder
+pub mod Steps
+pub mod Rounds
+pub mod Layouts
+pub mod OneAddress
+pub mod Things
+pub mod Collecting
+pub mod FirstFailure
+pub mod PartSaid
+pub mod KeyOrder

@@ -1,0 +1,2 @@
+pub mod OwedLists
+pub mod Judged

@@ -1,0 +1,16 @@
+pub use Rattle.qg_shared_walk.proofs.Sorted
+pub mod Later
+pub mod Known
+pub mod Dated
+pub mod Alike
+pub mod Reread
+pub mod Still
+pub mod Renewed
+pub mod Besides
+pub mod Listed
+pub mod Recorded
+pub mod Short
+pub mod Opened
+pub mod OpenedLayout
+pub mod OpenedBook
+pub mod OpenedStands

@@ -1,7 +1,0 @@
-use Rattle.std.proofs.Common.{◌≡◌, take}
-use Rattle.std.specs.List.{flat_map}
-use Rattle.qg_reached.specs.Above.{list_at}
-use Rattle.qg_counted.proofs.groups.named_by.Given as goal
-
-abbrev pub invariant-loop-member : goal.invariant-loop-member
-invariant-loop-member l = l.named ≡ flat_map (list_at l.above) (take l.member-index l.members)

@@ -1,8 +1,0 @@
-use Rattle.qg_cow.proofs.LeavingLaws.{leaving-turns, leaving-leaves}
-use Rattle.qg_cow.proofs.laws.leaving_turns_what_is_owed.Goals as goal
-
-pub returns-clause-owed : goal.returns-clause-owed
-returns-clause-owed c = leaving-turns
-
-pub returns-clause-left : goal.returns-clause-left
-returns-clause-left c = leaving-leaves

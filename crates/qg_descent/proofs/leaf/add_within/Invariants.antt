@@ -1,6 +1,0 @@
-use Rattle.std.proofs.Common.{◌≡◌, ◌++◌, take}
-use Rattle.qg_descent.specs.Reading.{items_within}
-use Rattle.qg_descent.proofs.leaf.add_within.Given as goal
-
-abbrev pub invariant-loop-item : goal.invariant-loop-item
-invariant-loop-item l = l.found ≡ l.initial.found ++ items_within l.from l.to (take l.item-index l.items)

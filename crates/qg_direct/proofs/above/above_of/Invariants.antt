@@ -1,5 +1,0 @@
-use Rattle.qg_direct.proofs.GroupsAbove.{MembershipsFirst}
-use Rattle.qg_direct.proofs.above.above_of.Given as goal
-
-abbrev pub invariant-loop-root : goal.invariant-loop-root
-invariant-loop-root l = MembershipsFirst l.roots l.hierarchy l.root-index l.above.items

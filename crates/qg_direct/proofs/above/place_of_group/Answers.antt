@@ -1,7 +1,0 @@
-use Rattle.qg_direct.proofs.GroupsAbove.{found_group}
-use Rattle.qg_direct.proofs.above.place_of_group.Goals as goal
-
-pub returns : goal.returns
-returns c =
-    found_group c.args.groups.now c.args.group c.binary_search.result c.ok.result c.requires
-    c.binary_search.ensures.position c.ok.ensures.value

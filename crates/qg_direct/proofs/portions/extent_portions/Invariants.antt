@@ -1,5 +1,0 @@
-use Rattle.qg_direct.proofs.Uniting.{Told}
-use Rattle.qg_direct.proofs.portions.extent_portions.Given as goal
-
-abbrev pub invariant-loop-i : goal.invariant-loop-i
-invariant-loop-i l = Told l.initial.reached l.reached l.namers l.extents l.i l.portions.items

@@ -1,7 +1,0 @@
-use Rattle.std.proofs.Common.{◌≡◌, ◌++◌, take}
-use Rattle.qg_direct.specs.Portions.{node_portions}
-use Rattle.qg_direct.proofs.portions.push_nodes.Given as goal
-
-abbrev pub invariant-loop-place : goal.invariant-loop-place
-invariant-loop-place l =
-    l.portions.items ≡ l.initial.portions.items ++ node_portions l.nodesize (take l.place l.reached.numbers.items)

@@ -1,3 +1,0 @@
-pub use Rattle.qg_forest.specs.Standing
-pub mod Dropping
-pub mod Counting

@@ -1,8 +1,0 @@
-use Rattle.qg_file_items.proofs.Edited.{put-in, taken-out}
-use Rattle.qg_file_items.proofs.laws.edits_by_bodies.Goals as goal
-
-pub returns-clause-put : goal.returns-clause-put
-returns-clause-put c = put-in
-
-pub returns-clause-taken : goal.returns-clause-taken
-returns-clause-taken c = taken-out

@@ -1,5 +1,0 @@
-pub mod Bodies
-pub mod Pieces
-pub mod FileEdits
-pub mod Laws
-pub mod Examples

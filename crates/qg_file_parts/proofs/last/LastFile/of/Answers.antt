@@ -1,6 +1,0 @@
-use Rattle.std.proofs.Common.{refl}
-use Rattle.qg_file_parts.proofs.Rows.{IsLast-one}
-use Rattle.qg_file_parts.proofs.last.LastFile.of.Goals as goal
-
-pub returns : goal.returns
-returns c = IsLast-one _ c.args.inode.now refl refl refl refl

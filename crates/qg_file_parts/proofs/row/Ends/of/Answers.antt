@@ -1,6 +1,0 @@
-use Rattle.std.proofs.Common.{refl}
-use Rattle.qg_file_parts.proofs.Rows.{HasEnds-file}
-use Rattle.qg_file_parts.proofs.row.Ends.of.Goals as goal
-
-pub returns-in-Inode : goal.returns-in-Inode
-returns-in-Inode c = rw c.in-Inode.is (HasEnds-file _ c.of.result _ c.of.ensures refl refl)

@@ -1,8 +1,0 @@
-use Rattle.std.proofs.Common.{◌∙◌}
-use Rattle.qg_gathered.proofs.Searching.{searched_is}
-use Rattle.qg_gathered.proofs.full.is_full.Goals as goal
-
-pub returns : goal.returns
-returns c =
-    c.is_ok.ensures.value
-    ∙ searched_is c.args.full.now c.args.address c.binary_search.result c.binary_search.ensures.position c.requires

@@ -1,8 +1,0 @@
-use Rattle.std.proofs.Common.{◌≡◌, map, take}
-use Rattle.std.specs.List.{flat_map}
-use Rattle.qg_gathered.specs.Told.{told_by}
-use Rattle.qg_gathered.proofs.nodes.NodesRead.named.Given as goal
-
-abbrev pub invariant-loop-node : goal.invariant-loop-node
-invariant-loop-node l = l.named.items ≡ flat_map (λ told. told.extents)
-    (map told_by (take l.node-index l.self.nodes.items))

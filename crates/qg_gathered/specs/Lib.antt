@@ -1,5 +1,0 @@
-pub mod Told
-pub mod Marked
-pub mod Found
-pub mod Gathered
-pub mod Judged

@@ -1,5 +1,0 @@
-use Rattle.qg_hier.proofs.Sets.{number_now}
-use Rattle.qg_groups.proofs.refusing.put_number.Goals as goal
-
-pub returns : goal.returns
-returns c = number_now c.args.numbers.now c.insert.new.self c.args.number c.in_ok-insert.ensures.updates

@@ -1,6 +1,0 @@
-use Rattle.std.proofs.Common.{sym, ◌∙◌}
-use Rattle.qg_groups.proofs.Paths.{reserved-none}
-use Rattle.qg_groups.proofs.state.QuotaState.new.Goals as goal
-
-pub returns-clause-none : goal.returns-clause-none
-returns-clause-none c group = c.in_ok-limits.ensures.held group ∙ sym (reserved-none _ group)

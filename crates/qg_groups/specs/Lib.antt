@@ -1,4 +1,0 @@
-pub mod Tracked
-pub mod Changing
-pub mod Judging
-pub mod OnOrOff

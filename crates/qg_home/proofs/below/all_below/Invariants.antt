@@ -1,5 +1,0 @@
-use Rattle.qg_home.proofs.Pointing.{FirstBelow}
-use Rattle.qg_home.proofs.below.all_below.Given as goal
-
-abbrev pub invariant-loop-node : goal.invariant-loop-node
-invariant-loop-node l = FirstBelow l.nodes l.below.items l.node-index

@@ -1,6 +1,0 @@
-use Rattle.qg_home.specs.Places.{ArePlacesBelow}
-use Rattle.qg_home.proofs.Pointing.{cut}
-use Rattle.qg_home.proofs.below.places_below.Given as goal
-
-abbrev pub invariant-loop-child : goal.invariant-loop-child
-invariant-loop-child l = ArePlacesBelow l.nodes (cut l.parent l.child-index) l.places

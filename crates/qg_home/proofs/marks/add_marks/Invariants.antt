@@ -1,6 +1,0 @@
-use Rattle.std.proofs.Common.{take}
-use Rattle.qg_home.specs.Marks.{HaveAlso}
-use Rattle.qg_home.proofs.marks.add_marks.Given as goal
-
-abbrev pub invariant-loop-place : goal.invariant-loop-place
-invariant-loop-place l = HaveAlso (take l.place-index l.places) l.marks l.initial.rows l.rows

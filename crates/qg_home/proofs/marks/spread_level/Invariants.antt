@@ -1,6 +1,0 @@
-use Rattle.std.proofs.Common.{take}
-use Rattle.qg_home.specs.Marks.{AreSpread}
-use Rattle.qg_home.proofs.marks.spread_level.Given as goal
-
-abbrev pub invariant-loop-i : goal.invariant-loop-i
-invariant-loop-i l = AreSpread (take l.i l.nodes) l.nodes l.level l.initial.rows l.rows

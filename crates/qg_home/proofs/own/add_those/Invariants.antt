@@ -1,6 +1,0 @@
-use Rattle.std.proofs.Common.{take}
-use Rattle.qg_home.specs.Housed.{HaveThose}
-use Rattle.qg_home.proofs.own.add_those.Given as goal
-
-abbrev pub invariant-loop-i : goal.invariant-loop-i
-invariant-loop-i l = HaveThose (take l.i l.own) l.initial.housed l.housed

@@ -1,5 +1,0 @@
-use Rattle.qg_home.specs.Housed.{StayOwn}
-use Rattle.qg_home.proofs.own.give_level.Given as goal
-
-abbrev pub invariant-loop-i : goal.invariant-loop-i
-invariant-loop-i l = StayOwn l.nodes l.initial.own l.own

@@ -1,6 +1,0 @@
-use Rattle.std.proofs.Common.{take}
-use Rattle.qg_home.specs.Housed.{WereGiven}
-use Rattle.qg_home.proofs.own.give_to.Given as goal
-
-abbrev pub invariant-loop-place : goal.invariant-loop-place
-invariant-loop-place l = WereGiven l.nodes (take l.place-index l.places) l.owner l.initial.own l.own

@@ -1,5 +1,0 @@
-use Rattle.qg_home.specs.Housed.{AreOwn}
-use Rattle.qg_home.proofs.own.mark_roots.Given as goal
-
-abbrev pub invariant-loop-i : goal.invariant-loop-i
-invariant-loop-i l = AreOwn l.nodes l.roots l.own

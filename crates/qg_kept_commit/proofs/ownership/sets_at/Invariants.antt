@@ -1,5 +1,0 @@
-use Rattle.qg_kept_commit.proofs.Owned.{AreSetsFirst}
-use Rattle.qg_kept_commit.proofs.ownership.sets_at.Given as goal
-
-abbrev pub invariant-loop-i : goal.invariant-loop-i
-invariant-loop-i l = AreSetsFirst l.reached l.nodes l.address l.i l.sets

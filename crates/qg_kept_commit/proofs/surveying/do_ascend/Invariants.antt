@@ -1,7 +1,0 @@
-use Rattle.std.proofs.Common.{ℕ, ◌+◌, ◌<◌, get_or}
-use Rattle.qg_direct.specs.declared.surveyed.Surveyed.{Surveyed}
-use Rattle.qg_kept_commit.proofs.surveying.do_ascend.Given as goal
-
-abbrev pub invariant-loop-i : goal.invariant-loop-i
-invariant-loop-i l = (k : ℕ) (d : Surveyed) → k + 1 < l.i
-    → (get_or l.nodes k d).linked.address < (get_or l.nodes (k + 1) d).linked.address

@@ -1,3 +1,0 @@
-pub mod CommitCalls
-pub mod OtherNodes
-pub mod NewNodes

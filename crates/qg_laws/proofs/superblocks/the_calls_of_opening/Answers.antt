@@ -1,5 +1,0 @@
-use Rattle.qg_commit.proofs.OpeningCalls.{opening_repairs}
-use Rattle.qg_laws.proofs.superblocks.the_calls_of_opening.Goals as goal
-
-pub returns : goal.returns
-returns c = opening_repairs

@@ -1,0 +1,37 @@
+pub use Rattle.qg_fs_laws.specs.Calls
+pub use Rattle.qg_fs_laws.specs.Changes
+pub use Rattle.qg_fs_laws.specs.CommitOpening
+pub use Rattle.qg_fs_laws.specs.Committing as FsLawsCommitting
+pub use Rattle.qg_fs_laws.specs.Counting
+pub use Rattle.qg_fs_laws.specs.Editable
+pub use Rattle.qg_fs_laws.specs.Files
+pub use Rattle.qg_fs_laws.specs.Following
+pub use Rattle.qg_fs_laws.specs.ForestStanding
+pub use Rattle.qg_fs_laws.specs.Fresh
+pub use Rattle.qg_fs_laws.specs.Heavier
+pub use Rattle.qg_fs_laws.specs.HoldsAfter
+pub use Rattle.qg_fs_laws.specs.IsImage
+pub use Rattle.qg_fs_laws.specs.Keeping as FsLawsKeeping
+pub use Rattle.qg_fs_laws.specs.Laying
+pub use Rattle.qg_fs_laws.specs.Mkfs
+pub use Rattle.qg_fs_laws.specs.Named
+pub use Rattle.qg_fs_laws.specs.Need
+pub use Rattle.qg_fs_laws.specs.Opened
+pub use Rattle.qg_fs_laws.specs.Opening
+pub use Rattle.qg_fs_laws.specs.Report
+pub use Rattle.qg_fs_laws.specs.Settled
+pub use Rattle.qg_fs_laws.specs.Sound
+pub use Rattle.qg_fs_laws.specs.Stale
+pub use Rattle.qg_fs_laws.specs.Standing
+pub use Rattle.qg_fs_laws.specs.CommitTreesCommitting
+pub use Rattle.qg_fs_laws.specs.CommitTreesOpening
+pub use Rattle.qg_fs_laws.specs.TreeBook
+pub use Rattle.qg_fs_laws.specs.TreeEditsEditing
+pub use Rattle.qg_fs_laws.specs.Trees
+pub use Rattle.qg_fs_laws.specs.Writing
+pub mod Keeping
+pub mod Stored
+pub mod Making
+pub mod Answering
+pub mod Editing
+pub mod Types

@@ -1,8 +1,0 @@
-use Rattle.std.proofs.Common.{◌≡◌, ◌++◌, map, take}
-use Rattle.qg_image.specs.Owed.{owed_to_child}
-use Rattle.qg_owed.specs.Told.{owings_told}
-use Rattle.qg_owed.proofs.collect.owings_of_pointers.Given as goal
-
-abbrev pub invariant-loop-pointer : goal.invariant-loop-pointer
-invariant-loop-pointer l = owings_told l.owings.items ≡ owings_told l.initial.owings.items
-    ++ map (λ pointer. owed_to_child l.header l.full pointer.child) (take l.pointer-index l.pointers)

@@ -1,0 +1,25 @@
+use Rattle.std.proofs.Common.{rules}
+use Rattle.std.proofs.lemmas.List.Sorted.{answers_always}
+use Rattle.qg_owner_rule.specs.declared.linked.Linked.{Linked}
+use Rattle.qg_owner_rule.specs.Places.{StandsAt, AreOthers}
+use Rattle.qg_owner_rule.proofs.Ascending.{searched_there, searched_absent, there_if_some, absent_if_none}
+use Rattle.qg_owner_rule.proofs.places.place_of_node.Goals as goal
+
+pub returns-clause-there : goal.returns-clause-there
+returns-clause-there c =
+    let facts = c.binary_search_by_key.ensures in
+    let by = facts.position (λ (node : Linked). node.address) (answers_always _ _ _ (λ f a r g called. search rules)) in
+    there_if_some (λ place. StandsAt (λ (node : Linked). node.address) c.args.nodes.now c.args.address place)
+    c.binary_search_by_key.result c.ok.result c.ok.ensures.value
+    (searched_there (λ (node : Linked). node.address)
+    c.args.nodes.now c.requires c.args.address c.binary_search_by_key.result facts.bound by)
+
+pub returns-clause-absent : goal.returns-clause-absent
+returns-clause-absent c =
+    let by =
+    c.binary_search_by_key.ensures.position (λ (node : Linked). node.address)
+    (answers_always _ _ _ (λ f a r g called. search rules)) in
+    absent_if_none (AreOthers (λ (node : Linked). node.address) c.args.nodes.now c.args.address)
+    c.binary_search_by_key.result c.ok.result c.ok.ensures.value
+    (searched_absent (λ (node : Linked). node.address)
+    c.args.nodes.now c.requires c.args.address c.binary_search_by_key.result by)

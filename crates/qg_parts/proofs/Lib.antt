@@ -1,3 +1,0 @@
-pub use Rattle.qg_image.proofs.Pieces
-pub mod Parts
-pub mod Keys

@@ -1,0 +1,9 @@
+use Rattle.std.proofs.Common.{◌≡◌, length}
+use Rattle.qg_qgroup_counts.specs.Above.{AreEmpty}
+use Rattle.qg_qgroup_counts.proofs.above.empty_lists.Given as goal
+
+abbrev pub invariant-loop-place : goal.invariant-loop-place
+invariant-loop-place l = record {
+  same : length l.lists.items ≡ l._place;
+  empty : AreEmpty l.lists.items;
+}

@@ -1,0 +1,14 @@
+pub mod Sets
+pub mod Above
+pub mod Roots
+pub mod Reached
+pub mod AllReached
+pub mod Portions
+pub mod Telling
+pub mod Groups
+pub mod Laws
+pub mod Surveyed
+pub mod Direct
+pub mod Namers
+pub mod ExtentBytes
+pub mod GroupsOf

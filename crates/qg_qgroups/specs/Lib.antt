@@ -1,0 +1,9 @@
+pub mod Groups
+pub mod Faults
+pub mod Kept
+pub mod Limit
+pub mod Agreement
+pub mod Tracked
+pub mod Changing
+pub mod Judging
+pub mod OnOrOff

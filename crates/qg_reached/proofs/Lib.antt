@@ -1,4 +1,0 @@
-pub mod Words
-pub mod Uniting
-pub mod Turning
-pub mod Settling

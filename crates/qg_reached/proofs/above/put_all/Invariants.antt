@@ -1,6 +1,0 @@
-use Rattle.std.proofs.Common.{take}
-use Rattle.qg_reached.specs.Above.{HaveOneMore}
-use Rattle.qg_reached.proofs.above.put_all.Given as goal
-
-abbrev pub invariant-loop-place : goal.invariant-loop-place
-invariant-loop-place l = HaveOneMore (take l.place-index l.places) l.parent l.initial.above l.above

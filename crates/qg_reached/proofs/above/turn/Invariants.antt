@@ -1,9 +1,0 @@
-use Rattle.std.proofs.Common.{◌≡◌, length}
-use Rattle.qg_reached.proofs.Turning.{TurnedFirst}
-use Rattle.qg_reached.proofs.above.turn.Given as goal
-
-abbrev pub invariant-loop-parent : goal.invariant-loop-parent
-invariant-loop-parent l = record {
-  same : length l.above ≡ length l.initial.above;
-  turned : TurnedFirst l.parent l.below l.above;
-}

@@ -1,9 +1,0 @@
-use Rattle.std.proofs.Common.{◌≡◌, length}
-use Rattle.qg_reached.specs.Above.{AreEmpty}
-use Rattle.qg_reached.proofs.own.empty_rows.Given as goal
-
-abbrev pub invariant-loop-place : goal.invariant-loop-place
-invariant-loop-place l = record {
-  same : length l.rows.items ≡ l._place;
-  empty : AreEmpty l.rows.items;
-}

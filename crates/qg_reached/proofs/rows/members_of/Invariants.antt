@@ -1,5 +1,0 @@
-use Rattle.qg_reached.specs.Sets.{AreMembersBefore}
-use Rattle.qg_reached.proofs.rows.members_of.Given as goal
-
-abbrev pub invariant-loop-word : goal.invariant-loop-word
-invariant-loop-word l = AreMembersBefore l.row l.word l.bound l.members

@@ -1,6 +1,0 @@
-use Rattle.std.proofs.Common.{take}
-use Rattle.qg_reached.proofs.Uniting.{Gathered}
-use Rattle.qg_reached.proofs.sets.Sets.gathered.Given as goal
-
-abbrev pub invariant-loop-set : goal.invariant-loop-set
-invariant-loop-set l = Gathered l.self.rows.items l.fn.own (take l.set-index l.sets) l.row

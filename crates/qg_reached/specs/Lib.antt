@@ -1,4 +1,0 @@
-pub mod Sets
-pub mod Above
-pub mod Roots
-pub mod Reached

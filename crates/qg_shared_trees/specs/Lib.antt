@@ -1,0 +1,16 @@
+pub use Rattle.qg_tree_read.specs.Branch
+pub use Rattle.qg_tree_read.specs.Tree
+pub use Rattle.qg_tree_backrefs.specs.Exchange
+pub use Rattle.qg_tree_backrefs.specs.Following
+pub use Rattle.qg_tree_backrefs.specs.Heavier
+pub use Rattle.qg_tree_backrefs.specs.Need
+pub use Rattle.qg_tree_backrefs.specs.Settled
+pub use Rattle.qg_tree_backrefs.specs.TreeBook
+pub use Rattle.qg_fs_tree.specs.Standing
+pub use Rattle.qg_fs_tree.specs.Counting
+pub use Rattle.qg_fs_tree.specs.Editing
+pub use Rattle.qg_fs_tree.specs.Rooting
+pub mod ForestStanding
+pub mod Types
+pub mod Laying
+pub mod Laws

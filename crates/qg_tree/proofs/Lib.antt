@@ -1,9 +1,0 @@
-pub mod Keys
-pub mod Frame
-pub mod Passing
-pub mod Reached
-pub mod Rising
-pub mod Levels
-pub mod Growing
-pub mod Counts
-pub mod Whole

@@ -1,5 +1,0 @@
-use Rattle.qg_tree_commit.proofs.Subvolume.{fresh-reached, fresh-read}
-use Rattle.qg_tree_commit.proofs.laws.fresh_are_reached.Goals as goal
-
-pub returns : goal.returns
-returns c = record { reached = fresh-reached; read = fresh-read }

@@ -1,5 +1,0 @@
-use Rattle.qg_tree_commit.proofs.NewNodes.{written-new}
-use Rattle.qg_tree_commit.proofs.laws.written_are_new_nodes.Goals as goal
-
-pub returns : goal.returns
-returns c = record { new = written-new }

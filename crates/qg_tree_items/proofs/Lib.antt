@@ -1,0 +1,13 @@
+pub use Rattle.qg_image.proofs.Pieces
+pub mod Parts
+pub mod KeysOfParts
+pub mod PiecesOfFile
+pub mod Standing
+pub mod Reading
+pub mod PiecesInTurn
+pub mod KeysAscend
+pub mod Owners
+pub mod Split
+pub mod Neighbours
+pub mod Rows
+pub mod PieceOfItem

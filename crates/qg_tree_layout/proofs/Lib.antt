@@ -1,0 +1,9 @@
+pub mod Keys
+pub mod Frame
+pub mod Passing
+pub mod Reached
+pub mod Rising
+pub mod Levels
+pub mod Growing
+pub mod Counts
+pub mod LevelsStacked
