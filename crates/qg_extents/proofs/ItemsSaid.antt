@@ -95,7 +95,7 @@ reference_fits at number (KeyedData root ino offset) count placed numbered fits 
 reference_fits at number (SharedData parent) count placed numbered fits =
     item-fits at 184 parent _ placed (lit< tt) fits (shared_data_ref_text-AreBytes (record { count = count }))
 
-reference_short : (at number : ℕ) (reference : Reference) (count : ℕ)
+pub reference_short : (at number : ℕ) (reference : Reference) (count : ℕ)
     → length (item_of_reference at number reference count).body ≤ 1024
 reference_short at number (KeyedBlock root) count = omega arith
 reference_short at number (SharedBlock parent) count = omega arith
@@ -106,7 +106,7 @@ reference_short at number (SharedData parent) count = omega
 
 -- ---- a record
 
-record_said : (at bytes : ℕ) (level : Option ℕ) (extent : ExtentItem) → ExtentFits extent
+pub record_said : (at bytes : ℕ) (level : Option ℕ) (extent : ExtentItem) → ExtentFits extent
     → extent_part (record_item at bytes level extent) ≡ Some (record_part at bytes level extent)
 unfolding extent_part
 record_said at bytes None extent fits = rw (extent_read-extent_text extent fits) refl
@@ -119,12 +119,12 @@ record_fits at bytes None extent placed fits low = item-fits at 168 bytes _ plac
 record_fits at bytes (Some level) extent placed fits low = item-fits at 169 level _ placed (lit< tt)
     (omega (arith, low)) (extent_text-AreBytes extent)
 
-record_short : (at bytes : ℕ) (level : Option ℕ) (extent : ExtentItem)
+pub record_short : (at bytes : ℕ) (level : Option ℕ) (extent : ExtentItem)
     → length (record_item at bytes level extent).body ≤ 1024
 record_short at bytes None extent = omega (arith, length-extent_text extent)
 record_short at bytes (Some level) extent = omega (arith, length-extent_text extent)
 
-flags_small : (level : Option ℕ) (full : Bool) → record_flags level full < 2 ^ 64
+pub flags_small : (level : Option ℕ) (full : Bool) → record_flags level full < 2 ^ 64
 flags_small None full = lit< tt
 flags_small (Some level) true = lit< tt
 flags_small (Some level) false = lit< tt

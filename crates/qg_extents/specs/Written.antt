@@ -15,6 +15,7 @@ use Rattle.qg_tree_items.specs.Keys.{key_with}
 use Rattle.qg_tree_items.specs.Owed.{node_flags}
 use Rattle.qg_refs.specs.declared.counted.Counted.{Counted}
 use Rattle.qg_refs.specs.declared.kept.Kept.{Kept}
+use Rattle.qg_extents.specs.declared.head.Head.{Head}
 
 -- ---- what the items say
 
@@ -90,6 +91,18 @@ items_of_references at number (entry ∷ entries) =
 abbrev pub record_item : ℕ → ℕ → Option ℕ → ExtentItem → Item
 record_item at bytes None extent = item_at at EXTENT_ITEM bytes (extent_text extent)
 record_item at bytes (Some level) extent = item_at at METADATA_ITEM level (extent_text extent)
+
+-- what the body of a record says that tells this
+abbrev pub extent_of_head : Head → ExtentItem
+extent_of_head head = record {
+  refs = head.refs;
+  generation = head.what.generation;
+  flags = record_flags head.what.level head.full;
+}
+
+-- the item of the record that tells this of what begins at an address
+abbrev pub item_of_head : ℕ → Head → Item
+item_of_head at head = record_item at head.what.bytes head.what.level (extent_of_head head)
 
 -- the item of the record of what is kept at an address
 abbrev pub item_of_record : ℕ × Kept → Item

@@ -9,12 +9,15 @@ use qg_num::Generation;
 use qg_refs::What;
 use qg_tree_items::image::ExtentPart;
 
-/// What a record tells, beside the references.
+/// What a record tells (on-disk format, EXTENT_ITEM and METADATA_ITEM).
 #[derive(Clone, Copy)]
-pub(crate) struct Head {
-    pub(crate) what: What,
-    pub(crate) full: bool,
-    pub(crate) refs: u64,
+pub struct Head {
+    /// What is known of the node or the data extent.
+    pub what: What,
+    /// A node's full mark (on-disk format, FULL_BACKREF).
+    pub full: bool,
+    /// The sum of the counts of the references to it.
+    pub refs: u64,
 }
 
 /// The index of the only record among parts.
@@ -34,8 +37,8 @@ pub(crate) fn only_record(here: &[ExtentPart]) -> Option<usize>
     only
 }
 
-// Whether a part is a record.
-fn is_record(part: &ExtentPart) -> bool
+/// Whether a part is a record.
+pub fn is_record(part: &ExtentPart) -> bool
     ensures { result ≡ is_record part.now }
 {
     match part {
@@ -46,7 +49,7 @@ fn is_record(part: &ExtentPart) -> bool
 }
 
 /// What a record tells, if it is a sound one. A node has so many bytes.
-pub(crate) fn head_of(nodesize: u32, part: &ExtentPart) -> Option<Head>
+pub fn head_of(nodesize: u32, part: &ExtentPart) -> Option<Head>
     ensures { MatchOption result (is_sound_record part.now ≡ false) (IsHeadOf nodesize part.now) }
 {
     match part {

@@ -2,9 +2,11 @@
 ghost use Rattle.std.specs.Prelude.{◌≡◌, ◌+◌, ◌-◌, ◌≤◌, ◌<◌, ◌^◌, ◌++◌, [], All, IfOk, OnOk, IfSome};
 ghost use Rattle.qg_items.specs.ItemText.{shared_data_ref_text};
 ghost use Rattle.qg_items.specs.declared.extent.Reference.TheVariants.{KeyedData};
-ghost use Rattle.qg_extents.specs.Written.{item_at, item_of_record, item_of_reference, items_of_book, items_of_extent};
+ghost use Rattle.qg_extents.specs.Written.{item_at, item_of_head, item_of_record, item_of_reference, items_of_book};
+ghost use Rattle.qg_extents.specs.Written.{items_of_extent};
 ghost use Rattle.qg_extents.specs.Written.{number_behind, record_flags, refs_of, CountedFits, EntryFits};
 
+use crate::Head;
 use qg_items::kind::{
     EXTENT_DATA_REF, EXTENT_ITEM, METADATA_ITEM, SHARED_BLOCK_REF, SHARED_DATA_REF, TREE_BLOCK_REF,
 };
@@ -68,13 +70,30 @@ fn record_item(alloc: Global, at: u64, kept: &Kept, refs: u64) -> Result<Item, A
     ensures level { IfSome kept.now.what.level (λ level. level < 256) }
     ensures generation { kept.now.what.generation < 2 ^ 64 }
 {
-    let bytes = kept.what.bytes;
-    let generation = kept.what.generation.value();
-    let level = kept.what.level;
-    let extent = ExtentItem {
+    let head = Head {
+        what: kept.what,
+        full: kept.full,
         refs,
+    };
+    head_item(alloc, at, head)
+}
+
+/// The item of the record that tells this of what begins at an address, in bytes: a data extent or a node (on-disk
+/// format, EXTENT_ITEM and METADATA_ITEM).
+pub fn head_item(alloc: Global, at: u64, head: Head) -> Result<Item, AllocError>
+    ensures exact { IfOk result (λ item. item ≡ item_of_head at head) }
+    ensures refs { head.refs < 2 ^ 64 }
+    ensures bytes { head.what.bytes < 2 ^ 64 }
+    ensures level { IfSome head.what.level (λ level. level < 256) }
+    ensures generation { head.what.generation < 2 ^ 64 }
+{
+    let bytes = head.what.bytes;
+    let generation = head.what.generation.value();
+    let level = head.what.level;
+    let extent = ExtentItem {
+        refs: head.refs,
         generation: Generation::new(generation),
-        flags: record_flags(level, kept.full),
+        flags: record_flags(level, head.full),
     };
     let mut body = [0; EXTENT_ITEM_BYTES];
     write_extent(&extent, &mut body);
@@ -95,8 +114,14 @@ fn record_flags(level: Option<u8>, full: bool) -> u64
     }
 }
 
-// A reference to what begins at an address. An EXTENT_DATA_REF has this number.
-fn reference_item(alloc: Global, at: u64, number: u64, entry: &Counted) -> Result<Item, AllocError>
+/// The item of a reference to what begins at an address, in bytes. An EXTENT_DATA_REF has this number in its key
+/// (on-disk format, TREE_BLOCK_REF, EXTENT_DATA_REF, SHARED_BLOCK_REF and SHARED_DATA_REF).
+pub fn reference_item(
+    alloc: Global,
+    at: u64,
+    number: u64,
+    entry: &Counted,
+) -> Result<Item, AllocError>
     ensures exact { IfOk result (λ item. item ≡ item_of_reference at number entry.now.reference entry.now.count) }
     ensures fits { CountedFits entry.now }
 {

@@ -15,5 +15,7 @@ mod read;
 pub use extents::Extents;
 pub use fault::RefsFault;
 pub use fresh::fresh_records;
+pub use head::{Head, head_of, is_record};
+pub use items::{head_item, reference_item};
 pub use laws::book_laws;
 pub use qg_refs as refs;

@@ -30,7 +30,8 @@ use Rattle.qg_fs_tree.specs.declared.fs_tree.FsTree.{FsTree}
 use Rattle.qg_fs_tree.specs.Standing.{IsReached, IsReachedBy, layout_in, name_of, nodes_of, ways_in}
 use Rattle.qg_fs_tree.proofs.Beside.{foreign_of, mark_of, own_ways, roots_owed, slots_of}
 use Rattle.qg_tree_backrefs.proofs.ReferenceTotals.{many}
-use Rattle.qg_fs_tree.proofs.Identity.{branch-keyed, keyed_told, over-ways, ways-single}
+use Rattle.qg_fs_tree.proofs.Identity.{branch-keyed, keyed_told}
+use Rattle.qg_fs_tree.proofs.WaysSummed.{over-ways, ways-single}
 use Rattle.qg_fs_tree.proofs.Keyed.{keyed_ways}
 use Rattle.qg_fs_tree.proofs.Layouts.{owed-foreign, owed-is, owed_marked, owed_there}
 use Rattle.qg_fs_tree.proofs.Owes.{keyed_in, owed_in}

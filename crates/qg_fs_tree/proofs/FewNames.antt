@@ -27,7 +27,7 @@ use Rattle.qg_tree_edits.specs.Counting.{pointers_there, ways}
 use Rattle.qg_tree_backrefs.proofs.Owings.{times-cons, times-few}
 use Rattle.qg_tree_backrefs.proofs.Times.{one_of, times-nil}
 use Rattle.qg_fs_tree.specs.Standing.{every_slot, name_of, name_told, names_times}
-use Rattle.qg_fs_tree.proofs.Identity.{over-ways, under}
+use Rattle.qg_fs_tree.proofs.WaysSummed.{over-ways, under}
 use Rattle.qg_fs_tree.proofs.SlotSums.{IsOnce, over}
 
 -- ---- names

@@ -3,16 +3,17 @@ pub use Rattle.qg_tree_edits.proofs.Heights
 pub use Rattle.qg_tree_edits.proofs.Ways
 pub use Rattle.qg_tree_backrefs.proofs.Owings as TreeBackrefsOwings
 pub use Rattle.qg_tree_backrefs.proofs.Times
-pub mod SlotSums
+pub use Rattle.qg_tree_edits.proofs.SlotSums
+pub use Rattle.qg_tree_edits.proofs.Places
+pub use Rattle.qg_tree_edits.proofs.WaysReached as Reached
+pub use Rattle.qg_tree_edits.proofs.WaysSummed
 pub mod Keyed
 pub mod Owings
 pub mod Turned
 pub mod Exchanged
 pub mod Identity
-pub mod Places
 pub mod Few
 pub mod Layouts
-pub mod Reached
 pub mod Counts
 pub mod Before
 pub mod After

@@ -32,6 +32,7 @@ use Rattle.qg_blocks.specs.NodesFound.{fresh_at, told}
 use Rattle.qg_space.specs.Holding.{Holding, has_slot, is_free_slot}
 use Rattle.qg_refs.specs.Book.{Book, count_at, full_in, what_in}
 use Rattle.qg_extents.specs.Table.{book_of}
+pub use Rattle.qg_tree_edits.specs.OwnSlots.{every_slot}
 use Rattle.qg_tree_edits.specs.Tree.{Reaches, Root}
 use Rattle.qg_tree_edits.specs.Counting.{ways}
 use Rattle.qg_tree_edits.specs.Editing.{CanMake, IsEditable}
@@ -75,10 +76,6 @@ pub record IsElsewhere (fs : FsTree) (history : History) (q : ℕ) : Type 0 wher
   pub tree : Root
   pub among : Contains fs.others.items tree
   pub reached : IsReachedBy fs history tree q
-
--- the slots of an image
-abbrev pub every_slot : Sizes → List ℕ
-every_slot sizes = map (slot_at sizes) (range_with_len 0 sizes.slots)
 
 -- a slot's node, if some tree reaches it, with the mark that is kept of it
 abbrev pub placed_at : FsTree → History → ℕ → Option (ℕ × Placed)

@@ -1,5 +1,7 @@
 pub use Rattle.qg_blocks.proofs.Telling
 pub mod Slots
+pub mod ToldPlaced
+pub mod SlotFollows
 pub mod Lands
 pub mod Calls
 pub mod Editing

@@ -1,11 +1,12 @@
 // A book of references as a tree sees it.
 ghost use Rattle.std.specs.Prelude.{◌≡◌, ◌+◌, ◌≤◌, ℕ, Bool, List, [], ◌∷◌, ◌++◌, Some, IsSome, IfOk, OnOk};
-ghost use Rattle.qg_device.specs.Cause.{HasCause};
 ghost use Rattle.qg_device.specs.History.{Event, Recorded};
 ghost use Rattle.qg_node.specs.declared.node.Node.{Node as NodeValue};
-ghost use Rattle.qg_blocks.specs.NodesFound.{BreaksNone, IsBacked, fresh_at, held_at, told};
+ghost use Rattle.qg_blocks.specs.NodesFound.{IsBacked, fresh_at, held_at, told};
+ghost use Rattle.qg_blocks.specs.Stopping.{StopsForCause};
 ghost use Rattle.qg_node_alloc.specs.declared.ground.Ground.{Ground as Land};
 ghost use Rattle.qg_node_alloc.specs.Land.{IsDrafted, Rests};
+ghost use Rattle.qg_node_alloc.specs.Calls.{FailsByDisk};
 ghost use Rattle.qg_node_alloc.specs.Changes.{PutsFresh};
 ghost use Rattle.qg_node_alloc.specs.Tellings.{Telling, IsCopied, TakesNone, GivesBack, LetsGo, Spares, Empties};
 ghost use Rattle.qg_node_alloc.specs.Tellings.{KeepsLevels};
@@ -17,8 +18,8 @@ use qg_num::{Address, BlockFault, Steps};
 use std::sync::ledger::Ledger;
 
 /// Who keeps count of the references to a tree's nodes, and is told of each node that the tree copies, makes or leaves
-/// (this project's own). It may give back slots that nothing refers to any more. No call of it names a rule, over any
-/// disk.
+/// (this project's own). It may give back slots that nothing refers to any more. Over a disk that tells no call of it
+/// names a rule; over any disk, only for a cause.
 pub trait Book<D: Disk, L: Ledger> {
     /// The book after it was told these, in this order, from another state on.
     ghost follows: { Self → List Telling → Self → Type 0 };
@@ -33,8 +34,9 @@ pub trait Book<D: Disk, L: Ledger> {
     /// Whether several references lead to the node at an address.
     ghost shares: { Self → Land → D → ℕ → Bool };
 
-    /// How many steps a call about an address takes at most.
-    ghost to_read: { Self → ℕ → ℕ };
+    /// How many steps its calls have taken in all to look up what it keeps. One more may be taken by each for the node
+    /// that it is about.
+    ghost spent: { Self → ℕ };
 
     /// Whether several references lead to the node at an address.
     fn is_shared(
@@ -55,10 +57,10 @@ pub trait Book<D: Disk, L: Ledger> {
             → Rests land.old land.new (D.history disk.new) generation }
         ensures stands { OnOk result (stands self.new land.new disk.new) }
         ensures settled { settled self.old land.old disk.old → OnOk result (settled self.new land.new disk.new) }
-        ensures no_image { BreaksNone result }
+        ensures stops { StopsForCause result land.old.blocks.draft.sizes (D.size disk.old) }
         ensures disk { (D.history disk.new ≡ D.history disk.old) × (D.size disk.new ≡ D.size disk.old) }
-        ensures cause { HasCause BlockFault.Disk (D.faults disk.old) (D.faults disk.new) result }
-        ensures reads { reads.new ≤ reads.old + to_read self.old at };
+        ensures fails { FailsByDisk (D.history disk.old) (D.faults disk.old) (D.faults disk.new) result }
+        ensures reads { reads.new + spent self.old ≤ reads.old + spent self.new + 1 };
 
     /// The node at an address was copied. The copy is fresh. The node's own slot may be given back.
     fn copied(
@@ -81,10 +83,10 @@ pub trait Book<D: Disk, L: Ledger> {
         ensures stands { OnOk result (stands self.new land.new disk.new) }
         ensures settled { (before : Land) → PutsFresh before land.old copy → settled self.old before disk.old
             → OnOk result (settled self.new land.new disk.new) }
-        ensures no_image { BreaksNone result }
+        ensures stops { StopsForCause result land.old.blocks.draft.sizes (D.size disk.old) }
         ensures disk { (D.history disk.new ≡ D.history disk.old) × (D.size disk.new ≡ D.size disk.old) }
-        ensures cause { HasCause BlockFault.Disk (D.faults disk.old) (D.faults disk.new) result }
-        ensures reads { reads.new ≤ reads.old + to_read self.old at };
+        ensures fails { FailsByDisk (D.history disk.old) (D.faults disk.old) (D.faults disk.new) result }
+        ensures reads { reads.new + spent self.old ≤ reads.old + spent self.new + 1 };
 
     /// A node was made at an address. It is fresh.
     fn made(
@@ -105,10 +107,10 @@ pub trait Book<D: Disk, L: Ledger> {
         ensures stands { OnOk result (stands self.new land.new disk.new) }
         ensures settled { (before : Land) → PutsFresh before land.old at → settled self.old before disk.old
             → OnOk result (settled self.new land.new disk.new) }
-        ensures no_image { BreaksNone result }
+        ensures stops { StopsForCause result land.old.blocks.draft.sizes (D.size disk.old) }
         ensures disk { (D.history disk.new ≡ D.history disk.old) × (D.size disk.new ≡ D.size disk.old) }
-        ensures cause { HasCause BlockFault.Disk (D.faults disk.old) (D.faults disk.new) result }
-        ensures reads { reads.new ≤ reads.old + to_read self.old at };
+        ensures fails { FailsByDisk (D.history disk.old) (D.faults disk.old) (D.faults disk.new) result }
+        ensures reads { reads.new + spent self.old ≤ reads.old + spent self.new + 1 };
 
     /// The tree reaches the node at an address no more. It is in memory. Its slot may be given back, and a fresh one be
     /// forgotten.
@@ -131,10 +133,10 @@ pub trait Book<D: Disk, L: Ledger> {
         ensures stands { OnOk result (stands self.new land.new disk.new) }
         ensures settled { (before : Land) → Empties before land.old at → settled self.old before disk.old
             → OnOk result (settled self.new land.new disk.new) }
-        ensures no_image { BreaksNone result }
+        ensures stops { StopsForCause result land.old.blocks.draft.sizes (D.size disk.old) }
         ensures disk { (D.history disk.new ≡ D.history disk.old) × (D.size disk.new ≡ D.size disk.old) }
-        ensures cause { HasCause BlockFault.Disk (D.faults disk.old) (D.faults disk.new) result }
-        ensures reads { reads.new ≤ reads.old + to_read self.old at };
+        ensures fails { FailsByDisk (D.history disk.old) (D.faults disk.old) (D.faults disk.new) result }
+        ensures reads { reads.new + spent self.old ≤ reads.old + spent self.new + 1 };
 
     /// What a call asks outlasts what a tree does between two calls.
     ghost lasts: { (book : Self) (old new : Land) (before after : D) → D.history after ≡ D.history before

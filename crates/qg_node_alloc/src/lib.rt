@@ -3,6 +3,7 @@
 
 mod book;
 mod ground;
+mod known_slots;
 mod making;
 mod owning;
 mod putting;
@@ -10,6 +11,7 @@ mod slot_book;
 
 pub use book::Book;
 pub use ground::Ground;
+pub use known_slots::KnownSlots;
 pub use making::{leave_node, make_node};
 pub use owning::cow_node;
 pub use qg_blocks as blocks;

@@ -3,7 +3,8 @@ ghost use Rattle.std.specs.Prelude.{◌≡◌, ◌+◌, ◌≤◌, ℕ, List, []
 ghost use Rattle.qg_node.specs.declared.node.Node.{Node as NodeValue};
 ghost use Rattle.qg_node.specs.Nodes.{header_of};
 ghost use Rattle.qg_node.specs.NodeText.{IsNode};
-ghost use Rattle.qg_blocks.specs.NodesFound.{BreaksForCause, BreaksNone, IsBacked, told};
+ghost use Rattle.qg_blocks.specs.NodesFound.{IsBacked, told};
+ghost use Rattle.qg_blocks.specs.Stopping.{StopsForCause};
 ghost use Rattle.qg_node_alloc.specs.Calls.{CanTakeSlot, FailsByDisk, FailsToRead, KeepsBook, LeavesBe};
 ghost use Rattle.qg_node_alloc.specs.Land.{IsDrafted, Rests};
 ghost use Rattle.qg_node_alloc.specs.Changes.{Makes, Takes};
@@ -19,7 +20,7 @@ use qg_num::{Address, BlockFault, Steps};
 use std::sync::ledger::Ledger;
 
 /// Puts a new node into a free slot, whatever address it names, and tells the book. The answer is its address, in
-/// bytes. The node has a text, and the generation to come. No rule is named.
+/// bytes. The node has a text, and the generation to come.
 pub fn make_node<D: Disk, L: Ledger, B: Book<D, L>>(
     land: &mut Ground,
     disk: &mut D,
@@ -39,8 +40,8 @@ pub fn make_node<D: Disk, L: Ledger, B: Book<D, L>>(
         → IfOk result (λ now. B.follows before (log ++ Made now ∷ []) book.new) }
     ensures book { KeepsBook B.stands B.settled book.old book.new land.old land.new disk.old disk.new result }
     ensures fails { FailsByDisk (D.history disk.old) (D.faults disk.old) (D.faults disk.new) result }
-    ensures unbroken { BreaksNone result }
-    ensures reads { (most : ℕ) → ((q : ℕ) → B.to_read book.old q ≤ most) → reads.new ≤ reads.old + most }
+    ensures stops { StopsForCause result land.old.blocks.draft.sizes (D.size disk.old) }
+    ensures reads { reads.new + B.spent book.old ≤ reads.old + B.spent book.new + 1 }
 {
     let now = put_node(land, node)?;
     book.made(land, disk, now, reads)?;
@@ -49,8 +50,8 @@ pub fn make_node<D: Disk, L: Ledger, B: Book<D, L>>(
 
 /// The tree reaches the node at an address, in bytes, no more: it is read, and the book is told.
 ///
-/// `Image` comes only where a rule is broken at `at`, over any disk for a cause that is said, and `Disk` exactly where
-/// the disk met a fault.
+/// Over a disk that tells, `Image` comes only where a rule is broken at `at`; over any disk, only for a cause. `Disk` comes
+/// exactly where the disk met a fault.
 pub fn leave_node<D: Disk, L: Ledger, B: Book<D, L>>(
     land: &mut Ground,
     disk: &mut D,
@@ -72,9 +73,9 @@ pub fn leave_node<D: Disk, L: Ledger, B: Book<D, L>>(
     ensures settled { (before : Land) → Empties before land.old at → B.settled book.old before disk.old
         → OnOk result (B.settled book.new land.new disk.new) }
     ensures fails { FailsToRead land.old (D.history disk.old) at (D.faults disk.old) (D.faults disk.new) result }
-    ensures broken { BreaksForCause result land.old.blocks.draft.sizes (D.size disk.old) at }
+    ensures stops { StopsForCause result land.old.blocks.draft.sizes (D.size disk.old) }
     ensures disk { (D.history disk.new ≡ D.history disk.old) × (D.size disk.new ≡ D.size disk.old) }
-    ensures reads { reads.new ≤ reads.old + (1 + B.to_read book.old at) }
+    ensures reads { reads.new + B.spent book.old ≤ reads.old + B.spent book.new + 2 }
 {
     land.blocks.load(disk, at, reads)?;
     book.left(land, disk, at, reads)

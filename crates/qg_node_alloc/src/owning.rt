@@ -5,6 +5,7 @@ ghost use Rattle.qg_node.specs.declared.node.Node.{Node as NodeValue};
 ghost use Rattle.qg_node.specs.Nodes.{header_of};
 ghost use Rattle.qg_blocks.specs.Table.{with_number};
 ghost use Rattle.qg_blocks.specs.NodesFound.{BreaksForCause, fresh_at, told};
+ghost use Rattle.qg_blocks.specs.Stopping.{StopsForCause};
 ghost use Rattle.qg_space.specs.Holding.{is_free_slot};
 ghost use Rattle.qg_node_alloc.specs.Calls.{CanTakeSlot, FailsToRead, KeepsBook, LeavesBe};
 ghost use Rattle.qg_node_alloc.specs.Changes.{Copies, Owned, Takes};
@@ -83,8 +84,8 @@ fn copy_out<D: Disk, L: Ledger>(
 /// `next` to come, and the book is told. A node that was read from the free slot that its copy takes is told as one
 /// that is made, since nothing refers to it.
 ///
-/// `Image` comes only where a rule is broken at `at`, over any disk for a cause that is said, and `Disk` exactly where
-/// the disk met a fault.
+/// Over a disk that tells, `Image` comes only where a rule is broken at `at`; over any disk, only for a cause. `Disk` comes
+/// exactly where the disk met a fault.
 pub fn cow_node<D: Disk, L: Ledger, B: Book<D, L>>(
     alloc: Global,
     land: &mut Ground,
@@ -114,9 +115,9 @@ pub fn cow_node<D: Disk, L: Ledger, B: Book<D, L>>(
 
     // Answers have their causes.
     ensures fails { FailsToRead land.old (D.history disk.old) at (D.faults disk.old) (D.faults disk.new) result }
-    ensures broken { BreaksForCause result land.old.blocks.draft.sizes (D.size disk.old) at }
-    ensures reads { reads.new ≤ reads.old + (if is_some (fresh_at land.old.blocks.draft at) then 0 else 1
-        + B.to_read book.old at) }
+    ensures stops { StopsForCause result land.old.blocks.draft.sizes (D.size disk.old) }
+    ensures reads { reads.new + B.spent book.old ≤ reads.old + B.spent book.new
+        + (if is_some (fresh_at land.old.blocks.draft at) then 0 else 2) }
 {
     if land.blocks.is_fresh(at) {
         return Ok(at);

@@ -107,7 +107,7 @@ impl<D: Disk, L: Ledger> Book<D, L> for TreeRefs {
 
     ghost shares = { λ book land disk at. nat_lt 1 (length (references_at (book_of book.refs) at)) };
 
-    ghost to_read = { λ book at. 1 };
+    ghost spent = { λ book. 0 };
 
     fn is_shared(
         &mut self,

@@ -199,17 +199,3 @@ all-laid old now after owner next all nodes laid whole none laying =
       subst (λ (ns : List Node). IsLaying old now after owner next [] ns) same
           (subst (λ (ns : List Node). IsLaying old now after owner next ns laid) none laying),
     )
-
--- ---- steps of the book
-
-pub steps-more : (most begin mid new : ℕ) (nodes : List Node) (node : Node) → mid ≤ begin + most * length nodes
-    → new ≤ mid + most → new ≤ begin + most * length (node ∷ nodes)
-steps-more most begin mid new nodes node early late =
-    let sum = mul-suc most (length nodes) in
-    omega (arith, early, late, sum)
-
-pub steps-within : (most count bound begin new : ℕ) → new ≤ begin + most * count → count ≤ bound
-    → new ≤ begin + most * bound
-steps-within most count bound begin new early few =
-    let more = mul-le-mul_left most few in
-    omega (arith, early, more)

@@ -53,8 +53,8 @@ pub fn build<P: TreePart, D: Disk, L: Ledger, B: Book<D, L>>(
     ensures settled { B.settled book.old land.old disk.old → OnOk result (B.settled book.new land.new disk.new) }
     ensures owners { OnOk result (IsOwnedBy owner land.old land.new) }
     ensures cause { HasCause BlockFault.Disk (D.faults disk.old) (D.faults disk.new) result }
-    ensures reads { (most : ℕ) → ((book : B) (q : ℕ) → B.to_read book q ≤ most)
-        → reads.new ≤ reads.old + most * most_nodes land.old.space.sizes.nodesize items.now }
+    ensures reads { reads.new + B.spent book.old ≤ reads.old + B.spent book.new
+        + most_nodes land.old.space.sizes.nodesize items.now }
 {
     let Built {
         mut nodes,

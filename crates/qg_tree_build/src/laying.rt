@@ -51,7 +51,7 @@ pub(crate) fn lay_node<D: Disk, L: Ledger, B: Book<D, L>>(
         → OnOk result (B.follows before (log ++ Made (header_of node).address ∷ []) book.new) }
     ensures book { KeepsBook B.stands B.settled book.old book.new land.old land.new disk.old disk.new result }
     ensures fails { FailsByDisk (D.history disk.old) (D.faults disk.old) (D.faults disk.new) result }
-    ensures reads { reads.new ≤ reads.old + B.to_read book.old (header_of node).address }
+    ensures reads { reads.new + B.spent book.old ≤ reads.old + B.spent book.new + 1 }
 {
     let at = node.header().address;
     put_there(land, node)?;

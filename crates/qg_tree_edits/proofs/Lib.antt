@@ -72,3 +72,10 @@ pub mod Owners
 pub mod Naming
 pub mod Unfit
 pub mod Stopped
+pub mod SlotSums
+pub mod Places
+pub mod WaysReached
+pub mod WaysSummed
+pub mod NodesFew
+pub mod SlotsApart
+pub mod SlotsTaken

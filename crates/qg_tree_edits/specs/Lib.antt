@@ -13,3 +13,5 @@ pub mod Failing
 pub mod Steps
 pub mod Calls
 pub mod Types
+pub mod OwnSlots
+pub mod SlotLaws

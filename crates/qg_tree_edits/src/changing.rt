@@ -62,8 +62,7 @@ pub fn insert<P: TreePart, D: Disk, L: Ledger, B: Book<D, L>>(
         (D.size disk.new) tree.old.next }
     ensures book { KeepsBook B.stands B.settled book.old book.new land.old land.new disk.old disk.new result }
     ensures owners { OnOk result (IsOwnedBy tree.old.owner land.old land.new) }
-    ensures reads { (most : ℕ) → ((book : B) (q : ℕ) → B.to_read book q ≤ most)
-        → reads.new ≤ reads.old + (5 + 4 * most) * (tree.old.height + 2) }
+    ensures reads { reads.new + B.spent book.old ≤ reads.old + B.spent book.new + 9 * (tree.old.height + 2) }
 {
     let edit = Edit {
         key,
@@ -99,8 +98,7 @@ pub fn replace<P: TreePart, D: Disk, L: Ledger, B: Book<D, L>>(
         (D.size disk.new) tree.old.next }
     ensures book { KeepsBook B.stands B.settled book.old book.new land.old land.new disk.old disk.new result }
     ensures owners { OnOk result (IsOwnedBy tree.old.owner land.old land.new) }
-    ensures reads { (most : ℕ) → ((book : B) (q : ℕ) → B.to_read book q ≤ most)
-        → reads.new ≤ reads.old + (5 + 4 * most) * (tree.old.height + 2) }
+    ensures reads { reads.new + B.spent book.old ≤ reads.old + B.spent book.new + 9 * (tree.old.height + 2) }
 {
     let edit = Edit {
         key,
@@ -135,8 +133,7 @@ pub fn remove<P: TreePart, D: Disk, L: Ledger, B: Book<D, L>>(
         (D.size disk.new) tree.old.next }
     ensures book { KeepsBook B.stands B.settled book.old book.new land.old land.new disk.old disk.new result }
     ensures owners { OnOk result (IsOwnedBy tree.old.owner land.old land.new) }
-    ensures reads { (most : ℕ) → ((book : B) (q : ℕ) → B.to_read book q ≤ most)
-        → reads.new ≤ reads.old + (5 + 4 * most) * (tree.old.height + 2) }
+    ensures reads { reads.new + B.spent book.old ≤ reads.old + B.spent book.new + 9 * (tree.old.height + 2) }
 {
     let edit = Edit {
         key,
@@ -173,8 +170,7 @@ pub fn drop_first_leaf<P: TreePart, D: Disk, L: Ledger, B: Book<D, L>>(
         (D.size disk.new) tree.old.next }
     ensures book { KeepsBook B.stands B.settled book.old book.new land.old land.new disk.old disk.new result }
     ensures owners { OnOk result (IsOwnedBy tree.old.owner land.old land.new) }
-    ensures reads { (most : ℕ) → ((book : B) (q : ℕ) → B.to_read book q ≤ most)
-        → reads.new ≤ reads.old + (5 + 4 * most) * (tree.old.height + 2) }
+    ensures reads { reads.new + B.spent book.old ≤ reads.old + B.spent book.new + 9 * (tree.old.height + 2) }
 {
     let edit = Edit {
         key: LEAST,
@@ -208,8 +204,7 @@ fn edit_tree<P: TreePart, D: Disk, L: Ledger, B: Book<D, L>>(
         (D.size disk.new) tree.old.next }
     ensures book { KeepsBook B.stands B.settled book.old book.new land.old land.new disk.old disk.new result }
     ensures owners { OnOk result (IsOwnedBy tree.old.owner land.old land.new) }
-    ensures reads { (most : ℕ) → ((book : B) (q : ℕ) → B.to_read book q ≤ most)
-        → reads.new ≤ reads.old + (5 + 4 * most) * (tree.old.height + 2) }
+    ensures reads { reads.new + B.spent book.old ≤ reads.old + B.spent book.new + 9 * (tree.old.height + 2) }
 {
     let way = tree.way();
     let level = tree.height();

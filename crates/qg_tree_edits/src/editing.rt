@@ -51,8 +51,7 @@ pub(crate) fn edit_under<P: TreePart, D: Disk, L: Ledger, B: Book<D, L>>(
     ensures rests { LeavesBe land.old land.new (D.history disk.old) (D.history disk.new) (D.size disk.old)
         (D.size disk.new) tree.now.next }
     ensures book { KeepsBook B.stands B.settled book.old book.new land.old land.new disk.old disk.new result }
-    ensures reads { (most : ℕ) → ((book : B) (q : ℕ) → B.to_read book q ≤ most)
-        → reads.new ≤ reads.old + (5 + 4 * most) * (level + 1) }
+    ensures reads { reads.new + B.spent book.old ≤ reads.old + B.spent book.new + 9 * (level + 1) }
 {
     if level == 0 {
         return edit_there::<P, D, L, B>(tree, alloc, land, disk, book, &way, edit, reads);
@@ -112,8 +111,7 @@ fn edit_there<P: TreePart, D: Disk, L: Ledger, B: Book<D, L>>(
     ensures rests { LeavesBe land.old land.new (D.history disk.old) (D.history disk.new) (D.size disk.old)
         (D.size disk.new) tree.now.next }
     ensures book { KeepsBook B.stands B.settled book.old book.new land.old land.new disk.old disk.new result }
-    ensures reads { (most : ℕ) → ((book : B) (q : ℕ) → B.to_read book q ≤ most)
-        → reads.new ≤ reads.old + (5 + 4 * most) }
+    ensures reads { reads.new + B.spent book.old ≤ reads.old + B.spent book.new + 9 }
 {
     let now = own::<P, D, L, B>(tree, alloc, land, disk, book, way, reads)?;
     let rest = rewrite_leaf(land, now, edit)?;

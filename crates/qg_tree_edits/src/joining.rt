@@ -97,7 +97,7 @@ pub(crate) fn unite<D: Disk, L: Ledger, B: Book<D, L>>(
         disk.old disk.new result }
     ensures stands { OnOk result (B.stands book.new land.new disk.new) }
     ensures disk { (D.history disk.new ≡ D.history disk.old) × (D.size disk.new ≡ D.size disk.old) }
-    ensures reads { (most : ℕ) → ((book : B) (q : ℕ) → B.to_read book q ≤ most) → reads.new ≤ reads.old + (1 + most) }
+    ensures reads { reads.new + B.spent book.old ≤ reads.old + B.spent book.new + 2 }
 {
     match join_nodes(alloc, land, left, right)? {
         Joined::Parted => Ok(Instead {

@@ -6,6 +6,7 @@ mod child;
 mod editing;
 mod instead;
 mod joining;
+mod laws;
 mod owning;
 mod pairing;
 mod rewriting;
@@ -14,5 +15,6 @@ mod settling;
 mod standing;
 
 pub use changing::{drop_first_leaf, insert, remove, replace};
+pub use laws::slot_laws;
 pub use qg_node_alloc as node_alloc;
 pub use qg_tree_read as tree_read;

@@ -43,7 +43,7 @@ pub(crate) fn own<P: TreePart, D: Disk, L: Ledger, B: Book<D, L>>(
     ensures rests { LeavesBe land.old land.new (D.history disk.old) (D.history disk.new) (D.size disk.old)
         (D.size disk.new) tree.now.next }
     ensures book { KeepsBook B.stands B.settled book.old book.new land.old land.new disk.old disk.new result }
-    ensures reads { (most : ℕ) → ((book : B) (q : ℕ) → B.to_read book q ≤ most) → reads.new ≤ reads.old + (2 + most) }
+    ensures reads { reads.new + B.spent book.old ≤ reads.old + B.spent book.new + 3 }
 {
     tree.visit::<P, D, L>(&mut land.blocks, disk, way, reads)?;
     cow_node(

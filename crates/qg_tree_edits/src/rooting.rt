@@ -58,7 +58,7 @@ pub(crate) fn set_root<P: TreePart, D: Disk, L: Ledger, B: Book<D, L>>(
     ensures rests { LeavesBe land.old land.new (D.history disk.old) (D.history disk.new) (D.size disk.old)
         (D.size disk.new) tree.old.next }
     ensures book { KeepsBook B.stands B.settled book.old book.new land.old land.new disk.old disk.new result }
-    ensures reads { (most : ℕ) → ((book : B) (q : ℕ) → B.to_read book q ≤ most) → reads.new ≤ reads.old + (1 + most) }
+    ensures reads { reads.new + B.spent book.old ≤ reads.old + B.spent book.new + 2 }
 {
     match instead.more {
         Some(more) => {
@@ -94,7 +94,7 @@ fn grow<P: TreePart, D: Disk, L: Ledger, B: Book<D, L>>(
     ensures rests { LeavesBe land.old land.new (D.history disk.old) (D.history disk.new) (D.size disk.old)
         (D.size disk.new) tree.old.next }
     ensures book { KeepsBook B.stands B.settled book.old book.new land.old land.new disk.old disk.new result }
-    ensures reads { (most : ℕ) → ((book : B) (q : ℕ) → B.to_read book q ≤ most) → reads.new ≤ reads.old + most }
+    ensures reads { reads.new + B.spent book.old ≤ reads.old + B.spent book.new + 1 }
 {
     if tree.height() >= HIGHEST {
         return Err(BlockFault::Image {
@@ -136,7 +136,7 @@ fn shrink<P: TreePart, D: Disk, L: Ledger, B: Book<D, L>>(
     ensures rests { LeavesBe land.old land.new (D.history disk.old) (D.history disk.new) (D.size disk.old)
         (D.size disk.new) tree.old.next }
     ensures book { KeepsBook B.stands B.settled book.old book.new land.old land.new disk.old disk.new result }
-    ensures reads { (most : ℕ) → ((book : B) (q : ℕ) → B.to_read book q ≤ most) → reads.new ≤ reads.old + (1 + most) }
+    ensures reads { reads.new + B.spent book.old ≤ reads.old + B.spent book.new + 2 }
 {
     match lone_child(land.blocks.peek(now)) {
         None => {

@@ -65,8 +65,7 @@ pub(crate) fn settle<P: TreePart, D: Disk, L: Ledger, B: Book<D, L>>(
     ensures rests { LeavesBe land.old land.new (D.history disk.old) (D.history disk.new) (D.size disk.old)
         (D.size disk.new) tree.now.next }
     ensures book { KeepsBook B.stands B.settled book.old book.new land.old land.new disk.old disk.new result }
-    ensures reads { (most : ℕ) → ((book : B) (q : ℕ) → B.to_read book q ≤ most)
-        → reads.new ≤ reads.old + (3 + 2 * most) }
+    ensures reads { reads.new + B.spent book.old ≤ reads.old + B.spent book.new + 5 }
 {
     if is_too_thin(land, &child) {
         return join_child::<P, D, L, B>(
@@ -106,8 +105,7 @@ fn join_child<P: TreePart, D: Disk, L: Ledger, B: Book<D, L>>(
     ensures rests { LeavesBe land.old land.new (D.history disk.old) (D.history disk.new) (D.size disk.old)
         (D.size disk.new) tree.now.next }
     ensures book { KeepsBook B.stands B.settled book.old book.new land.old land.new disk.old disk.new result }
-    ensures reads { (most : ℕ) → ((book : B) (q : ℕ) → B.to_read book q ≤ most)
-        → reads.new ≤ reads.old + (3 + 2 * most) }
+    ensures reads { reads.new + B.spent book.old ≤ reads.old + B.spent book.new + 5 }
 {
     let pair = own_neighbour::<P, D, L, B>(
         tree, alloc, land, disk, book, at, to, level, place, child, reads,

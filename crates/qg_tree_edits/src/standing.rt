@@ -1,6 +1,6 @@
 // The rest of a node that was cut gets a place of its own.
 ghost use Rattle.std.specs.Prelude.{◌≡◌, ◌+◌, ◌<◌, ◌≤◌, ℕ, List, ◌++◌, Option, None, Some, IfOk};
-ghost use Rattle.qg_blocks.specs.NodesFound.{BreaksNone};
+ghost use Rattle.qg_blocks.specs.Stopping.{StopsForCause};
 ghost use Rattle.qg_space.specs.Holding.{free_slots};
 ghost use Rattle.qg_node_alloc.specs.Tellings.{Telling};
 ghost use Rattle.qg_node_alloc.specs.Calls.{FailsByDisk, KeepsBook, LeavesBe};
@@ -51,11 +51,11 @@ pub(crate) fn place_rest<D: Disk, L: Ledger, B: Book<D, L>>(
     ensures told { (before : B) (log : List Telling) → B.follows before log book.old
         → IfOk result (λ instead. B.follows before (log ++ tellings_made instead.more) book.new) }
     ensures fails { FailsByDisk (D.history disk.old) (D.faults disk.old) (D.faults disk.new) result }
-    ensures unbroken { BreaksNone result }
+    ensures stops { StopsForCause result land.old.blocks.draft.sizes (D.size disk.old) }
     ensures rests { LeavesBe land.old land.new (D.history disk.old) (D.history disk.new) (D.size disk.old)
         (D.size disk.new) tree.now.next }
     ensures book { KeepsBook B.stands B.settled book.old book.new land.old land.new disk.old disk.new result }
-    ensures reads { (most : ℕ) → ((book : B) (q : ℕ) → B.to_read book q ≤ most) → reads.new ≤ reads.old + most }
+    ensures reads { reads.new + B.spent book.old ≤ reads.old + B.spent book.new + 1 }
 {
     match rest {
         None => Ok(Instead { now, more: None }),

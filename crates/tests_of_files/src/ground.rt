@@ -108,7 +108,7 @@ fn own_twice<D: Disk, L: Ledger>(
     let mut reads = Steps::<L>::new(blank);
     write_first(alloc, disk)?;
     let mut land = land(alloc)?;
-    let mut book = SlotBook::new();
+    let mut book = SlotBook::new(&land.space);
     let first = Address::new(FIRST);
     let copy = own(alloc, &mut land, disk, &mut book, first, &mut reads)?;
     let again = own(alloc, &mut land, disk, &mut book, copy, &mut reads)?;
@@ -146,7 +146,7 @@ fn make_and_leave<D: Disk, L: Ledger>(
 {
     let mut reads = Steps::<L>::new(blank);
     let mut land = land(alloc)?;
-    let mut book = SlotBook::new();
+    let mut book = SlotBook::new(&land.space);
     let node = leaf(alloc, THIRD, 2);
     if !node.has_text(4096) || land.space.free_slots() == 0 {
         return Err(Fail::from("a leaf has no text, or no place"));

@@ -78,7 +78,7 @@ impl<D: Disk + Drop, L: Ledger> Setting<D, L> {
         let mut disk = disk;
         lengthen(&mut disk)?;
         let mut land = empty_land(alloc, nodesize, slots, bound)?;
-        let mut book = SlotBook::new();
+        let mut book = SlotBook::new(&land.space);
         let mut reads = Steps::<L>::new(blank);
         let node = empty_leaf(alloc);
         if !node.has_text(nodesize as usize) || land.space.free_slots() == 0 {
@@ -119,7 +119,7 @@ impl<D: Disk + Drop, L: Ledger> Setting<D, L> {
         let mut disk = disk;
         lengthen(&mut disk)?;
         let mut land = empty_land(alloc, nodesize, slots, bound)?;
-        let mut book = SlotBook::new();
+        let mut book = SlotBook::new(&land.space);
         let mut reads = Steps::<L>::new(blank);
         if !is_buildable(nodesize, items.as_slice(), land.space.free_slots()) {
             return Err(BlockFault::NoMemory);
@@ -204,6 +204,7 @@ impl<D: Disk + Drop, L: Ledger> Setting<D, L> {
         } = self;
         let mut land = empty_land(alloc, nodesize, slots, bound)?;
         hold_first(&mut land.space, used)?;
+        let book = SlotBook::new(&land.space);
         Ok(Setting {
             alloc,
             nodesize,
@@ -212,7 +213,7 @@ impl<D: Disk + Drop, L: Ledger> Setting<D, L> {
             generation,
             land,
             disk,
-            book: SlotBook::new(),
+            book,
             reads,
         })
     }

@@ -2,7 +2,8 @@ use Rattle.std.proofs.Common.{◌≡◌, ◌≢◌, ℕ, nat_eq, refl, sym, ◌�
 use Rattle.std.specs.Prelude.{None}
 use Rattle.std.proofs.lemmas.Bool.{eq-eqb, not-true, true≢false}
 use Rattle.qg_blocks.specs.NodesFound.{fresh_at}
-use Rattle.qg_blocks.proofs.Broken.{unread-handed, unread-none-handed}
+use Rattle.qg_blocks.proofs.Broken.{unread-handed}
+use Rattle.qg_blocks.proofs.Stopping.{stops-err, stops-read}
 use Rattle.qg_blocks.proofs.Telling.{none_of}
 use Rattle.qg_node_alloc.proofs.Calls.{LeavesBe-after}
 use Rattle.qg_node_alloc.proofs.Lands.{Copies-back, GivesBack-none, IsCopied-copies, Rests-after, Takes-copied}
@@ -120,19 +121,26 @@ returns-clause-book g c =
 
 -- ---- over any disk
 
-pub returns-in_err-now-clause-broken : goal.returns-in_err-now-clause-broken
-returns-in_err-now-clause-broken g c =
-    unread-handed ℕ c.from_residual.result c.in_err-now.field-0.0 c.args.land.now.blocks.draft.sizes
-    (g.D.Disk.size c.args.disk.now) c.args.at c.from_residual.ensures.1 c.in_err-now.ensures.broken
+pub returns-in_err-now-clause-stops : goal.returns-in_err-now-clause-stops
+returns-in_err-now-clause-stops g c =
+    let sizes = c.args.land.now.blocks.draft.sizes in
+    let bytes = g.D.Disk.size c.args.disk.now in
+    stops-read c.from_residual.result sizes bytes c.args.at
+    (unread-handed ℕ c.from_residual.result c.in_err-now.field-0.0 sizes bytes c.args.at c.from_residual.ensures.1
+    c.in_err-now.ensures.broken)
 
-pub returns-in_err-copied-clause-broken : goal.returns-in_err-copied-clause-broken
-returns-in_err-copied-clause-broken g c =
+pub returns-in_err-copied-clause-stops : goal.returns-in_err-copied-clause-stops
+returns-in_err-copied-clause-stops g c =
     let residual = c.from_residual-in_err-copied in
-    unread-none-handed (Unit {0}) residual.result c.in_err-copied.field-0.0 c.args.land.now.blocks.draft.sizes
-    (g.D.Disk.size c.args.disk.now) c.args.at residual.ensures.1 c.in_err-copied.ensures.no_image
+    let leaves = c.copy_out.ensures.rests in
+    stops-err (Unit {0}) residual.result c.in_err-copied.field-0.0 c.copy_out.new.land.blocks.draft.sizes
+    c.args.land.now.blocks.draft.sizes (g.D.Disk.size c.copy_out.new.disk) (g.D.Disk.size c.args.disk.now)
+    residual.ensures.1 leaves.rests.node_sizes leaves.size c.in_err-copied.ensures.stops
 
-pub returns-in_err-made-clause-broken : goal.returns-in_err-made-clause-broken
-returns-in_err-made-clause-broken g c =
+pub returns-in_err-made-clause-stops : goal.returns-in_err-made-clause-stops
+returns-in_err-made-clause-stops g c =
     let residual = c.from_residual-in_err-made in
-    unread-none-handed (Unit {0}) residual.result c.in_err-made.field-0.0 c.args.land.now.blocks.draft.sizes
-    (g.D.Disk.size c.args.disk.now) c.args.at residual.ensures.1 c.in_err-made.ensures.no_image
+    let leaves = c.copy_out.ensures.rests in
+    stops-err (Unit {0}) residual.result c.in_err-made.field-0.0 c.copy_out.new.land.blocks.draft.sizes
+    c.args.land.now.blocks.draft.sizes (g.D.Disk.size c.copy_out.new.disk) (g.D.Disk.size c.args.disk.now)
+    residual.ensures.1 leaves.rests.node_sizes leaves.size c.in_err-made.ensures.stops

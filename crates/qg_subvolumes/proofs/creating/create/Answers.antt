@@ -42,7 +42,7 @@ returns-in_err-now-clause-rests g c =
     c.make_node.ensures.rests
 
 pub returns-in_err-now-clause-reads : goal.returns-in_err-now-clause-reads
-returns-in_err-now-clause-reads g c = c.make_node.ensures.reads 1 (λ q. omega arith)
+returns-in_err-now-clause-reads g c = let made = c.make_node.ensures.reads in omega (arith, made)
 
 pub returns-in-Some-clause-sound : goal.returns-in-Some-clause-sound
 returns-in-Some-clause-sound g c state events told_is holds unused =
@@ -65,7 +65,7 @@ returns-in-Some-clause-rests g c =
     c.make_node.ensures.rests
 
 pub returns-in-Some-clause-reads : goal.returns-in-Some-clause-reads
-returns-in-Some-clause-reads g c = c.make_node.ensures.reads 1 (λ q. omega arith)
+returns-in-Some-clause-reads g c = let made = c.make_node.ensures.reads in omega (arith, made)
 
 pub returns-clause-created : goal.returns-clause-created
 returns-clause-created g c state holds unused =
@@ -128,7 +128,7 @@ returns-clause-rests g c =
     c.make_node.ensures.rests
 
 pub returns-clause-reads : goal.returns-clause-reads
-returns-clause-reads g c = c.make_node.ensures.reads 1 (λ q. omega arith)
+returns-clause-reads g c = let made = c.make_node.ensures.reads in omega (arith, made)
 
 -- ---- over any disk
 
@@ -139,7 +139,7 @@ returns-in_err-now-clause-stops g c =
     let bytes = g.D.Disk.size c.args.disk.now in
     let fault = c.in_err-now.field-0.0 in
     stops-err ℕ residual.result fault sizes sizes bytes bytes residual.ensures.1 refl refl
-    (stops-none {A = ℕ} (Err fault) sizes bytes c.in_err-now.ensures.unbroken)
+    c.in_err-now.ensures.stops
 
 pub returns-in-Some-clause-stops : goal.returns-in-Some-clause-stops
 returns-in-Some-clause-stops g c =

@@ -32,6 +32,7 @@ use Rattle.std.specs.Prelude.{Err}
 use Rattle.qg_num.specs.declared.fault.BlockFault.{BlockFault}
 use Rattle.qg_num.specs.declared.rule.Rule.TheVariants.{Refs}
 use Rattle.qg_image.specs.declared.tree.TreeKind.TheVariants.{Files}
+use Rattle.qg_blocks.specs.NodesInMemory.{Draft}
 use Rattle.qg_blocks.proofs.Stopping.{misfit-refs, stops-err, stops-misfit, stops-none, stops-rule}
 use Rattle.qg_tree_read.proofs.Stopping.{stops-visit}
 use Rattle.qg_subvolumes.proofs.snapshots.snapshot.Goals as goal
@@ -103,7 +104,7 @@ make_node-requires-clause-ready g c =
 
 pub returns-in_err-now-clause-reads : goal.returns-in_err-now-clause-reads
 returns-in_err-now-clause-reads g c =
-    let made = c.make_node.ensures.reads 1 (λ q. omega arith) in
+    let made = c.make_node.ensures.reads in
     let visited = c.visit.ensures.reads in
     omega (arith, made, visited)
 
@@ -121,7 +122,7 @@ returns-in-Some-clause-sound g c state events told_is holds has is unused =
 
 pub returns-in-Some-clause-reads : goal.returns-in-Some-clause-reads
 returns-in-Some-clause-reads g c =
-    let made = c.make_node.ensures.reads 1 (λ q. omega arith) in
+    let made = c.make_node.ensures.reads in
     let visited = c.visit.ensures.reads in
     omega (arith, made, visited)
 
@@ -153,7 +154,7 @@ returns-in_err-give_all-clause-sound g c state events told_is holds has is unuse
 
 pub returns-in_err-give_all-clause-reads : goal.returns-in_err-give_all-clause-reads
 returns-in_err-give_all-clause-reads g c =
-    let made = c.make_node.ensures.reads 1 (λ q. omega arith) in
+    let made = c.make_node.ensures.reads in
     let visited = c.visit.ensures.reads in
     omega (arith, made, visited)
 
@@ -248,7 +249,7 @@ returns-clause-begun g c =
 
 pub returns-clause-reads : goal.returns-clause-reads
 returns-clause-reads g c =
-    let made = c.make_node.ensures.reads 1 (λ q. omega arith) in
+    let made = c.make_node.ensures.reads in
     let visited = c.visit.ensures.reads in
     omega (arith, made, visited)
 
@@ -266,8 +267,9 @@ returns-in_err-now-clause-stops g c =
     let sizes = c.args.land.now.blocks.draft.sizes in
     let bytes = g.D.Disk.size c.args.disk.now in
     let fault = c.in_err-now.field-0.0 in
-    stops-err ℕ residual.result fault sizes sizes bytes bytes residual.ensures.1 refl refl
-    (stops-none {A = ℕ} (Err fault) sizes bytes c.in_err-now.ensures.unbroken)
+    let read = c.visit.ensures.read in
+    stops-err ℕ residual.result fault c.visit.new.blocks.draft.sizes sizes (g.D.Disk.size c.visit.new.disk) bytes
+    residual.ensures.1 (ap (λ (d : Draft). d.sizes) read.draft) read.size c.in_err-now.ensures.stops
 
 pub returns-in-Some-clause-stops : goal.returns-in-Some-clause-stops
 returns-in-Some-clause-stops g c =

@@ -10,7 +10,7 @@ use Rattle.qg_tree_layout.specs.Row.{address_of}
 use Rattle.qg_tree_read.specs.Tree.{Root}
 use Rattle.qg_tree_build.specs.Building.{IsBuildTold, IsBuiltIn, most_nodes}
 use Rattle.qg_tree_build.proofs.Laid.{all-laid, drafted-last, free-last, laying-more, laying-none, none-left}
-use Rattle.qg_tree_build.proofs.Laid.{rests-last, sound-last, split-last, steps-more, steps-within, whole-long}
+use Rattle.qg_tree_build.proofs.Laid.{rests-last, sound-last, split-last, whole-long}
 use Rattle.qg_tree_build.proofs.Laid.{whole-more}
 use Rattle.qg_tree_build.proofs.Standing.{IsBuildTold-laid, IsBuiltIn-laid}
 use Rattle.qg_tree_build.proofs.Telling.{log-more, log-none, slots_laid}
@@ -37,7 +37,7 @@ nodes-init g c =
       history = refl;
       size = refl;
       later = omega arith;
-      reads = λ most all. omega arith;
+      reads = omega arith;
     }
 
 pub lay_node-requires-clause-ready : goal.lay_node-requires-clause-ready
@@ -88,15 +88,11 @@ nodes-preserved g c =
       history = made.rests.history ∙ invariant.history;
       size = made.rests.size ∙ invariant.size;
       later = let first = invariant.later in let second = made.fails.cause.fine in omega (arith, first, second);
-      reads = λ most all.
-          let late = made.reads in
-          let few = all c.nodes.book (address_of node) in
-          steps-more most c.args.reads.now c.nodes.reads c.lay_node.new.reads invariant.laid node
-          (invariant.reads most all) (omega (arith, late, few));
+      reads = let late = made.reads in let early = invariant.reads in omega (arith, late, early);
     }
 
 pub returns-in_err-lay_node-clause-reads : goal.returns-in_err-lay_node-clause-reads
-returns-in_err-lay_node-clause-reads g c most all =
+returns-in_err-lay_node-clause-reads g c =
     let node = c.remove-node.result in
     let invariant = c.nodes.invariant in
     let laying = c.nodes.invariant.laying in
@@ -109,13 +105,11 @@ returns-in_err-lay_node-clause-reads g c most all =
     let bound = most_nodes c.args.land.now.space.sizes.nodesize c.args.items.now in
     let few = whole-long nodes c.remove-node.new.self invariant.laid node bound whole c.in_ok-nodes.ensures.built.few in
     let late = c.lay_node.ensures.reads in
-    let one = all c.nodes.book (address_of node) in
-    let steps = steps-more most c.args.reads.now c.nodes.reads c.lay_node.new.reads invariant.laid node
-    (invariant.reads most all) (omega (arith, late, one)) in
-    steps-within most (length (node ∷ invariant.laid)) bound c.args.reads.now c.lay_node.new.reads steps few
+    let early = invariant.reads in
+    omega (arith, late, early, few)
 
 pub returns-clause-reads : goal.returns-clause-reads
-returns-clause-reads g c most all =
+returns-clause-reads g c =
     let invariant = c.nodes.invariant in
     let nodes = c.in_ok-nodes.field-0.nodes in
     let none = none-left c.nodes.nodes c.is_empty.result c.is_empty.ensures c.nodes-test.false in
@@ -124,8 +118,8 @@ returns-clause-reads g c most all =
     let bound = most_nodes c.args.land.now.space.sizes.nodesize c.args.items.now in
     let few = c.in_ok-nodes.ensures.built.few in
     let same = ap (λ (ns : List Node). length ns) done.0 in
-    steps-within most (length invariant.laid) bound c.args.reads.now c.nodes.reads (invariant.reads most all)
-    (omega (arith, few, same))
+    let early = invariant.reads in
+    omega (arith, early, few, same)
 
 pub returns-clause-built : goal.returns-clause-built
 returns-clause-built g c history =

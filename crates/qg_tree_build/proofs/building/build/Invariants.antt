@@ -1,4 +1,4 @@
-use Rattle.std.proofs.Common.{◌≡◌, ◌≤◌, ◌+◌, ◌*◌, ◌++◌, ℕ, List, length, map}
+use Rattle.std.proofs.Common.{◌≡◌, ◌≤◌, ◌+◌, ◌++◌, ℕ, List, length, map}
 use Rattle.qg_node.specs.declared.node.Node.{Node}
 use Rattle.qg_node_alloc.specs.Tellings.{Telling}
 use Rattle.qg_node_alloc.specs.Tellings.Telling.{Made}
@@ -18,8 +18,7 @@ invariant-nodes g l = record {
   history : g.D.Disk.history l.disk ≡ g.D.Disk.history l.fn.disk;
   size : g.D.Disk.size l.disk ≡ g.D.Disk.size l.fn.disk;
   later : g.D.Disk.faults l.disk ≡ g.D.Disk.faults l.fn.disk;
-  reads : (most : ℕ) → ((book : _) (q : ℕ) → g.B.Book.to_read book q ≤ most)
-      → l.reads ≤ l.fn.reads + most * length laid;
+  reads : l.reads + g.B.Book.spent l.fn.book ≤ l.fn.reads + g.B.Book.spent l.book + length laid;
 }
 
 abbrev pub decreases-nodes : goal.decreases-nodes

@@ -1,5 +1,4 @@
 use Rattle.std.proofs.Common.{◌≡◌, ◌+◌, ◌*◌, ◌++◌, ℕ, suc, append_assoc, arith, sym, ap, subst, ◌∙◌, inr}
-use Rattle.std.proofs.Math.Nat.{mul-suc}
 use Rattle.std.proofs.lemmas.Result.{on_ok_weaker}
 use Rattle.std.specs.Prelude.{List, None}
 use Rattle.qg_num.specs.declared.fault.BlockFault.{BlockFault}
@@ -26,27 +25,17 @@ use Rattle.qg_tree_edits.proofs.Stopped.{stops-after}
 use Rattle.qg_tree_edits.proofs.changing.edit_tree.Goals as goal
 
 pub returns-in_err-instead-clause-reads : goal.returns-in_err-instead-clause-reads
-returns-in_err-instead-clause-reads g c most all =
-    let low = c.edit_under.ensures.reads most all in
+returns-in_err-instead-clause-reads g c =
+    let low = c.edit_under.ensures.reads in
     let level = c.height-level.ensures in
-    let one : (5 + 4 * most) * suc (c.height-level.result + 1) ≡ (5 + 4 * most) * (c.height-level.result + 1)
-    + (5 + 4 * most) = mul-suc (5 + 4 * most) (c.height-level.result + 1) in
-    let whole : (5 + 4 * most) * (c.args.tree.now.height + 2) ≡ (5 + 4 * most) * suc (c.height-level.result + 1) =
-    ap (λ (n : ℕ). (5 + 4 * most) * n) (let e : c.args.tree.now.height + 2 ≡ suc (c.height-level.result + 1) = omega
-    (arith, level) in e) in
-    omega (arith, low, one, whole)
+    omega (arith, low, level)
 
 pub returns-clause-reads : goal.returns-clause-reads
-returns-clause-reads g c most all =
-    let low = c.edit_under.ensures.reads most all in
-    let last = c.set_root.ensures.reads most all in
+returns-clause-reads g c =
+    let low = c.edit_under.ensures.reads in
+    let last = c.set_root.ensures.reads in
     let level = c.height-level.ensures in
-    let one : (5 + 4 * most) * suc (c.height-level.result + 1) ≡ (5 + 4 * most) * (c.height-level.result + 1)
-    + (5 + 4 * most) = mul-suc (5 + 4 * most) (c.height-level.result + 1) in
-    let whole : (5 + 4 * most) * (c.args.tree.now.height + 2) ≡ (5 + 4 * most) * suc (c.height-level.result + 1) =
-    ap (λ (n : ℕ). (5 + 4 * most) * n) (let e : c.args.tree.now.height + 2 ≡ suc (c.height-level.result + 1) = omega
-    (arith, level) in e) in
-    omega (arith, low, last, one, whole)
+    omega (arith, low, last, level)
 
 -- ---- where the disk tells a tree
 

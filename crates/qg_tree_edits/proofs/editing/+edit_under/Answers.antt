@@ -1,6 +1,5 @@
 use Rattle.std.proofs.Common.{◌≡◌, ℕ, ◌+◌, ◌-◌, ◌*◌, ◌<◌, ◌++◌, ◌∙◌, ap, arith, subst, suc, sym}
-use Rattle.std.specs.Prelude.{Err, IsTrue, List, None, Option, Some, length, map}
-use Rattle.std.proofs.Math.Nat.{mul-suc}
+use Rattle.std.specs.Prelude.{IfOk, Err, IsTrue, List, None, Option, Some, length, map}
 use Rattle.std.proofs.lemmas.Result.{IfOk-weaker, err_from_is_err_and, on_ok_weaker}
 use Rattle.qg_node.specs.declared.item.Item.{Item}
 use Rattle.qg_node.specs.declared.node.Node.{Node}
@@ -16,7 +15,7 @@ use Rattle.qg_tree_edits.specs.declared.instead.Instead.{Instead}
 use Rattle.qg_device.specs.History.{History}
 use Rattle.qg_node.specs.declared.node.Node.TheVariants.{Inner}
 use Rattle.qg_tree_edits.specs.First.{leaves, leaves_behind}
-use Rattle.qg_tree_edits.specs.Editing.{IsFreshOn, IsPartEdited, IsPartFit, RestIsReady}
+use Rattle.qg_tree_edits.specs.Editing.{IsFreshOn, IsPartEdited, IsPartFit, IsPlacedBehind, RestIsReady}
 use Rattle.qg_tree_edits.specs.Counting.{IsPartTold, tellings_made, tellings_owned}
 use Rattle.qg_tree_edits.specs.Steps.{EditsItems, EditsPart, FailsToEdit}
 use Rattle.qg_tree_edits.proofs.Descended.{descended-edited, descended-first, descended-fit, descended-items}
@@ -41,9 +40,11 @@ use Rattle.qg_tree_edits.proofs.Naming.{names-none, names-other}
 use Rattle.qg_tree_edits.proofs.Unfit.{fails-above, fails-below, fails-read, leads-down, owned-stands, placed-stands}
 use Rattle.qg_tree_edits.specs.Failing.{CantSettle, FailsUnder, IsRefused}
 use Rattle.std.proofs.Common.{refl}
-use Rattle.qg_blocks.proofs.Stopping.{stops-err, stops-none}
-use Rattle.qg_tree_edits.proofs.Stopped.{stops-err-after}
+use Rattle.qg_blocks.proofs.Stopping.{stops-err}
+use Rattle.qg_tree_edits.proofs.Stopped.{stops-after, stops-err-after}
+use Rattle.qg_tree_edits.proofs.editing.+edit_under.Given.{Over}
 use Rattle.qg_tree_edits.proofs.editing.+edit_under.Goals as goal
+use Rattle.qg_tree_edits.proofs.editing.+edit_under.Goals.{After-place_rest}
 
 pub place_for-place-requires-clause-inner : goal.place_for-place-requires-clause-inner
 place_for-place-requires-clause-inner g t c =
@@ -156,10 +157,9 @@ returns-then-level-eq0-clause-fails g t c =
     (sym c.if-level-eq0.true) c.edit_there.ensures.fails
 
 pub returns-then-level-eq0-clause-reads : goal.returns-then-level-eq0-clause-reads
-returns-then-level-eq0-clause-reads g t c most all =
-    let reads = c.edit_there.ensures.reads most all in
-    let once : (5 + 4 * most) * (c.args.level + 1) ≡ (5 + 4 * most) * 1 = ap (λ (n : ℕ). (5 + 4 * most) * (n + 1))
-    c.if-level-eq0.true in
+returns-then-level-eq0-clause-reads g t c =
+    let reads = c.edit_there.ensures.reads in
+    let once = c.if-level-eq0.true in
     omega (arith, reads, once)
 
 -- ---- an inner node
@@ -206,6 +206,100 @@ returns-clause-part g t c =
           (placed-owners owner low set end now rest instead settled.owners behind)))
           placed.placed;
     }
+
+-- what the book is told meanwhile
+told_edited : (g : Over) (t : ℕ) (c : After-place_rest g t) (items : List Item)
+    → IsPartFit g.P.TreePart.tree c.args.tree.now c.args.land.now (g.D.Disk.history c.args.disk.now) c.args.level
+    c.args.way.expected c.args.way.address c.args.edit items
+    → (before : g.row.B.Denot) (log : List Telling) → g.B.Book.follows before log c.args.book.now
+    → IfOk c.place_rest.result (λ instead. (tellings : List Telling)
+    × g.B.Book.follows before (log ++ tellings) c.place_rest.new.book
+    × IsPartTold c.args.land.now c.place_rest.new.land (g.D.Disk.history c.args.disk.now) c.args.level
+    c.args.way.address instead tellings)
+told_edited g t c items fit before log follows =
+    let tree = g.P.TreePart.tree in
+    let root = c.args.tree.now in
+    let land = c.args.land.now in
+    let mid = c.own.new.land in
+    let low = c.edit_under.new.land in
+    let set = c.settle.new.land in
+    let end = c.place_rest.new.land in
+    let history = g.D.Disk.history c.args.disk.now in
+    let own_history = g.D.Disk.history c.own.new.disk in
+    let low_history = g.D.Disk.history c.edit_under.new.disk in
+    let set_history = g.D.Disk.history c.settle.new.disk in
+    let end_history = g.D.Disk.history c.place_rest.new.disk in
+    let same = c.own.ensures.rests.history in
+    let same_low : low_history ≡ history = c.edit_under.ensures.rests.history ∙ c.own.ensures.rests.history in
+    let low_level = c.args.level - 1 in
+    let expected = c.args.way.expected in
+    let at = c.args.way.address in
+    let now = c.in_ok-now.now in
+    let edit = c.args.edit in
+    let makes = c.requires.ready.makes in
+    let drafted = c.requires.ready.editable.drafted in
+    let short = c.requires.short in
+    let owned = c.in_ok-now.ensures.owned.is in
+    let own_rests = c.own.ensures.rests.rests in
+    let low_rests = c.edit_under.ensures.rests.rests in
+    let node = c.peek.result.now in
+    let node_still = c.peek-2.result.now in
+    let place = c.place_for-place.result in
+    let leads = c.place_for-place.ensures in
+    let below = c.way_at-below.result in
+    let is_way = c.way_at-below.ensures in
+    let child = c.in_ok-child.child in
+    let above = c.in_ok-child.ensures.part.moves.above in
+    let rest = c.in_ok-rest.rest in
+    let up : c.args.level ≡ suc low_level = omega arith in
+    let fit_up : IsPartFit tree root land history (suc low_level) expected at edit items =
+    subst (λ (n : ℕ). IsPartFit tree root land history n expected at edit items) up fit in
+    let mine = descended-mine tree root land mid history low_level expected at now edit items fit_up owned makes drafted
+    own_rests.node_sizes node node_still c.peek.ensures c.peek-2.ensures place leads below is_way in
+    let fit_low = descended-fit tree root land mid history low_level expected at now edit items fit_up owned makes
+    drafted own_rests.node_sizes node node_still c.peek.ensures c.peek-2.ensures place leads below is_way in
+    let edited_child = child-edited tree root mid low low_level below edit mine history own_history same child fit_low
+    (λ under under_fit. (c.in_ok-child.ensures.edited under under_fit).edited) in
+    let items_new = descended-items tree root land mid history low_level expected at now edit items fit_up owned makes
+    drafted own_rests.node_sizes node node_still c.peek.ensures c.peek-2.ensures place leads below is_way low child
+    edited_child above low_rests.node_sizes short in
+    let un = descended-unsettled tree root land mid history low_level expected at now edit items fit_up owned makes
+    drafted own_rests.node_sizes node node_still c.peek.ensures c.peek-2.ensures place leads below is_way low child
+    edited_child above low_rests.node_sizes short in
+    let last = c.place_rest.ensures.rests in
+    let placed = c.place_rest.ensures.placed.placed in
+    let own_log = tellings_owned owned.node at now in
+    let top = fit-told tree root land mid history c.args.level expected at now edit items fit owned in
+    let first = c.in_ok-now.ensures.told owned.node top.0 top.1 before log follows in
+    let second = child-told tree root mid low low_level below edit mine history own_history same child
+    (λ tellings. g.B.Book.follows before ((log ++ own_log) ++ tellings) c.edit_under.new.book) fit_low
+    (λ under under_fit. (c.in_ok-child.ensures.edited under under_fit).told before (log ++ own_log) first) in
+    let third = settle-told tree root low set low_level now expected.to place child history low_history same_low
+    rest (λ tellings. g.B.Book.follows before (((log ++ own_log) ++ second.0) ++ tellings) c.settle.new.book)
+    (λ all all_un. (c.in_ok-rest.ensures.settled all all_un).told before ((log ++ own_log) ++ second.0) second.1)
+    items_new un in
+    let log_up = ((log ++ own_log) ++ second.0) ++ third.0 in
+    ok-both c.place_rest.result (λ instead. IsPlacedBehind root.owner set end now rest instead)
+    (λ instead. g.B.Book.follows before (log_up ++ tellings_made instead.more) c.place_rest.new.book)
+    (λ instead. (tellings : List Telling) × g.B.Book.follows before (log ++ tellings) c.place_rest.new.book
+    × IsPartTold land end history c.args.level at instead tellings)
+    (λ instead behind told_rest. (
+      own_log ++ (second.0 ++ (third.0 ++ tellings_made instead.more)),
+      subst (λ (ts : List Telling). g.B.Book.follows before ts c.place_rest.new.book)
+          {x = (((log ++ own_log) ++ second.0) ++ third.0) ++ tellings_made instead.more}
+          {y = log ++ (own_log ++ (second.0 ++ (third.0 ++ tellings_made instead.more)))}
+          (four-in-row log own_log second.0 third.0 (tellings_made instead.more)) told_rest,
+      subst (λ (n : ℕ). IsPartTold land end history n at instead
+          (own_log ++ (second.0 ++ (third.0 ++ tellings_made instead.more)))) {x = suc low_level}
+          {y = c.args.level} (sym up)
+          (descended-told tree root land mid history low_level expected at now edit items fit_up owned makes
+          drafted own_rests.node_sizes node node_still c.peek.ensures c.peek-2.ensures place leads below is_way
+          low child edited_child above low_rests.node_sizes short set end own_history low_history set_history
+          end_history rest instead third.2.settled behind own_rests low_rests c.settle.ensures.rests.rests
+          last.rests second.0 third.0 second.2 third.2.told),
+    ))
+    placed
+    (c.place_rest.ensures.told before (((log ++ own_log) ++ second.0) ++ third.0) third.1)
 
 pub returns-clause-edited : goal.returns-clause-edited
 returns-clause-edited g t c items fit =
@@ -263,8 +357,10 @@ returns-clause-edited g t c items fit =
     let last = c.place_rest.ensures.rests in
     let placed = c.place_rest.ensures.placed.placed in
     record {
-      edited = IfOk-weaker c.place_rest.result _ _
-          (λ instead behind. subst (λ (n : ℕ). IsPartEdited tree root land end history n at edit items instead) (sym up)
+      edited = IfOk-weaker c.place_rest.result (λ instead. IsPlacedBehind root.owner set end now rest instead)
+          (λ instead. IsPartEdited tree root land end history c.args.level at edit items instead)
+          (λ instead behind. subst (λ (n : ℕ). IsPartEdited tree root land end history n at edit items instead)
+          {x = suc low_level} {y = c.args.level} (sym up)
           (descended-edited tree root land mid history low_level expected at now edit items fit_up owned makes drafted
           own_rests.node_sizes node node_still c.peek.ensures c.peek-2.ensures place leads below is_way low child
           edited_child above low_rests.node_sizes short set end own_history low_history set_history end_history rest
@@ -283,76 +379,39 @@ returns-clause-edited g t c items fit =
           drafted own_rests.node_sizes node node_still c.peek.ensures c.peek-2.ensures place leads below is_way low
           child edited_child above low_rests.node_sizes short set first kept cleared in
           let there = subst (λ (n : ℕ). leaves (told set.blocks.draft history) n now
-          ≡ leaves_behind (leaves (told land.blocks.draft history) n at)) (sym up) all in
-          IfOk-weaker c.place_rest.result _ _
+          ≡ leaves_behind (leaves (told land.blocks.draft history) n at)) {x = suc low_level} {y = c.args.level}
+          (sym up) all in
+          IfOk-weaker c.place_rest.result (λ instead. IsPlacedBehind root.owner set end now rest instead)
+          (λ instead. leaves (told end.blocks.draft history) c.args.level instead.now
+          ≡ leaves_behind (leaves (told land.blocks.draft history) c.args.level at))
           (λ instead behind. placed-leaves root.owner set end history c.args.level now rest instead
           (c.in_ok-rest.ensures.set.whole none) behind ∙ there)
           placed;
-      told = λ before log follows.
-          let own_log = tellings_owned owned.node at now in
-          let top = fit-told tree root land mid history c.args.level expected at now edit items fit owned in
-          let first = c.in_ok-now.ensures.told owned.node top.0 top.1 before log follows in
-          let second = child-told tree root mid low low_level below edit mine history own_history same child
-          (λ tellings. g.B.Book.follows before ((log ++ own_log) ++ tellings) c.edit_under.new.book) fit_low
-          (λ under under_fit. (c.in_ok-child.ensures.edited under under_fit).told before (log ++ own_log) first) in
-          let third = settle-told tree root low set low_level now expected.to place child history low_history same_low
-          rest (λ tellings. g.B.Book.follows before (((log ++ own_log) ++ second.0) ++ tellings) c.settle.new.book)
-          (λ all all_un. (c.in_ok-rest.ensures.settled all all_un).told before ((log ++ own_log) ++ second.0) second.1)
-          items_new un in
-          ok-both c.place_rest.result _ _ _
-          (λ instead behind told_rest. (
-            own_log ++ (second.0 ++ (third.0 ++ tellings_made instead.more)),
-            subst (λ (ts : List Telling). g.B.Book.follows before ts c.place_rest.new.book)
-                (four-in-row log own_log second.0 third.0 (tellings_made instead.more)) told_rest,
-            subst (λ (n : ℕ). IsPartTold land end history n at instead
-                (own_log ++ (second.0 ++ (third.0 ++ tellings_made instead.more)))) (sym up)
-                (descended-told tree root land mid history low_level expected at now edit items fit_up owned makes
-                drafted own_rests.node_sizes node node_still c.peek.ensures c.peek-2.ensures place leads below is_way
-                low child edited_child above low_rests.node_sizes short set end own_history low_history set_history
-                end_history rest instead third.2.settled behind own_rests low_rests c.settle.ensures.rests.rests
-                last.rests second.0 third.0 second.2 third.2.told),
-          ))
-          placed
-          (c.place_rest.ensures.told before (((log ++ own_log) ++ second.0) ++ third.0) third.1);
+      told = told_edited g t c items fit;
     }
 
 -- ---- how many steps
 
 pub returns-in_err-child-clause-reads : goal.returns-in_err-child-clause-reads
-returns-in_err-child-clause-reads g t c most all =
-    let up : c.args.level ≡ suc (c.args.level - 1) = omega arith in
-    let own = c.own.ensures.reads most all in
-    let below = c.edit_under.ensures.reads most all in
-    let one : (5 + 4 * most) * suc (c.args.level - 1 + 1) ≡ (5 + 4 * most) * (c.args.level - 1 + 1) +
-    (5 + 4 * most) = mul-suc (5 + 4 * most) (c.args.level - 1 + 1) in
-    let whole : (5 + 4 * most) * (c.args.level + 1) ≡ (5 + 4 * most) * suc (c.args.level - 1 + 1) = ap
-    (λ (n : ℕ). (5 + 4 * most) * n) (let e : c.args.level + 1 ≡ suc (c.args.level - 1 + 1) = omega (arith, up) in e) in
-    omega (arith, own, below, one, whole)
+returns-in_err-child-clause-reads g t c =
+    let own = c.own.ensures.reads in
+    let below = c.edit_under.ensures.reads in
+    omega (arith, own, below)
 
 pub returns-in_err-rest-clause-reads : goal.returns-in_err-rest-clause-reads
-returns-in_err-rest-clause-reads g t c most all =
-    let up : c.args.level ≡ suc (c.args.level - 1) = omega arith in
-    let own = c.own.ensures.reads most all in
-    let below = c.edit_under.ensures.reads most all in
-    let settled = c.settle.ensures.reads most all in
-    let one : (5 + 4 * most) * suc (c.args.level - 1 + 1) ≡ (5 + 4 * most) * (c.args.level - 1 + 1) +
-    (5 + 4 * most) = mul-suc (5 + 4 * most) (c.args.level - 1 + 1) in
-    let whole : (5 + 4 * most) * (c.args.level + 1) ≡ (5 + 4 * most) * suc (c.args.level - 1 + 1) = ap
-    (λ (n : ℕ). (5 + 4 * most) * n) (let e : c.args.level + 1 ≡ suc (c.args.level - 1 + 1) = omega (arith, up) in e) in
-    omega (arith, own, below, settled, one, whole)
+returns-in_err-rest-clause-reads g t c =
+    let own = c.own.ensures.reads in
+    let below = c.edit_under.ensures.reads in
+    let settled = c.settle.ensures.reads in
+    omega (arith, own, below, settled)
 
 pub returns-clause-reads : goal.returns-clause-reads
-returns-clause-reads g t c most all =
-    let up : c.args.level ≡ suc (c.args.level - 1) = omega arith in
-    let own = c.own.ensures.reads most all in
-    let below = c.edit_under.ensures.reads most all in
-    let settled = c.settle.ensures.reads most all in
-    let placed = c.place_rest.ensures.reads most all in
-    let one : (5 + 4 * most) * suc (c.args.level - 1 + 1) ≡ (5 + 4 * most) * (c.args.level - 1 + 1) +
-    (5 + 4 * most) = mul-suc (5 + 4 * most) (c.args.level - 1 + 1) in
-    let whole : (5 + 4 * most) * (c.args.level + 1) ≡ (5 + 4 * most) * suc (c.args.level - 1 + 1) = ap
-    (λ (n : ℕ). (5 + 4 * most) * n) (let e : c.args.level + 1 ≡ suc (c.args.level - 1 + 1) = omega (arith, up) in e) in
-    omega (arith, own, below, settled, placed, one, whole)
+returns-clause-reads g t c =
+    let own = c.own.ensures.reads in
+    let below = c.edit_under.ensures.reads in
+    let settled = c.settle.ensures.reads in
+    let placed = c.place_rest.ensures.reads in
+    omega (arith, own, below, settled, placed)
 
 -- ---- where it fails
 
@@ -618,5 +677,14 @@ returns-in_err-rest-clause-stops g t c =
 
 pub returns-clause-stops : goal.returns-clause-stops
 returns-clause-stops g t c =
-    stops-none c.place_rest.result c.args.land.now.blocks.draft.sizes (g.D.Disk.size c.args.disk.now)
-    c.place_rest.ensures.unbroken
+    let land = c.args.land.now in
+    let low = c.edit_under.new.land in
+    let history = g.D.Disk.history c.args.disk.now in
+    let low_history = g.D.Disk.history c.edit_under.new.disk in
+    let size = g.D.Disk.size c.args.disk.now in
+    let low_size = g.D.Disk.size c.edit_under.new.disk in
+    let first = LeavesBe-after land c.own.new.land low history (g.D.Disk.history c.own.new.disk) low_history size
+    (g.D.Disk.size c.own.new.disk) low_size c.args.tree.now.next c.own.ensures.rests c.edit_under.ensures.rests in
+    let second = LeavesBe-after land low c.settle.new.land history low_history (g.D.Disk.history c.settle.new.disk) size
+    low_size (g.D.Disk.size c.settle.new.disk) c.args.tree.now.next first c.settle.ensures.rests in
+    stops-after c.place_rest.result second c.place_rest.ensures.stops

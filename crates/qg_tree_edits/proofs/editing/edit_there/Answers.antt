@@ -23,6 +23,7 @@ use Rattle.qg_tree_edits.proofs.Levels.{rewritten-levels, rewritten-space}
 use Rattle.qg_tree_edits.proofs.Paired.{owned-levelled}
 use Rattle.qg_tree_edits.proofs.Rejoined.{unbroken-other}
 use Rattle.qg_tree_edits.proofs.Served.{fresh-leaf, sizes-drafted, slots-most}
+use Rattle.qg_node_alloc.specs.Calls.{LeavesBe}
 use Rattle.qg_node_alloc.proofs.Calls.{LeavesBe-after}
 use Rattle.qg_device.proofs.Causes.{cause-handed, cause-last, cause-none}
 use Rattle.qg_tree_read.proofs.Under.{under-leaf}
@@ -32,8 +33,8 @@ use Rattle.qg_tree_edits.proofs.Naming.{names-none, names-other}
 use Rattle.qg_tree_edits.proofs.Unfit.{fails-leaf, fails-read, owned-stands, placed-stands}
 use Rattle.qg_tree_edits.specs.Failing.{FailsUnder, IsRefused}
 use Rattle.qg_edit.specs.Answering.{IsBrokenByChange}
-use Rattle.qg_blocks.proofs.Stopping.{stops-err, stops-none}
-use Rattle.qg_tree_edits.proofs.Stopped.{misfit-change, stops-names-err}
+use Rattle.qg_blocks.proofs.Stopping.{stops-err}
+use Rattle.qg_tree_edits.proofs.Stopped.{misfit-change, stops-after, stops-names-err}
 use Rattle.qg_tree_edits.proofs.editing.edit_there.Goals as goal
 
 pub rewrite_leaf-requires-clause-sizes : goal.rewrite_leaf-requires-clause-sizes
@@ -354,5 +355,20 @@ returns-in_err-rest-clause-stops g c =
 
 pub returns-clause-stops : goal.returns-clause-stops
 returns-clause-stops g c =
-    stops-none c.place_rest.result c.args.land.now.blocks.draft.sizes (g.D.Disk.size c.args.disk.now)
-    c.place_rest.ensures.unbroken
+    let land = c.args.land.now in
+    let mid = c.own.new.land in
+    let set = c.rewrite_leaf.new.land in
+    let next = c.args.tree.now.next in
+    let own_history = g.D.Disk.history c.own.new.disk in
+    let owned = c.in_ok-now.ensures.owned.is in
+    let first = c.own.ensures.rests.rests in
+    let rewritten = c.rewrite_leaf.ensures.rewritten owned.mine owned.here in
+    let second = rewritten-rests mid set c.in_ok-now.now next owned.mine owned.here rewritten own_history first.backed
+    first.drafted in
+    let leaves : LeavesBe land set (g.D.Disk.history c.args.disk.now) own_history (g.D.Disk.size c.args.disk.now)
+    (g.D.Disk.size c.own.new.disk) next = record {
+      rests = Rests-after land mid set own_history own_history next first second;
+      history = c.own.ensures.rests.history;
+      size = c.own.ensures.rests.size;
+    } in
+    stops-after c.place_rest.result leaves c.place_rest.ensures.stops

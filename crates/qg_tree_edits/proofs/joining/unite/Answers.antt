@@ -16,7 +16,7 @@ use Rattle.qg_device.proofs.Causes.{cause-handed, cause-none}
 use Rattle.qg_tree_edits.specs.Failing.{ArentJoined}
 use Rattle.qg_shape.specs.declared.joining.Joined.{Joined}
 use Rattle.std.proofs.Common.{◌∙◌}
-use Rattle.qg_blocks.proofs.Stopping.{stops-err, stops-read}
+use Rattle.qg_blocks.proofs.Stopping.{stops-err}
 use Rattle.std.specs.Prelude.{Err}
 use Rattle.qg_tree_edits.proofs.Stopped.{misfit-merge, stops-names-err}
 use Rattle.qg_tree_edits.proofs.joining.unite.Goals as goal
@@ -205,6 +205,4 @@ returns-in_err-leave_node-in-Whole-clause-stops g c =
     let sizes = (later-spares old mid c.args.left c.args.right c.requires.apart c.requires.pair are).sizes
     ∙ (first-spares old mid c.args.left c.args.right c.requires.apart c.requires.pair are).sizes in
     stops-err (Unit {0}) residual.result fault mid.blocks.draft.sizes old.blocks.draft.sizes bytes bytes
-    residual.ensures.1 sizes refl
-    (stops-read {A = Unit {0}} (Err fault) mid.blocks.draft.sizes bytes c.args.right
-    c.in_err-leave_node-in-Whole.ensures.broken)
+    residual.ensures.1 sizes refl c.in_err-leave_node-in-Whole.ensures.stops

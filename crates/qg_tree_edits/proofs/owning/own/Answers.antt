@@ -15,7 +15,7 @@ use Rattle.qg_node_alloc.proofs.Owners.{IsOwnedBy-after, IsOwnedBy-draft, IsOwne
 use Rattle.qg_tree_edits.proofs.Naming.{names-none, names-refused}
 use Rattle.qg_tree_edits.specs.Failing.{IsRefused}
 use Rattle.qg_tree_read.proofs.Stopping.{stops-visit}
-use Rattle.qg_blocks.proofs.Stopping.{stops-read, stops-same}
+use Rattle.qg_blocks.proofs.Stopping.{stops-same}
 use Rattle.qg_tree_edits.proofs.owning.own.Goals as goal
 
 pub visit-requires : goal.visit-requires
@@ -170,4 +170,4 @@ returns-clause-stops g c =
     let held = g.D.Disk.size c.visit.new.disk in
     stops-same c.cow_node.result mid.sizes c.args.land.now.blocks.draft.sizes held (g.D.Disk.size c.args.disk.now)
     (ap (λ (d : Draft). d.sizes) read.draft) read.size
-    (stops-read c.cow_node.result mid.sizes held c.args.way.now.address c.cow_node.ensures.broken)
+    c.cow_node.ensures.stops

@@ -23,7 +23,7 @@ use Rattle.qg_tree_edits.proofs.Unfit.{cant-grow}
 use Rattle.qg_tree_edits.specs.Failing.{CantGrow}
 use Rattle.qg_num.specs.declared.rule.Rule.{Rule}
 use Rattle.qg_blocks.specs.Stopping.{IsMisfit}
-use Rattle.qg_blocks.proofs.Stopping.{misfit-refs, stops-err, stops-none}
+use Rattle.qg_blocks.proofs.Stopping.{misfit-refs, stops-err}
 use Rattle.qg_tree_edits.proofs.Stopped.{stops-names-err}
 use Rattle.qg_tree_edits.proofs.rooting.grow.Goals as goal
 
@@ -42,12 +42,6 @@ pub make_node-requires-clause-sound : goal.make_node-requires-clause-sound
 make_node-requires-clause-sound g c =
     c.in_ok-node.ensures.sound c.args.land.now.space.sizes.nodesize
     (size-drafted c.args.land.now c.args.tree.now.next c.requires.ready.editable.drafted)
-
-pub returns-in_err-root-clause-reads : goal.returns-in_err-root-clause-reads
-returns-in_err-root-clause-reads g c most all = c.make_node.ensures.reads most (λ q. all c.args.book.now q)
-
-pub returns-clause-reads : goal.returns-clause-reads
-returns-clause-reads g c most all = c.make_node.ensures.reads most (λ q. all c.args.book.now q)
 
 -- ---- the new root
 
@@ -181,5 +175,4 @@ returns-in_err-root-clause-stops g c =
     let sizes = c.args.land.now.blocks.draft.sizes in
     let bytes = g.D.Disk.size c.args.disk.now in
     let fault = c.in_err-root.field-0.0 in
-    stops-err ℕ residual.result fault sizes sizes bytes bytes residual.ensures.1 refl refl
-    (stops-none {A = ℕ} (Err fault) sizes bytes c.in_err-root.ensures.unbroken)
+    stops-err ℕ residual.result fault sizes sizes bytes bytes residual.ensures.1 refl refl c.in_err-root.ensures.stops

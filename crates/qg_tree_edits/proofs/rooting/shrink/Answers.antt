@@ -23,7 +23,7 @@ use Rattle.qg_tree_edits.proofs.United.{fresh-unbroken}
 use Rattle.qg_node_alloc.proofs.Owners.{IsOwnedBy-after, IsOwnedBy-draft, IsOwnedBy-left}
 use Rattle.qg_tree_edits.proofs.Owners.{rewritten-owners}
 use Rattle.std.specs.Prelude.{Err}
-use Rattle.qg_blocks.proofs.Stopping.{stops-err, stops-read}
+use Rattle.qg_blocks.proofs.Stopping.{stops-err}
 use Rattle.qg_tree_edits.proofs.rooting.shrink.Goals as goal
 
 pub clear_at-requires-clause-size : goal.clear_at-requires-clause-size
@@ -241,9 +241,7 @@ returns-in_err-leave_node-in-Some-clause-stops g c =
     let rewritten = c.clear_at.ensures.cleared fresh.node fresh.here in
     let sizes = (rewritten-spares old mid c.args.now c.args.tree.now.next fresh.node fresh.here rewritten).sizes in
     stops-err (Unit {0}) c.from_residual.result fault mid.blocks.draft.sizes old.blocks.draft.sizes bytes bytes
-    c.from_residual.ensures.1 sizes refl
-    (stops-read {A = Unit {0}} (Err fault) mid.blocks.draft.sizes bytes c.args.now
-    c.in_err-leave_node-in-Some.ensures.broken)
+    c.from_residual.ensures.1 sizes refl c.in_err-leave_node-in-Some.ensures.stops
 
 pub returns-in_ok-leave_node-in-Some-clause-fails : goal.returns-in_ok-leave_node-in-Some-clause-fails
 returns-in_ok-leave_node-in-Some-clause-fails g c =

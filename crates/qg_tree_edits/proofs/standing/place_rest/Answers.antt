@@ -5,6 +5,7 @@ use Rattle.qg_node.specs.NodeText.{IsNode}
 use Rattle.qg_node_alloc.specs.Changes.{Makes}
 use Rattle.qg_node_alloc.specs.Calls.{LeavesBe}
 use Rattle.qg_node_alloc.specs.Land.{IsDrafted}
+use Rattle.qg_blocks.proofs.Stopping.{stops-err}
 use Rattle.qg_tree_edits.specs.Editing.{with_owner}
 use Rattle.qg_tree_edits.proofs.Placed.{Moves-made, StandsInstead-made}
 use Rattle.qg_tree_edits.proofs.PlacedBehind.{IsNode-with_owner, with_owner-generation, with_owner-level}
@@ -49,9 +50,6 @@ returns-in_err-more-in-Some-clause-rests g c =
     (g.D.Disk.history c.make_node.new.disk) (g.D.Disk.size c.args.disk.now) (g.D.Disk.size c.make_node.new.disk) n)
     dated c.make_node.ensures.rests
 
-pub returns-in_err-more-in-Some-clause-reads : goal.returns-in_err-more-in-Some-clause-reads
-returns-in_err-more-in-Some-clause-reads g c most all = c.make_node.ensures.reads most (λ q. all c.args.book.now q)
-
 pub returns-in_ok-more-in-Some-clause-placed : goal.returns-in_ok-more-in-Some-clause-placed
 returns-in_ok-more-in-Some-clause-placed g c =
     let old = c.args.land.now in
@@ -84,10 +82,9 @@ returns-in_ok-more-in-Some-clause-rests g c =
     (g.D.Disk.history c.make_node.new.disk) (g.D.Disk.size c.args.disk.now) (g.D.Disk.size c.make_node.new.disk) n)
     dated c.make_node.ensures.rests
 
-pub returns-in_ok-more-in-Some-clause-reads : goal.returns-in_ok-more-in-Some-clause-reads
-returns-in_ok-more-in-Some-clause-reads g c most all = c.make_node.ensures.reads most (λ q. all c.args.book.now q)
-
-pub returns-in_err-more-in-Some-clause-unbroken : goal.returns-in_err-more-in-Some-clause-unbroken
-returns-in_err-more-in-Some-clause-unbroken g c =
-    let p = err_from_is_err_and c.from_residual.result c.from_residual.ensures.1 in
-    rw (p.1, p.2) (unbroken-other ℕ Instead c.in_err-more-in-Some.field-0.0 c.in_err-more-in-Some.ensures.unbroken)
+pub returns-in_err-more-in-Some-clause-stops : goal.returns-in_err-more-in-Some-clause-stops
+returns-in_err-more-in-Some-clause-stops g c =
+    let sizes = c.args.land.now.blocks.draft.sizes in
+    let bytes = g.D.Disk.size c.args.disk.now in
+    stops-err ℕ c.from_residual.result c.in_err-more-in-Some.field-0.0 sizes sizes bytes bytes
+    c.from_residual.ensures.1 refl refl c.in_err-more-in-Some.ensures.stops

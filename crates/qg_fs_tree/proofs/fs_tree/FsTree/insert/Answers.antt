@@ -13,12 +13,12 @@ use Rattle.qg_fs_tree.proofs.fs_tree.FsTree.insert.Goals as goal
 
 pub returns-in_err-insert-clause-reads : goal.returns-in_err-insert-clause-reads
 returns-in_err-insert-clause-reads g c =
-    let most = c.insert.ensures.reads 1 (λ book q. omega arith) in
+    let most = c.insert.ensures.reads in
     omega (arith, most)
 
 pub returns-clause-reads : goal.returns-clause-reads
 returns-clause-reads g c =
-    let most = c.insert.ensures.reads 1 (λ book q. omega arith) in
+    let most = c.insert.ensures.reads in
     omega (arith, most)
 
 pub returns-clause-inserted : goal.returns-clause-inserted

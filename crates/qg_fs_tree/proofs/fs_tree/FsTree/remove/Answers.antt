@@ -16,12 +16,12 @@ use Rattle.qg_fs_tree.proofs.fs_tree.FsTree.remove.Goals as goal
 
 pub returns-in_err-remove-clause-reads : goal.returns-in_err-remove-clause-reads
 returns-in_err-remove-clause-reads g c =
-    let most = c.remove.ensures.reads 1 (λ book q. omega arith) in
+    let most = c.remove.ensures.reads in
     omega (arith, most)
 
 pub returns-clause-reads : goal.returns-clause-reads
 returns-clause-reads g c =
-    let most = c.remove.ensures.reads 1 (λ book q. omega arith) in
+    let most = c.remove.ensures.reads in
     omega (arith, most)
 
 pub returns-clause-removed : goal.returns-clause-removed

@@ -13,12 +13,12 @@ use Rattle.qg_fs_tree.proofs.fs_tree.FsTree.replace.Goals as goal
 
 pub returns-in_err-replace-clause-reads : goal.returns-in_err-replace-clause-reads
 returns-in_err-replace-clause-reads g c =
-    let most = c.replace.ensures.reads 1 (λ book q. omega arith) in
+    let most = c.replace.ensures.reads in
     omega (arith, most)
 
 pub returns-clause-reads : goal.returns-clause-reads
 returns-clause-reads g c =
-    let most = c.replace.ensures.reads 1 (λ book q. omega arith) in
+    let most = c.replace.ensures.reads in
     omega (arith, most)
 
 pub returns-clause-replaced : goal.returns-clause-replaced

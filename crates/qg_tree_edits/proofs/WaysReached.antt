@@ -7,7 +7,7 @@ use Rattle.std.proofs.lemmas.List.Sums.{sum_by-cons}
 use Rattle.qg_node.specs.declared.pointer.Pointer.{Pointer}
 use Rattle.qg_node.specs.declared.node.Node.{Node}
 use Rattle.qg_node.specs.Nodes.{own_pointers}
-use Rattle.qg_tree_edits.specs.Tree.{Reaches}
+use Rattle.qg_tree_read.specs.Tree.{Reaches}
 use Rattle.qg_tree_edits.specs.Counting.{pointers_there, ways, ways_each}
 use Rattle.qg_tree_edits.proofs.Ways.{one-other}
 

@@ -10,8 +10,8 @@ use Rattle.qg_super.proofs.Slots.{IsSlotAt-is_slot, is_slot-slot_at}
 use Rattle.qg_space.proofs.Marks.{slots_apart}
 use Rattle.qg_tree_edits.specs.Counting.{one}
 use Rattle.qg_tree_edits.proofs.Ways.{one-here, one-other}
-use Rattle.qg_fs_tree.specs.Standing.{every_slot}
-use Rattle.qg_fs_tree.proofs.SlotSums.{IsOnce}
+use Rattle.qg_tree_edits.specs.OwnSlots.{every_slot}
+use Rattle.qg_tree_edits.proofs.SlotSums.{IsOnce}
 
 module _ (sizes : Sizes) where
   -- slots from a number on

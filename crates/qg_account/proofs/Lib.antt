@@ -1,0 +1,12 @@
+pub mod Weighing
+pub mod CountsByOwners
+pub mod ChangeSteps
+pub mod GroupsAddUp
+pub mod CounterShifts
+pub mod PivotOwners
+pub mod GroupMembers
+pub mod MovedGroups
+pub mod ListedOnce
+pub mod TraceTells
+pub mod SnapshotChanges
+pub mod DeletionChanges

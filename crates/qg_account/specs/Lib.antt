@@ -1,0 +1,9 @@
+pub mod Standing
+pub mod Moves
+pub mod Pivots
+pub mod Updating
+pub mod Laws
+pub mod TraceLaws
+pub mod Snapshots
+pub mod Deletions
+pub mod Examples

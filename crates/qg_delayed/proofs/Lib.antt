@@ -1,0 +1,10 @@
+pub mod Listing
+pub mod Totals
+pub mod Entries
+pub mod Books
+pub mod Learning
+pub mod Joining
+pub mod InTurn
+pub mod Flushed
+pub mod OneByOne
+pub mod Existing

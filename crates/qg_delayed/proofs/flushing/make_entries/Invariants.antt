@@ -1,0 +1,17 @@
+use Rattle.std.proofs.Common.{◌≡◌, ◌≤◌}
+use Rattle.qg_delayed.specs.Flushing.{edits_of}
+use Rattle.qg_delayed.specs.LookUps.{Unwritten}
+use Rattle.qg_delayed.specs.Making.{LeftByEdits}
+use Rattle.qg_delayed.proofs.OneByOne.{Going}
+use Rattle.qg_delayed.proofs.flushing.make_entries.Given as goal
+
+abbrev pub invariant-loop-at : goal.invariant-loop-at
+invariant-loop-at g l = record {
+  going : Going g.B.RefBook.stands g.B.RefBook.holds g.B.RefBook.has_room g.B.RefBook.edits
+      (edits_of l.entries.entries) (edits_of l.at-iterator) l.initial.book l.initial.land
+      l.initial.disk l.book l.land l.disk;
+  left : LeftByEdits g.B.RefBook.edits l.initial.land l.initial.disk l.land l.disk;
+  unwritten : Unwritten g.D.Disk.history g.D.Disk.size l.initial.disk l.disk;
+  faults : g.D.Disk.faults l.disk ≡ g.D.Disk.faults l.initial.disk;
+  rise : l.initial.reads ≤ l.reads;
+}

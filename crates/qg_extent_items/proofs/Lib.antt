@@ -1,0 +1,16 @@
+pub mod Splices
+pub mod Keyed
+pub mod PartKeys
+pub mod CountsTold
+pub mod Sorted
+pub mod Entries
+pub mod TheBook
+pub mod Opened
+pub mod Steps
+pub mod Standings
+pub mod RecordSteps
+pub mod Allowed
+pub mod BookEdited
+pub mod OneAddress
+pub mod FreeNumbers
+pub mod References

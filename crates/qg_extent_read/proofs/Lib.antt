@@ -1,0 +1,11 @@
+pub mod Ways
+pub mod Arrived
+pub mod Filled
+pub mod Said
+pub mod Keyed
+pub mod Entries
+pub mod Told
+pub mod Taken
+pub mod Turns
+pub mod Kept
+pub mod Sums

@@ -1,0 +1,4 @@
+pub mod Looked
+pub mod Ways
+pub mod Leaves
+pub mod Kept

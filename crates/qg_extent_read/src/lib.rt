@@ -1,0 +1,20 @@
+//! What the extent tree has at one address: the record of what begins there, and the references to it.
+#![tactic(auto)]
+
+mod counting;
+mod descent;
+mod heads;
+mod keys;
+mod leaf;
+mod parts;
+mod reader;
+mod reading;
+mod references;
+mod saying;
+
+pub use counting::count_at;
+pub use heads::head_at;
+pub use parts::parts_at;
+pub use reader::PartReader;
+pub use reading::read_parts;
+pub use references::refs_at;
