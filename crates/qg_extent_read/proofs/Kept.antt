@@ -1,13 +1,15 @@
 -- What readers keep of parts that they have taken.
-use Rattle.std.proofs.Common.{◌≡◌, ℕ, ◌+◌, true, false, Bool, List, [], ◌∷◌, ◌++◌, refl, sym, ap}
+use Rattle.std.proofs.Common.{Option, Some, None, ◌≡◌, ℕ, ◌+◌, true, false, Bool, List, [], ◌∷◌, ◌++◌, refl, sym, ap}
 use Rattle.std.proofs.Common.{subst, ◌∙◌, append-nil, arith}
 use Rattle.std.specs.Prelude.{not, cond, filter, if◌then◌else◌}
-use Rattle.std.specs.List.{fold, list_any}
+use Rattle.std.specs.List.{cons_option, filter_map, fold, list_any}
 use Rattle.std.proofs.lemmas.Bool.{and_parts, not-true, or_parts}
 use Rattle.std.proofs.lemmas.List.{append_assoc}
 use Rattle.std.proofs.lemmas.List.Sums.{sum_by-cons}
+use Rattle.qg_node.specs.declared.item.Item.{Item}
 use Rattle.qg_items.specs.declared.extent.Reference.{Reference}
 use Rattle.qg_items.specs.declared.extent.Reference.TheVariants.{KeyedBlock, SharedBlock, KeyedData, SharedData}
+use Rattle.qg_tree_items.specs.ItemMeaning.{extent_part}
 use Rattle.qg_tree_items.specs.Owed.{is_record, is_told_once}
 use Rattle.qg_tree_items.specs.Record.{same_reference}
 use Rattle.qg_tree_items.specs.Types.{ExtentPart}
@@ -17,8 +19,24 @@ use Rattle.qg_extents.specs.BookRecords.{the_only, told_count, told_in}
 use Rattle.qg_extent_read.specs.declared.counting.Counting.{Counting}
 use Rattle.qg_extent_read.specs.declared.heads.Records.{Records}
 use Rattle.qg_extent_read.specs.declared.heads.Records.TheVariants.{Nothing, One, Several}
-use Rattle.qg_extent_read.specs.Kept.{one_more, only_of, with_count, with_part, with_record}
+use Rattle.qg_extent_read.specs.Kept.{by_part, one_more, only_of, with_count, with_part, with_record}
 use Rattle.qg_extent_read.proofs.Told.{may_tell}
+
+-- ---- what items say
+
+part_next : {R : Type 0} (step : R → ExtentPart → R) (reader : R) (o : Option ExtentPart) (parts : List ExtentPart)
+    → fold step (by_part step reader o) parts ≡ fold step reader (cons_option o parts)
+part_next step reader None parts = refl
+part_next step reader (Some part) parts = refl
+
+-- a reader that takes items by what they say has taken these parts
+pub fold-parts : {R : Type 0} (step : R → ExtentPart → R) (reader : R) (items : List Item)
+    → fold (λ (r : R) (item : Item). by_part step r (extent_part item)) reader items
+    ≡ fold step reader (filter_map extent_part items)
+fold-parts step reader [] = refl
+fold-parts step reader (item ∷ items) =
+    fold-parts step (by_part step reader (extent_part item)) items
+    ∙ part_next step reader (extent_part item) (filter_map extent_part items)
 
 -- ---- all of them
 

@@ -2,17 +2,15 @@
 use Rattle.std.proofs.Common.{◌≡◌, ℕ, ◌+◌, ◌≤◌, true, false, Bool, List, [], ◌++◌, length, Option, Some, None, refl}
 use Rattle.std.proofs.Common.{sym, ap, subst, ◌∙◌, arith, append-nil}
 use Rattle.std.specs.Prelude.{IfSome, if◌then◌else◌}
-use Rattle.std.specs.List.{filter_map, fold}
+use Rattle.std.specs.List.{fold}
 use Rattle.std.proofs.lemmas.List.{append_assoc, length-append}
-use Rattle.std.proofs.lemmas.List.Elements.{filter_map-append}
 use Rattle.std.proofs.lemmas.List.Sums.{fold-append}
 use Rattle.qg_device.specs.History.{History}
 use Rattle.qg_num.specs.declared.key.Key.{Key}
 use Rattle.qg_node.specs.declared.item.Item.{Item}
 use Rattle.qg_super.specs.Places.{is_served}
 use Rattle.qg_blocks.specs.NodesInMemory.{Draft, Held}
-use Rattle.qg_tree_items.specs.ItemMeaning.{extent_part}
-use Rattle.qg_tree_items.specs.Types.{ExtentPart, Extents}
+use Rattle.qg_tree_items.specs.Types.{Extents}
 use Rattle.qg_tree_read.specs.declared.way.Way.{Way}
 use Rattle.qg_tree_read.specs.Reading.{is_upto, items_within, rest_within}
 use Rattle.qg_tree_read.specs.Tree.{Root, TellsTree, super_of}
@@ -44,7 +42,7 @@ many_when to (Some key) count each = here (is_upto to key) refl where
   here true upto = each key refl upto
   here false upto = tt
 
-pub taken-leaf : {R : Type 0} (after : R → ExtentPart → R) (root : Root) (draft : Draft) (history : History)
+pub taken-leaf : {R : Type 0} (after : R → Item → R) (root : Root) (draft : Draft) (history : History)
     (from to : Key) (whole : List Item) (old new : R) (held : Held) (way : Way)
     → (reached : HasReached root draft history from held way) → TellsTree Extents root draft history whole
     → new ≡ taken_within after old from to reached.leaf.items
@@ -78,11 +76,11 @@ unpaid (Some key) = 8
 
 -- What was taken so far of the items from one key to another. The rest are those from `next` on, if it is told, at
 -- which a leaf begins
-pub record HasTaken {R : Type 0} (after : R → ExtentPart → R) (root : Root) (draft : Draft) (history : History)
+pub record HasTaken {R : Type 0} (after : R → Item → R) (root : Root) (draft : Draft) (history : History)
     (from to : Key) (whole : List Item) (old new : R) (next : Option Key) (before now : ℕ) : Type 0 where
   pub found : List Item
   pub whole_is : items_within from to whole ≡ found ++ rest_within next to whole
-  pub taken : new ≡ fold after old (filter_map extent_part found)
+  pub taken : new ≡ fold after old found
   pub begins : IfSome next (λ key. BeginsLeaf root draft history key)
   pub few : EachSays whole → is_served draft.sizes ≡ true → now ≤ before + (unpaid next + length found)
 
@@ -95,7 +93,7 @@ few_more : (next : Option Key) (before now later found added : ℕ) → now ≤ 
 few_more None before now later found added h k many = omega (arith, h, k)
 few_more (Some key) before now later found added h k many = omega (arith, h, k, many)
 
-pub taken-first : {R : Type 0} (after : R → ExtentPart → R) (root : Root) (draft : Draft) (history : History)
+pub taken-first : {R : Type 0} (after : R → Item → R) (root : Root) (draft : Draft) (history : History)
     (from to : Key) (whole : List Item) (old new : R) (next : Option Key) (before now : ℕ)
     → HasTakenLeaf after root draft history from to whole old new next → now ≤ before + 8
     → HasTaken after root draft history from to whole old new next before now
@@ -107,7 +105,7 @@ taken-first after root draft history from to whole old new next before now leaf 
   few = λ each served. few_first next before now (length leaf.added) h;
 }
 
-pub taken-more : {R : Type 0} (after : R → ExtentPart → R) (root : Root) (draft : Draft) (history : History)
+pub taken-more : {R : Type 0} (after : R → Item → R) (root : Root) (draft : Draft) (history : History)
     (from first to : Key) (whole : List Item) (old mid new : R) (next : Option Key) (before now later : ℕ)
     → HasTaken after root draft history from to whole old mid (Some first) before now
     → HasTakenLeaf after root draft history first to whole mid new next → later ≤ now + 8
@@ -117,9 +115,8 @@ taken-more {R} after root draft history from first to whole old mid new next bef
   whole_is = so_far.whole_is ∙ ap (λ (xs : List Item). so_far.found ++ xs) leaf.whole_is
       ∙ sym (append_assoc so_far.found leaf.added (rest_within next to whole));
   taken = leaf.taken
-      ∙ ap (λ (x : R). fold after x (filter_map extent_part leaf.added)) so_far.taken
-      ∙ sym (fold-append after old (filter_map extent_part so_far.found) (filter_map extent_part leaf.added))
-      ∙ ap (fold after old) (sym (filter_map-append extent_part so_far.found leaf.added));
+      ∙ ap (λ (x : R). fold after x leaf.added) so_far.taken
+      ∙ sym (fold-append after old so_far.found leaf.added);
   begins = leaf.begins;
   few = λ each served.
       let long : length (so_far.found ++ leaf.added) ≡ length so_far.found + length leaf.added =
@@ -130,20 +127,19 @@ taken-more {R} after root draft history from first to whole old mid new next bef
 }
 
 -- at the end
-pub taken-all : {R : Type 0} (after : R → ExtentPart → R) (root : Root) (draft : Draft) (history : History)
+pub taken-all : {R : Type 0} (after : R → Item → R) (root : Root) (draft : Draft) (history : History)
     (from to : Key) (whole : List Item) (old new : R) (before now : ℕ)
     → HasTaken after root draft history from to whole old new None before now
     → new ≡ taken_within after old from to whole
 taken-all after root draft history from to whole old new before now so_far =
-    so_far.taken ∙ ap (λ (xs : List Item). fold after old (filter_map extent_part xs))
-    (sym (append-nil so_far.found) ∙ sym so_far.whole_is)
+    so_far.taken ∙ ap (fold after old) (sym (append-nil so_far.found) ∙ sym so_far.whole_is)
 
 few_upto : (next : Option Key) (before now found rest all : ℕ) → all ≡ found + rest
     → now ≤ before + (unpaid next + found) → now ≤ before + (16 + all)
 few_upto None before now found rest all is h = omega (arith, is, h)
 few_upto (Some key) before now found rest all is h = omega (arith, is, h)
 
-all_length : {R : Type 0} (after : R → ExtentPart → R) (root : Root) (draft : Draft) (history : History)
+all_length : {R : Type 0} (after : R → Item → R) (root : Root) (draft : Draft) (history : History)
     (from to : Key) (whole : List Item) (old new : R) (next : Option Key) (before now : ℕ)
     → (so_far : HasTaken after root draft history from to whole old new next before now)
     → length (items_within from to whole) ≡ length so_far.found + length (rest_within next to whole)
@@ -151,7 +147,7 @@ all_length after root draft history from to whole old new next before now so_far
     ap (λ (xs : List Item). length xs) so_far.whole_is ∙ length-append so_far.found (rest_within next to whole)
 
 -- and whenever a leaf can't be read
-pub few-last : {R : Type 0} (after : R → ExtentPart → R) (root : Root) (draft : Draft) (history : History)
+pub few-last : {R : Type 0} (after : R → Item → R) (root : Root) (draft : Draft) (history : History)
     (from first to : Key) (whole : List Item) (old new : R) (before now later : ℕ)
     → HasTaken after root draft history from to whole old new (Some first) before now
     → EachSays whole → is_served draft.sizes ≡ true → later ≤ now + 8
@@ -161,7 +157,7 @@ few-last after root draft history from first to whole old new before now later s
     let few = so_far.few each served in
     omega (arith, all, few, h)
 
-pub few-all : {R : Type 0} (after : R → ExtentPart → R) (root : Root) (draft : Draft) (history : History)
+pub few-all : {R : Type 0} (after : R → Item → R) (root : Root) (draft : Draft) (history : History)
     (from to : Key) (whole : List Item) (old new : R) (next : Option Key) (before now : ℕ)
     → HasTaken after root draft history from to whole old new next before now
     → EachSays whole → is_served draft.sizes ≡ true

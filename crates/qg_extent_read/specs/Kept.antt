@@ -1,7 +1,9 @@
--- What readers keep of the parts that they take (this project's own).
+-- What readers keep of the items that they take (this project's own).
 use Rattle.std.specs.Prelude.{◌≤◌, List, [], ◌∷◌, ◌++◌, Option, Some, None, if◌then◌else◌}
 use Rattle.std.specs.List.{count_by}
+use Rattle.qg_node.specs.declared.item.Item.{Item}
 use Rattle.qg_items.specs.declared.extent.Reference.{Reference}
+use Rattle.qg_tree_items.specs.ItemMeaning.{extent_part}
 use Rattle.qg_tree_items.specs.Types.{ExtentPart}
 use Rattle.qg_tree_items.specs.Types.{DataRecord, NodeRecord, Referenced}
 use Rattle.qg_tree_items.specs.Owed.{is_record}
@@ -48,3 +50,23 @@ with_reference counts (Referenced address reference count) =
 -- no reference is there twice
 abbrev pub AreOnce : List Counted → Type 0
 AreOnce counts = (reference : Reference) → count_by (λ entry. same_reference reference entry.reference) counts ≤ 1
+
+-- ---- of an item
+
+-- what a step does with what an item says; with none it does nothing
+abbrev pub by_part : {R : Type 0} → (R → ExtentPart → R) → R → Option ExtentPart → R
+by_part step reader None = reader
+by_part step reader (Some part) = step reader part
+
+-- what each reader is once it has taken an item
+abbrev pub parts_with : List ExtentPart → Item → List ExtentPart
+parts_with parts item = by_part with_part parts (extent_part item)
+
+abbrev pub records_with : Records → Item → Records
+records_with records item = by_part with_record records (extent_part item)
+
+abbrev pub counting_with : Counting → Item → Counting
+counting_with counting item = by_part with_count counting (extent_part item)
+
+abbrev pub references_with : List Counted → Item → List Counted
+references_with counts item = by_part with_reference counts (extent_part item)

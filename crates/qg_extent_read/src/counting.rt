@@ -10,13 +10,16 @@ ghost use Rattle.qg_tree_read.specs.Stopping.{StopsOnWay};
 ghost use Rattle.qg_tree_read.specs.Tree.{TellsTree};
 ghost use Rattle.qg_tree_read.specs.Way.{FailsOnWay, HasRead, IsReadable};
 ghost use Rattle.qg_extents.specs.BookRecords.{told_count, told_in};
+ghost use Rattle.qg_extent_read.specs.Kept.{with_count};
 ghost use Rattle.qg_extent_read.specs.Looked.{TellsRecords, told_at};
 
-use crate::PartReader;
+use crate::ItemReader;
 use crate::keys::{reference_from, reference_to};
-use crate::reading::read_parts;
+use crate::reading::read_items;
+use crate::saying::said;
 use qg_blocks::Blocks;
 use qg_disk::Disk;
+use qg_node::Item;
 use qg_num::{Address, BlockFault, NoMemory, Steps};
 use qg_refs::{Reference, is_same};
 use qg_tree_read::Tree;
@@ -30,26 +33,34 @@ struct Counting {
     count: u32,
 }
 
-impl PartReader for Counting {
-    ghost use Rattle.qg_extent_read.specs.Kept.{with_count};
+impl ItemReader for Counting {
+    ghost use Rattle.qg_extent_read.specs.Kept.{counting_with};
 
-    ghost after = { with_count };
+    ghost after = { counting_with };
 
-    fn take(&mut self, part: ExtentPart) -> Result<(), NoMemory> {
-        match part {
-            ExtentPart::Referenced {
-                reference,
-                count,
-                ..
-            } => {
-                if is_same(&self.reference, &reference) {
-                    self.count = count;
-                }
-            }
-            ExtentPart::DataRecord { .. } => {}
-            ExtentPart::NodeRecord { .. } => {}
+    fn take(&mut self, item: &Item) -> Result<(), NoMemory> {
+        if let Some(part) = said(item) {
+            count_part(self, part);
         }
         Ok(())
+    }
+}
+
+fn count_part(counting: &mut Counting, part: ExtentPart)
+    ensures { counting.new ≡ with_count counting.old part }
+{
+    match part {
+        ExtentPart::Referenced {
+            reference,
+            count,
+            ..
+        } => {
+            if is_same(&counting.reference, &reference) {
+                counting.count = count;
+            }
+        }
+        ExtentPart::DataRecord { .. } => {}
+        ExtentPart::NodeRecord { .. } => {}
     }
 }
 
@@ -89,6 +100,6 @@ pub fn count_at<D: Disk, L: Ledger>(
     };
     let from = reference_from(at, &reference);
     let to = reference_to(at, &reference);
-    read_parts::<Counting, D, L>(tree, blocks, disk, from, to, &mut counting, reads)?;
+    read_items::<Counting, D, L>(tree, blocks, disk, from, to, &mut counting, reads)?;
     Ok(counting.count)
 }

@@ -11,16 +11,18 @@ ghost use Rattle.qg_tree_read.specs.Stopping.{StopsOnWay};
 ghost use Rattle.qg_tree_read.specs.Tree.{TellsTree};
 ghost use Rattle.qg_tree_read.specs.Way.{FailsOnWay, HasRead, IsReadable};
 ghost use Rattle.qg_extents.specs.BookRecords.{the_record};
-ghost use Rattle.qg_extent_read.specs.Kept.{one_more, only_of};
+ghost use Rattle.qg_extent_read.specs.Kept.{one_more, only_of, with_record};
 ghost use Rattle.qg_extent_read.specs.Looked.{IsHead, TellsRecords, told_at};
 
-use crate::PartReader;
+use crate::ItemReader;
 use crate::keys::key_at;
-use crate::reading::read_parts;
+use crate::reading::read_items;
+use crate::saying::said;
 use qg_blocks::Blocks;
 use qg_disk::Disk;
 use qg_extents::{Head, head_of, is_record};
 use qg_items::kind::{EXTENT_ITEM, METADATA_ITEM};
+use qg_node::Item;
 use qg_num::{Address, BlockFault, NoMemory, Steps};
 use qg_tree_read::Tree;
 use qg_walk::tree_items::image::ExtentPart;
@@ -34,16 +36,26 @@ enum Records {
     Several,
 }
 
-impl PartReader for Records {
-    ghost use Rattle.qg_extent_read.specs.Kept.{with_record};
+impl ItemReader for Records {
+    ghost use Rattle.qg_extent_read.specs.Kept.{records_with};
 
-    ghost after = { with_record };
+    ghost after = { records_with };
 
-    fn take(&mut self, part: ExtentPart) -> Result<(), NoMemory> {
-        if is_record(&part) {
-            *self = one_more(*self, part);
+    fn take(&mut self, item: &Item) -> Result<(), NoMemory> {
+        if let Some(part) = said(item) {
+            *self = with_record(*self, part);
         }
         Ok(())
+    }
+}
+
+fn with_record(records: Records, part: ExtentPart) -> Records
+    ensures { result ≡ with_record records part }
+{
+    if is_record(&part) {
+        one_more(records, part)
+    } else {
+        records
     }
 }
 
@@ -86,7 +98,7 @@ pub fn head_at<D: Disk, L: Ledger>(
     let mut records = Records::Nothing;
     let from = key_at(at, EXTENT_ITEM, 0);
     let to = key_at(at, METADATA_ITEM + 1, 0);
-    read_parts::<Records, D, L>(tree, blocks, disk, from, to, &mut records, reads)?;
+    read_items::<Records, D, L>(tree, blocks, disk, from, to, &mut records, reads)?;
     Ok(head_among(blocks.nodesize(), records))
 }
 

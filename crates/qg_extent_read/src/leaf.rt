@@ -1,13 +1,15 @@
 // What a reader takes of one leaf.
-ghost use Rattle.std.specs.Prelude.{◌≡◌, map, IsSome, IsTrue, OnOk, Some};
+ghost use Rattle.std.specs.Prelude.{◌≡◌, map, not, IsSome, IsTrue, OnOk, Some};
+ghost use Rattle.std.specs.List.{list_all};
+ghost use Rattle.std.specs.Ordering.{is_lt};
+ghost use Rattle.qg_num.specs.Key.{key_cmp};
 ghost use Rattle.qg_node.specs.Nodes.{is_ascending};
 ghost use Rattle.qg_blocks.specs.Below.{leaf_items};
 ghost use Rattle.qg_tree_read.specs.Reading.{items_within};
 ghost use Rattle.qg_tree_read.specs.Way.{next_within};
 ghost use Rattle.qg_extent_read.specs.Leaves.{taken_within};
 
-use crate::PartReader;
-use crate::saying::said_within;
+use crate::ItemReader;
 use qg_node::{Item, Node};
 use qg_num::{Key, NoMemory};
 use qg_shape::find_item;
@@ -23,8 +25,8 @@ pub(crate) fn leaf_items(node: &Node) -> &[Item]
     }
 }
 
-/// Has a reader take what the items from one key to another say.
-pub(crate) fn take_within<R: PartReader>(
+/// Has a reader take the items from one key to another.
+pub(crate) fn take_within<R: ItemReader>(
     items: &[Item],
     from: Key,
     to: Key,
@@ -38,9 +40,7 @@ pub(crate) fn take_within<R: PartReader>(
         if to.is_before(item.key) {
             return Ok(());
         }
-        if let Some(part) = said_within(from, to, item) {
-            reader.take(part)?;
-        }
+        reader.take(item)?;
     }
     Ok(())
 }
@@ -48,6 +48,7 @@ pub(crate) fn take_within<R: PartReader>(
 // The items from a key on.
 fn items_from(items: &[Item], key: Key) -> &[Item]
     requires { IsTrue (is_ascending (map (λ item. item.key) items.now)) }
+    ensures from { IsTrue (list_all (λ item. not (is_lt (key_cmp item.key key))) result.now) }
     ensures within { (to : Key) → items_within key to items.now ≡ items_within key to result.now }
     ensures ascending { IsTrue (is_ascending (map (λ item. item.key) result.now)) }
 {

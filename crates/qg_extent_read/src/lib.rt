@@ -15,6 +15,6 @@ mod saying;
 pub use counting::count_at;
 pub use heads::head_at;
 pub use parts::parts_at;
-pub use reader::PartReader;
-pub use reading::read_parts;
+pub use reader::ItemReader;
+pub use reading::read_items;
 pub use references::refs_at;

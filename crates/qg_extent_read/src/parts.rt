@@ -1,5 +1,5 @@
 // All that stands at an address.
-ghost use Rattle.std.specs.Prelude.{◌≡◌, ◌+◌, ◌≤◌, List, length, IfOk};
+ghost use Rattle.std.specs.Prelude.{◌≡◌, ◌+◌, ◌≤◌, ◌++◌, ◌∷◌, [], List, length, IfOk, OnOk};
 ghost use Rattle.qg_device.specs.Cause.{HasCause};
 ghost use Rattle.qg_device.specs.History.{Event, Recorded};
 ghost use Rattle.qg_node.specs.declared.item.Item.{Item as ItemValue};
@@ -10,12 +10,14 @@ ghost use Rattle.qg_tree_read.specs.Tree.{TellsTree};
 ghost use Rattle.qg_tree_read.specs.Way.{FailsOnWay, HasRead, IsReadable};
 ghost use Rattle.qg_extent_read.specs.Looked.{TellsRecords, told_at};
 
-use crate::PartReader;
+use crate::ItemReader;
 use crate::keys::key_at;
-use crate::reading::read_parts;
+use crate::reading::read_items;
+use crate::saying::said;
 use qg_blocks::Blocks;
 use qg_disk::Disk;
 use qg_items::kind::{EXTENT_ITEM, SHARED_DATA_REF};
+use qg_node::Item;
 use qg_num::{Address, BlockFault, NoMemory, Steps};
 use qg_tree_read::Tree;
 use qg_walk::tree_items::image::ExtentPart;
@@ -38,44 +40,53 @@ impl Model for Parts {
     ghost view = { λ all. all.parts.items };
 }
 
-impl PartReader for Parts {
-    ghost use Rattle.qg_extent_read.specs.Kept.{with_part};
+impl ItemReader for Parts {
+    ghost use Rattle.qg_extent_read.specs.Kept.{parts_with};
 
-    ghost after = { with_part };
+    ghost after = { parts_with };
 
-    fn take(&mut self, part: ExtentPart) -> Result<(), NoMemory> {
-        // Each part is made anew: the toolchain finds no proof of one that is passed on whole.
-        match part {
-            ExtentPart::DataRecord {
-                address,
-                bytes,
-                extent,
-            } => self.parts.push(ExtentPart::DataRecord {
-                address,
-                bytes,
-                extent,
-            })?,
-            ExtentPart::NodeRecord {
-                address,
-                level,
-                extent,
-            } => self.parts.push(ExtentPart::NodeRecord {
-                address,
-                level,
-                extent,
-            })?,
-            ExtentPart::Referenced {
-                address,
-                reference,
-                count,
-            } => self.parts.push(ExtentPart::Referenced {
-                address,
-                reference,
-                count,
-            })?,
+    fn take(&mut self, item: &Item) -> Result<(), NoMemory> {
+        match said(item) {
+            None => Ok(()),
+            Some(part) => put_part(&mut self.parts, part),
         }
-        Ok(())
     }
+}
+
+// Each part is made anew: the toolchain finds no proof of one that is passed on whole.
+fn put_part(parts: &mut Vec<ExtentPart>, part: ExtentPart) -> Result<(), NoMemory>
+    ensures { OnOk result (parts.new.items ≡ parts.old.items ++ part ∷ []) }
+{
+    match part {
+        ExtentPart::DataRecord {
+            address,
+            bytes,
+            extent,
+        } => parts.push(ExtentPart::DataRecord {
+            address,
+            bytes,
+            extent,
+        })?,
+        ExtentPart::NodeRecord {
+            address,
+            level,
+            extent,
+        } => parts.push(ExtentPart::NodeRecord {
+            address,
+            level,
+            extent,
+        })?,
+        ExtentPart::Referenced {
+            address,
+            reference,
+            count,
+        } => parts.push(ExtentPart::Referenced {
+            address,
+            reference,
+            count,
+        })?,
+    }
+    Ok(())
 }
 
 /// What the items of an address say, in the order of their keys: its record, and then the references to it.
@@ -112,6 +123,6 @@ pub fn parts_at<D: Disk, L: Ledger>(
     };
     let from = key_at(at, EXTENT_ITEM, 0);
     let to = key_at(at, SHARED_DATA_REF + 1, 0);
-    read_parts::<Parts, D, L>(tree, blocks, disk, from, to, &mut all, reads)?;
+    read_items::<Parts, D, L>(tree, blocks, disk, from, to, &mut all, reads)?;
     Ok(all.parts)
 }

@@ -1,16 +1,16 @@
-// Who takes what items of the extent tree say.
+// Who takes items of the extent tree.
+use qg_node::Item;
 use qg_num::NoMemory;
-use qg_walk::tree_items::image::ExtentPart;
 
-/// What is kept of parts of the extent tree that are taken one after another (this project's own).
-pub trait PartReader: Sized {
+/// What is kept of items of the extent tree that are taken one after another (this project's own).
+pub trait ItemReader: Sized {
     ghost use Rattle.std.specs.Prelude.{◌≡◌, OnOk};
-    ghost use Rattle.qg_tree_items.specs.Types.{ExtentPart as Part};
+    ghost use Rattle.qg_node.specs.declared.item.Item.{Item as ItemValue};
 
     /// What it is once it has taken one more.
-    ghost after: { Self → Part → Self };
+    ghost after: { Self → ItemValue → Self };
 
     /// Takes one more.
-    fn take(&mut self, part: ExtentPart) -> Result<(), NoMemory>
-        ensures { OnOk result (self.new ≡ after self.old part) };
+    fn take(&mut self, item: &Item) -> Result<(), NoMemory>
+        ensures { OnOk result (self.new ≡ after self.old item.now) };
 }

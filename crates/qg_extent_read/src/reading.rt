@@ -1,4 +1,4 @@
-// The parts from one key to another, leaf by leaf.
+// The items from one key to another, leaf by leaf.
 ghost use Rattle.std.specs.Prelude.{◌≡◌, ◌+◌, ◌≤◌, List, length, IfOk, OnOk};
 ghost use Rattle.qg_device.specs.Cause.{HasCause};
 ghost use Rattle.qg_device.specs.History.{Event, Recorded};
@@ -12,7 +12,7 @@ ghost use Rattle.qg_tree_read.specs.Way.{FailsOnWay, HasRead, IsFurther, IsReada
 ghost use Rattle.qg_extent_read.specs.Leaves.{HasTakenLeaf, taken_within};
 ghost use Rattle.qg_extent_read.specs.Looked.{TellsRecords};
 
-use crate::PartReader;
+use crate::ItemReader;
 use crate::descent::reach;
 use crate::leaf::{leaf_items, next_within, take_within};
 use qg_blocks::Blocks;
@@ -21,12 +21,12 @@ use qg_num::{BlockFault, Key, Steps};
 use qg_tree_read::Tree;
 use std::sync::ledger::Ledger;
 
-/// Has a reader take what the items of the extent tree from one key to another say, both included, in the order of
-/// their keys. No body is copied.
+/// Has a reader take the items of the extent tree from one key to another, both included, in the order of their keys.
+/// No item is copied.
 ///
 /// It reads leaf by leaf, going down from the root for each: 16 nodes at most for the first and the last leaf, and no
 /// more for those between than they have items.
-pub fn read_parts<R: PartReader, D: Disk, L: Ledger>(
+pub fn read_items<R: ItemReader, D: Disk, L: Ledger>(
     tree: &Tree,
     blocks: &mut Blocks,
     disk: &mut D,
@@ -59,9 +59,9 @@ pub fn read_parts<R: PartReader, D: Disk, L: Ledger>(
     Ok(())
 }
 
-// Has a reader take what the items from one key to another say in the leaf that the first key leads to, and answers the
-// key from which more may stand in the leaves behind.
-fn take_leaf<R: PartReader, D: Disk, L: Ledger>(
+// Has a reader take the items from one key to another in the leaf that the first key leads to, and answers the key from
+// which more may stand in the leaves behind.
+fn take_leaf<R: ItemReader, D: Disk, L: Ledger>(
     tree: &Tree,
     blocks: &mut Blocks,
     disk: &mut D,

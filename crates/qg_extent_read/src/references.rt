@@ -1,5 +1,5 @@
 // The references to what begins at an address.
-ghost use Rattle.std.specs.Prelude.{◌≡◌, ◌+◌, ◌≤◌, true, List, length, IfOk};
+ghost use Rattle.std.specs.Prelude.{◌≡◌, ◌+◌, ◌≤◌, true, List, length, IfOk, OnOk};
 ghost use Rattle.qg_device.specs.Cause.{HasCause};
 ghost use Rattle.qg_device.specs.History.{Event, Recorded};
 ghost use Rattle.qg_items.specs.declared.extent.Reference.{Reference as Named};
@@ -12,15 +12,17 @@ ghost use Rattle.qg_tree_read.specs.Tree.{TellsTree};
 ghost use Rattle.qg_tree_read.specs.Way.{FailsOnWay, HasRead, IsReadable};
 ghost use Rattle.qg_refs.specs.Counts.{count_of};
 ghost use Rattle.qg_extents.specs.BookRecords.{told_count, told_in};
-ghost use Rattle.qg_extent_read.specs.Kept.{AreOnce};
+ghost use Rattle.qg_extent_read.specs.Kept.{AreOnce, with_reference};
 ghost use Rattle.qg_extent_read.specs.Looked.{TellsRecords, told_at};
 
-use crate::PartReader;
+use crate::ItemReader;
 use crate::keys::key_at;
-use crate::reading::read_parts;
+use crate::reading::read_items;
+use crate::saying::said;
 use qg_blocks::Blocks;
 use qg_disk::Disk;
 use qg_items::kind::{EXTENT_DATA_REF, SHARED_BLOCK_REF, SHARED_DATA_REF, TREE_BLOCK_REF};
+use qg_node::Item;
 use qg_num::{Address, BlockFault, NoMemory, Steps};
 use qg_refs::{Counted, RefList, Reference};
 use qg_tree_read::Tree;
@@ -44,23 +46,32 @@ impl Model for References {
     ghost view = { λ references. references.counts.items };
 }
 
-impl PartReader for References {
-    ghost use Rattle.qg_extent_read.specs.Kept.{with_reference};
+impl ItemReader for References {
+    ghost use Rattle.qg_extent_read.specs.Kept.{references_with};
 
-    ghost after = { with_reference };
+    ghost after = { references_with };
 
-    fn take(&mut self, part: ExtentPart) -> Result<(), NoMemory> {
-        match part {
-            ExtentPart::Referenced {
-                reference,
-                count,
-                ..
-            } => self.counts.push(Counted { reference, count })?,
-            ExtentPart::DataRecord { .. } => {}
-            ExtentPart::NodeRecord { .. } => {}
+    fn take(&mut self, item: &Item) -> Result<(), NoMemory> {
+        match said(item) {
+            None => Ok(()),
+            Some(part) => put_reference(&mut self.counts, part),
         }
-        Ok(())
     }
+}
+
+fn put_reference(counts: &mut Vec<Counted>, part: ExtentPart) -> Result<(), NoMemory>
+    ensures { OnOk result (counts.new.items ≡ with_reference counts.old.items part) }
+{
+    match part {
+        ExtentPart::Referenced {
+            reference,
+            count,
+            ..
+        } => counts.push(Counted { reference, count })?,
+        ExtentPart::DataRecord { .. } => {}
+        ExtentPart::NodeRecord { .. } => {}
+    }
+    Ok(())
 }
 
 /// The references to what begins at an address, each with its count, where each is told once at most.
@@ -98,7 +109,7 @@ pub fn refs_at<D: Disk, L: Ledger>(
     };
     let from = key_at(at, TREE_BLOCK_REF, 0);
     let to = key_at(at, SHARED_DATA_REF + 1, 0);
-    read_parts::<References, D, L>(tree, blocks, disk, from, to, &mut references, reads)?;
+    read_items::<References, D, L>(tree, blocks, disk, from, to, &mut references, reads)?;
     Ok(ordered(alloc, references)?)
 }
 

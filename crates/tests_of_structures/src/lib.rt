@@ -11,6 +11,8 @@ mod counted;
 #[cfg(test)]
 mod direct;
 #[cfg(test)]
+mod extent_items;
+#[cfg(test)]
 mod extents;
 #[cfg(test)]
 mod file_parts;

@@ -11,7 +11,7 @@ use Rattle.qg_extent_read.proofs.reading.take_leaf.Goals as goal
 pub returns-clause-found : goal.returns-clause-found
 returns-clause-found g c items tells =
     let reached = c.in_ok-way.ensures.reached in
-    let after = g.R.PartReader.after in
+    let after = g.R.ItemReader.after in
     let same = leaf-read c.peek.result.now reached.leaf.header reached.leaf.items c.leaf_items-items.result.now
     (sym c.peek.ensures ∙ reached.leaf.is) c.leaf_items-items.ensures in
     let taken = c.in_ok-take_within.ensures

@@ -9,7 +9,7 @@ use Rattle.qg_tree_read.proofs.Stopping.{on_way-err}
 use Rattle.qg_tree_read.proofs.Visits.{HasRead-after}
 use Rattle.qg_extent_read.specs.Leaves.{HasTakenLeaf}
 use Rattle.qg_extent_read.proofs.Turns.{few-all, few-last, taken-all, taken-first, taken-more}
-use Rattle.qg_extent_read.proofs.reading.read_parts.Goals as goal
+use Rattle.qg_extent_read.proofs.reading.read_items.Goals as goal
 
 pub leaves-init : goal.leaves-init
 leaves-init g c = record {
@@ -17,7 +17,7 @@ leaves-init g c = record {
   readable = c.in_ok-next.ensures.readable;
   count = omega (arith, c.in_ok-next.ensures.cause.fine);
   rise = c.in_ok-next.ensures.rise;
-  so_far = λ whole tells. taken-first g.R.PartReader.after c.args.tree.now c.args.blocks.now.draft
+  so_far = λ whole tells. taken-first g.R.ItemReader.after c.args.tree.now c.args.blocks.now.draft
       (g.D.Disk.history c.args.disk.now) c.args.from c.args.to whole c.args.reader.now c.take_leaf.new.reader
       c.in_ok-next.next c.args.reads.now c.take_leaf.new.reads (c.in_ok-next.ensures.found whole tells)
       c.in_ok-next.ensures.reads;
@@ -27,7 +27,7 @@ pub returns-in_err-next-2-clause-reads : goal.returns-in_err-next-2-clause-reads
 returns-in_err-next-2-clause-reads g c items tells =
     let first = c.in-Some.first in
     let so_far = rw c.in-Some.is at (c.leaves.invariant.so_far items tells.tells) in
-    few-last g.R.PartReader.after c.args.tree.now c.args.blocks.now.draft (g.D.Disk.history c.args.disk.now)
+    few-last g.R.ItemReader.after c.args.tree.now c.args.blocks.now.draft (g.D.Disk.history c.args.disk.now)
     c.args.from first c.args.to items c.args.reader.now c.leaves.reader c.args.reads.now c.leaves.reads
     c.take_leaf-in-Some.new.reads so_far tells.says tells.served c.in_err-next-2.ensures.reads
 
@@ -47,7 +47,7 @@ leaves-preserved g c =
     let first = c.in-Some.first in
     let draft = c.args.blocks.now.draft in
     let history = g.D.Disk.history c.args.disk.now in
-    let after = g.R.PartReader.after in
+    let after = g.R.ItemReader.after in
     let taken = λ (whole : List Item) (tells : _).
     subst (λ (d : Draft). HasTakenLeaf after root d history first to whole c.leaves.reader
     c.take_leaf-in-Some.new.reader c.in_ok-next-2.next) c.leaves.invariant.read.draft
@@ -72,12 +72,12 @@ leaves-preserved g c =
 
 pub returns-clause-found : goal.returns-clause-found
 returns-clause-found g c items tells =
-    taken-all g.R.PartReader.after c.args.tree.now c.args.blocks.now.draft (g.D.Disk.history c.args.disk.now)
+    taken-all g.R.ItemReader.after c.args.tree.now c.args.blocks.now.draft (g.D.Disk.history c.args.disk.now)
     c.args.from c.args.to items c.args.reader.now c.leaves.reader c.args.reads.now c.leaves.reads
     (rw c.in_default.is at (c.leaves.invariant.so_far items tells))
 
 pub returns-clause-reads : goal.returns-clause-reads
 returns-clause-reads g c items tells =
-    few-all g.R.PartReader.after c.args.tree.now c.args.blocks.now.draft (g.D.Disk.history c.args.disk.now)
+    few-all g.R.ItemReader.after c.args.tree.now c.args.blocks.now.draft (g.D.Disk.history c.args.disk.now)
     c.args.from c.args.to items c.args.reader.now c.leaves.reader c.leaves.next c.args.reads.now c.leaves.reads
     (c.leaves.invariant.so_far items tells.tells) tells.says tells.served

@@ -5,7 +5,7 @@ use Rattle.qg_tree_read.specs.Tree.{TellsTree}
 use Rattle.qg_tree_read.specs.Way.{HasRead, IsReadable}
 use Rattle.qg_tree_read.proofs.Ranges.{left_of}
 use Rattle.qg_extent_read.proofs.Turns.{HasTaken}
-use Rattle.qg_extent_read.proofs.reading.read_parts.Given as goal
+use Rattle.qg_extent_read.proofs.reading.read_items.Given as goal
 
 abbrev pub invariant-leaves : goal.invariant-leaves
 invariant-leaves g l = record {
@@ -16,7 +16,7 @@ invariant-leaves g l = record {
   rise : l.fn.reads ≤ l.reads;
   so_far : (whole : List Item)
       → TellsTree Extents l.fn.tree l.fn.blocks.draft (g.D.Disk.history l.fn.disk) whole
-      → HasTaken g.R.PartReader.after l.fn.tree l.fn.blocks.draft (g.D.Disk.history l.fn.disk) l.fn.from l.to whole
+      → HasTaken g.R.ItemReader.after l.fn.tree l.fn.blocks.draft (g.D.Disk.history l.fn.disk) l.fn.from l.to whole
       l.fn.reader l.reader l.next l.fn.reads l.reads;
 }
 
