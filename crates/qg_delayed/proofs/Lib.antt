@@ -3,6 +3,7 @@ pub mod Totals
 pub mod Entries
 pub mod Books
 pub mod Learning
+pub mod AllListed
 pub mod Joining
 pub mod InTurn
 pub mod Flushed

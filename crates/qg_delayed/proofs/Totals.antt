@@ -306,7 +306,7 @@ first_same x y xs ys list list' same = elim (cases_Bool (precedes x.reference y.
   | inr not ↦ not
 ]
 
-nothing_counted : (y : Counted) (ys : List Counted) → IsRefList (y ∷ ys) → count_of (y ∷ ys) y.reference ≡ 0 → ⊥
+pub nothing_counted : (y : Counted) (ys : List Counted) → IsRefList (y ∷ ys) → count_of (y ∷ ys) y.reference ≡ 0 → ⊥
 nothing_counted y ys list none =
     omega (arith, none, count-cons y ys y.reference, counted-own y.reference y refl, list.some 0 y (omega arith))
 

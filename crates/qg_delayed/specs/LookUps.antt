@@ -17,15 +17,18 @@ pub record LooksUp {G D : Type 0} (stands : G → D → Type 0) (holds : G → D
   pub unwritten : history disk' ≡ history disk
   pub long : size disk' ≡ size disk
 
--- nothing is looked up: the answer is Ok, and what is known, land, disk and the count of references read are as they
--- were
+-- nothing is read: land, disk and the count of references read are as they were
+pub record ReadsNothing {G D : Type 0} (land land' : G) (disk disk' : D) (reads reads' : ℕ) : Type 0 where
+  pub lent : land' ≡ land
+  pub rests : disk' ≡ disk
+  pub unread : reads' ≡ reads
+
+-- nothing is looked up: the answer is Ok, what is known is as it was, and nothing is read
 pub record LooksNothingUp {A F E G D : Type 0} (result : Result A F) (known known' : E) (land land' : G)
     (disk disk' : D) (reads reads' : ℕ) : Type 0 where
   pub answered : IsOk result
   pub kept : known' ≡ known
-  pub lent : land' ≡ land
-  pub rests : disk' ≡ disk
-  pub unread : reads' ≡ reads
+  pub read : ReadsNothing land land' disk disk' reads reads'
 
 -- the disk isn't written
 pub record Unwritten {D : Type 0} (history : D → History) (size : D → ℕ) (disk disk' : D) : Type 0 where

@@ -126,6 +126,15 @@ total_now entries at = total_in (entry_at entries at)
 abbrev pub others_at : List (ℕ × Entry) → ℕ → ℕ
 others_at entries at = others_in (entry_at entries at)
 
+-- all references to an address were looked up, so that any other isn't there below
+abbrev pub KnowsAll : List (ℕ × Entry) → ℕ → Type 0
+KnowsAll entries at = others_at entries at ≡ 0
+
+-- a reference is looked up, and what was looked up is
+pub record KnowsMore (old new : List (ℕ × Entry)) (at : ℕ) (reference : Reference) : Type 0 where
+  pub known : KnowsReference new at reference
+  pub still : (other : Reference) → KnowsReference old at other → KnowsReference new at other
+
 -- ---- what a call makes of the entries
 
 -- what a book's head tells of an address is kept, where nothing was known

@@ -12,6 +12,7 @@ mod looking;
 mod making;
 mod merging;
 mod place;
+mod references;
 
 pub use change::Change;
 pub use changes::Changes;

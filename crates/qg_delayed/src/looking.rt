@@ -1,14 +1,14 @@
 // Looking up in the book below.
 ghost use Rattle.std.specs.Prelude.{◌≡◌, ◌+◌, ◌<◌, ◌≤◌, ◌⊎◌, None, Some, IsSome, OnOk, OnErr, IfErr, IsErrOf, IsTrue};
-ghost use Rattle.std.specs.Prelude.{◌↔◌};
+ghost use Rattle.std.specs.Prelude.{◌↔◌, IfOk};
 ghost use Rattle.qg_num.specs.declared.fault.BlockFault.TheVariants.{Image};
 ghost use Rattle.qg_num.specs.declared.rule.Rule.TheVariants.{Refs};
 ghost use Rattle.qg_device.specs.Cause.{HasCause};
-ghost use Rattle.qg_refs.specs.Book.{Book};
+ghost use Rattle.qg_refs.specs.Book.{Book, count_at};
 ghost use Rattle.qg_delayed.specs.Entry.{entry_at};
-ghost use Rattle.qg_delayed.specs.LookUps.{LooksNothingUp, LooksUp};
-ghost use Rattle.qg_delayed.specs.Merged.{Fits, Knows, KnowsReference, Learns, TakesFirst, TakesListed, change_at};
-ghost use Rattle.qg_delayed.specs.Merged.{others_at};
+ghost use Rattle.qg_delayed.specs.LookUps.{LooksNothingUp, LooksUp, ReadsNothing};
+ghost use Rattle.qg_delayed.specs.Merged.{Fits, Knows, KnowsAll, KnowsReference, Learns, TakesFirst, TakesListed};
+ghost use Rattle.qg_delayed.specs.Merged.{change_at, others_at};
 ghost use Rattle.qg_delayed.specs.Below.{HasTotal};
 
 use crate::{Delayed, Entry, Head, RecordBook};
@@ -68,6 +68,7 @@ impl Delayed {
         ensures known { OnOk result (KnowsReference self.new at reference) }
         ensures once { KnowsReference self.old at reference → LooksNothingUp result self.old self.new land.old land.new
             disk.old disk.new reads.old reads.new }
+        ensures rests { KnowsAll self.old at → ReadsNothing land.old land.new disk.old disk.new reads.old reads.new }
         ensures learns { Learns self.old self.new at }
         ensures told { (below : Book) → B.holds book.now land.old disk.old ≡ Some below → Fits below self.old
             → Fits below self.new }
@@ -83,9 +84,41 @@ impl Delayed {
         if self.entry(at).changes.get(&reference).is_some() {
             return Ok(());
         }
-        let count = book.count(land, disk, at, reference, reads)?;
+        let count = self.count_below(land, disk, at, reference, book, reads)?;
         self.list(at, reference, count)?;
         Ok(())
+    }
+
+    // How often the book below has a reference to an address that is known, which is not in the list. Where all are in
+    // the list it has it not at all, and nothing is looked up.
+    fn count_below<G, D: Disk, L: Ledger, B: RecordBook<G, D, L>>(
+        &self,
+        land: &mut G,
+        disk: &mut D,
+        at: Address,
+        reference: Reference,
+        book: &B,
+        reads: &mut Steps<L>,
+    ) -> Result<u32, BlockFault>
+        requires stands { B.stands book.now land.old disk.old }
+        requires at { Knows self.now at }
+        requires new { change_at self.now at reference ≡ None }
+        ensures exact { (below : Book) → B.holds book.now land.old disk.old ≡ Some below → Fits below self.now
+            → IfOk result (λ count. count ≡ count_at below at reference) }
+        ensures rests { KnowsAll self.now at → ReadsNothing land.old land.new disk.old disk.new reads.old reads.new }
+        ensures leaves { LooksUp (B.stands book.now) (B.holds book.now) B.looks D.history D.size
+            land.old disk.old land.new disk.new }
+        ensures no_image { IsSome (B.holds book.now land.old disk.old)
+            → IfErr result (λ fault. (fault ≡ BlockFault.NoMemory) ⊎ (fault ≡ BlockFault.Disk)) }
+        ensures cause { HasCause BlockFault.Disk (D.faults disk.old) (D.faults disk.new) result }
+        ensures rise { reads.old ≤ reads.new }
+        ensures reads { IsSome (B.holds book.now land.old disk.old)
+            → reads.new ≤ reads.old + (44 + B.to_read book.now land.old disk.old at) }
+    {
+        if self.entry(at).others == 0 {
+            return Ok(0);
+        }
+        book.count(land, disk, at, reference, reads)
     }
 
     // Keeps what a book tells of an address that is not known.
@@ -105,7 +138,12 @@ impl Delayed {
     }
 
     // Keeps how often a reference is there that is not in the list, of an address that is known.
-    fn list(&mut self, at: Address, reference: Reference, count: u32) -> Result<(), BlockFault>
+    pub(crate) fn list(
+        &mut self,
+        at: Address,
+        reference: Reference,
+        count: u32,
+    ) -> Result<(), BlockFault>
         requires at { Knows self.old at }
         requires new { change_at self.old at reference ≡ None }
         ensures listed { OnOk result (TakesListed self.old self.new at reference count) }

@@ -23,7 +23,7 @@ returns-in-Some-clause-exact g c below holds fits =
 
 pub returns-in-Some-clause-once : goal.returns-in-Some-clause-once
 returns-in-Some-clause-once g c known =
-    record { answered = refl; kept = refl; lent = refl; rests = refl; unread = refl }
+    record { answered = refl; kept = refl; read = record { lent = refl; rests = refl; unread = refl } }
 
 pub returns-in-None-clause-exact : goal.returns-in-None-clause-exact
 returns-in-None-clause-exact g c below holds fits =

@@ -15,7 +15,7 @@ returns-in_err-list-clause-no_image g c below holds fits =
     let none : change_of c.args.reference entry.changes ≡ None =
     sym c.get.ensures ∙ none_is c.get.result (sym c.is_some.ensures ∙ c.if-is_some.false) in
     let within = told_within below c.args.self.now c.args.at c.args.reference c.in_ok-count.count entry
-    c.entry.ensures.sound c.entry.ensures.found none (c.in_ok-count.ensures.exact below holds) fits in
+    c.entry.ensures.sound c.entry.ensures.found none (c.in_ok-count.ensures.exact below holds fits) fits in
     memory_handed c.from_residual-in_err-list.result _
     (handed c.from_residual-in_err-list.result _ c.from_residual-in_err-list.ensures.1)
     (c.in_err-list.ensures.no_image (omega (arith, within, ap others_in c.entry.ensures.found)))
@@ -40,4 +40,4 @@ pub returns-clause-told : goal.returns-clause-told
 returns-clause-told g c below holds fits =
     let taken = c.in_ok-list.ensures.listed in
     told_listed below c.args.self.now c.list.new.self c.args.at c.args.reference c.in_ok-count.count taken.entry
-    taken.sound taken.there taken.new_there taken.within (c.in_ok-count.ensures.exact below holds) taken.listed fits
+    taken.sound taken.there taken.new_there taken.within (c.in_ok-count.ensures.exact below holds fits) taken.listed fits
